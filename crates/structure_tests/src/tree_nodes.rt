@@ -1,13 +1,14 @@
 //! The nodes of a T-tree: their turns, their entries, and the pool of free ones.
-ghost use Rattle.std.specs.Prelude.{◌≡◌, ◌<◌, length, max, OnOk};
+ghost use Rattle.std.specs.Prelude.{◌≡◌, ◌^◌, ◌<◌, length, max, OnOk};
 ghost use Rattle.ttree_node.specs.Slide.{IsLeaf, child};
+ghost use Rattle.ttree_node.specs.Tree.{fork, height_of};
 
 use crate::assertions::{assert_same, assert_that};
 use crate::references::numbered;
 use std::alloc::{AllocError, Global};
 use std::process::Abort;
 use std::test::Fail;
-use ttree_node::{Side, Spares, Subtree};
+use ttree_node::{Node, Side, Spares, Subtree};
 
 /// A pool of at least `n` nodes. A refused reservation leaves no fewer than before.
 fn reserve(rt: &impl Abort, alloc: Global, spares: &mut Spares, n: usize) -> Result<(), AllocError>
@@ -36,7 +37,7 @@ fn fill(rt: &impl Abort, node: &mut Subtree)
 }
 
 /// Appends the numbers of the entries from left to right.
-fn write_numbers(tree: Option<&Subtree>, numbers: &mut Vec<u32>) -> Result<(), AllocError> {
+fn write_numbers(tree: Option<&Node>, numbers: &mut Vec<u32>) -> Result<(), AllocError> {
     let Some(tree) = tree else {
         return Ok(());
     };
@@ -51,7 +52,7 @@ fn write_numbers(tree: Option<&Subtree>, numbers: &mut Vec<u32>) -> Result<(), A
 fn assert_numbers(
     rt: &impl Abort,
     alloc: Global,
-    tree: Option<&Subtree>,
+    tree: Option<&Node>,
     want: &[u32],
 ) -> Result<(), AllocError> {
     let mut numbers = Vec::new(alloc);
@@ -62,10 +63,11 @@ fn assert_numbers(
 
 /// Asserts that a tree of three levels has this number at its root, and the numbers 1 to 4 from left to right.
 fn assert_four(rt: &impl Abort, alloc: Global, tree: &Subtree, root: u32) -> Result<(), AllocError>
-    requires { 0 < length tree.now.entries }
+    requires some { 0 < length tree.now.entries }
+    requires low { height_of (fork tree.now) < 2 ^ 16 }
 {
     assert_same(rt, (tree.height(), tree.entries().get(0).slot), (3, root));
-    assert_numbers(rt, alloc, Some(tree), &[1, 2, 3, 4])
+    assert_numbers(rt, alloc, Some(tree.node()), &[1, 2, 3, 4])
 }
 
 /// Turns a tree of four of the free nodes to the left and back. It owns none of them where it may end early.
@@ -141,7 +143,7 @@ fn entries_shift(rt: HostRuntime) -> Result<(), Fail> {
     node.put_entry(0, numbered(1));
     node.put_entry(2, numbered(3));
     assert_same(&rt, node.take_entry(1).slot, 2);
-    assert_numbers(&rt, alloc, Some(&node), &[1, 3])?;
+    assert_numbers(&rt, alloc, Some(node.node()), &[1, 3])?;
     Ok(())
 }
 

@@ -1,5 +1,5 @@
 -- Edits of a node that leave the tree's shape.
-use Rattle.std.proofs.Common.{◌≡◌, ℕ, suc, ◌+◌, ◌-◌, ◌<◌, ◌≤◌, List, [], ◌∷◌, ◌++◌, length, get_or, take, drop, refl, sym, ap, ◌∙◌, subst, append_assoc}
+use Rattle.std.proofs.Common.{◌≡◌, ℕ, suc, ◌-◌, ◌<◌, ◌≤◌, List, [], ◌∷◌, ◌++◌, length, get_or, drop, sym, ap, ◌∙◌, subst, append_assoc}
 use Rattle.std.proofs.Common.{length-append, arith}
 use Rattle.std.proofs.lemmas.List.{get_or_default}
 use Rattle.std.proofs.lemmas.List.Edits.{length-insert, length-remove}
@@ -15,8 +15,7 @@ use Rattle.ttree_node.specs.Paths.{popped, borrowed, end_of, lead, trail}
 use Rattle.ttree_node.specs.declared.slides.Side.{Side}
 use Rattle.ttree_node.specs.declared.slides.Side.TheVariants.{Left, Right}
 use Rattle.ttree_node.proofs.PathLemmas.{in_order-with, in_order_with_tree, height_with_tree, pushed_height, pushed_in_order, popped_height, popped_in_order}
-use Rattle.ttree_node.proofs.PathLemmas.{exchanged_root, borrowed_root}
-use Rattle.ttree.specs.Balanced.{IsTTree, IsNode}
+use Rattle.ttree.specs.Balanced.{IsTTree}
 use Rattle.ttree.specs.Shuffle.{IsShuffle}
 use Rattle.ttree.proofs.Parts.{moved_least}
 use Rattle.ttree.proofs.Shuffles.{shuffle_none, loses_middle, loses_behind}

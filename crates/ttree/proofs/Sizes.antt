@@ -1,13 +1,8 @@
 -- How many entries and nodes a T-tree has for its height.
-use Rattle.std.proofs.Common.{◌≡◌, ℕ, zero, suc, ◌+◌, ◌-◌, ◌*◌, ◌<◌, ◌≤◌, max, length, ◌++◌, ⊎_elim, refl, subst, arith, length-append}
+use Rattle.std.proofs.Common.{◌≡◌, ℕ, zero, suc, ◌+◌, ◌-◌, ◌*◌, ◌^◌, ◌<◌, ◌≤◌, max, length, ◌++◌, ⊎_elim, refl, subst, arith, length-append}
 use Rattle.std.proofs.lemmas.Bool.{cases_lt}
 use Rattle.ttree_node.specs.Tree.{Tree, Empty, Fork, in_order, height_of, node_count}
 use Rattle.ttree.specs.Balanced.{IsTTree}
-
--- a tree has at least as many nodes as levels
-pub height_at_most_nodes : (t : Tree) → height_of t ≤ node_count t
-height_at_most_nodes Empty = omega arith
-height_at_most_nodes (Fork left entries right) = omega (arith, height_at_most_nodes left, height_at_most_nodes right)
 
 -- no more than 16 entries for each node
 pub entries_at_most : (t : Tree) → IsTTree t → length (in_order t) ≤ 16 * node_count t
@@ -85,3 +80,30 @@ height_at_most_28 t is few =
     let many : 1346268 ≤ (fewest (height_of t)).0 = subst (λ n. 1346268 ≤ (fewest n).0) e (fewest_above 29 (height_of t - 29)) in
     absurd (omega (arith, fewest_at_most t is, nodes_at_most t is)))
     (cases_lt (height_of t) 29)
+
+-- two levels more have at least twice as many nodes
+doubled : (h : ℕ) → 2 * (fewest h).0 ≤ (fewest (h + 2)).0
+doubled h = let e : h + 2 ≡ suc (suc h) = omega arith in rw e (omega (arith, fewest_rises h))
+
+-- and eight levels more at least 16 times
+sixteenfold : (h : ℕ) → 16 * (fewest h).0 ≤ (fewest (h + 8)).0
+sixteenfold h =
+    let e : h + 2 + 2 + 2 + 2 ≡ h + 8 = omega arith in
+    rw (← e) (omega (arith, doubled h, doubled (h + 2), doubled (h + 2 + 2), doubled (h + 2 + 2 + 2)))
+
+-- from height 53 on there are more than 2^31 nodes
+many_above : (h : ℕ) → 53 ≤ h → 2 ^ 31 < (fewest h).0
+many_above h high =
+    let e : (h - 53) + 29 ≡ h - 24 = omega arith in
+    let first : 1346268 ≤ (fewest (h - 24)).0 = subst (λ n. 1346268 ≤ (fewest n).0) e (fewest_above 29 (h - 53)) in
+    let e' : (h - 24) + 8 + 8 + 8 ≡ h = omega arith in
+    subst (λ n. 2 ^ 31 < (fewest n).0) e'
+    (omega (arith, first, sixteenfold (h - 24), sixteenfold ((h - 24) + 8), sixteenfold ((h - 24) + 8 + 8)))
+
+-- so 2^31 nodes stand within height 52
+pub height_at_most_52 : (t : Tree) → IsTTree t → node_count t ≤ 2 ^ 31 → height_of t ≤ 52
+height_at_most_52 t is few =
+    ⊎_elim
+    (λ (low : height_of t < 53). omega arith)
+    (λ (high : 53 ≤ height_of t). absurd (omega (arith, many_above (height_of t) high, fewest_at_most t is, few)))
+    (cases_lt (height_of t) 53)

@@ -1,6 +1,6 @@
 -- The way down to the node that bounds a reference.
-use Rattle.std.proofs.Common.{◌≡◌, ◌≢◌, ℕ, zero, suc, ◌+◌, ◌-◌, ◌≤◌, List, [], ◌∷◌, ◌++◌, length, get_or, take, drop, refl, sym, ap, ◌∙◌, subst, append_assoc}
-use Rattle.std.proofs.Common.{length-append, arith}
+use Rattle.std.proofs.Common.{◌≡◌, ◌≢◌, ℕ, zero, suc, ◌≤◌, List, [], ◌∷◌, ◌++◌, length, get_or, take, drop, refl, sym, ap, ◌∙◌, subst, append_assoc}
+use Rattle.std.proofs.Common.{arith}
 use Rattle.std.proofs.lemmas.List.{append-nil, append_cancel_left, get_or_append_left}
 use Rattle.std.proofs.Math.Seq.{take-append_seam}
 use Rattle.std.proofs.lemmas.List.Elements.{All-append}
@@ -11,11 +11,11 @@ use Rattle.mm_value.specs.declared.row_ref.RowRef.{RowRef}
 use Rattle.mm_order.specs.Order.{IsTotalOrderOn, IsOrdered}
 use Rattle.mm_order.specs.Refs.{AddsInOrder}
 use Rattle.mm_order.proofs.Pairs.{All-append_left, All-append_right}
-use Rattle.ttree_node.specs.Tree.{Tree, Empty, Fork, Root, fork, in_order, height_of}
+use Rattle.ttree_node.specs.Tree.{Tree, Empty, Fork, Root, fork, in_order}
 use Rattle.ttree_node.specs.Paths.{tree_at, with_root, with_entries, lead, trail}
 use Rattle.ttree_node.specs.declared.slides.Side.{Side}
 use Rattle.ttree_node.specs.declared.slides.Side.TheVariants.{Left, Right}
-use Rattle.ttree_node.proofs.PathLemmas.{same_height, in_order-at, in_order-with, tree_at-left, tree_at-right, lead-left, lead-right, trail-left, trail-right}
+use Rattle.ttree_node.proofs.PathLemmas.{same_height, in_order-at, in_order-with, lead-left, lead-right, trail-left}
 use Rattle.ttree.specs.Balanced.{IsTTree}
 use Rattle.ttree.proofs.Parts.{IsOrdered-front, IsOrdered-middle, IsOrdered-back, below_all, adds_behind}
 

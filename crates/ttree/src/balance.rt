@@ -5,10 +5,11 @@ ghost use Rattle.ttree_node.specs.Tree.{IsFork, fork, tree_of, in_order, height_
 ghost use Rattle.ttree_node.specs.Slide.{IsLeaf};
 ghost use Rattle.ttree.specs.Balanced.{IsTTree, IsRootOver, IsSettled};
 
-use ttree_node::{Side, Subtree};
+use ttree_node::{Node, Side, Subtree};
 
 /// The height of a tree, 0 where there is none.
-fn side_height(tree: Option<&Subtree>) -> usize
+fn side_height(tree: Option<&Node>) -> usize
+    requires { height_of (tree_of (option_copied tree)) < 2 ^ 16 }
     ensures { result ≡ height_of (tree_of (option_copied tree.entry)) }
 {
     match tree {
@@ -18,7 +19,7 @@ fn side_height(tree: Option<&Subtree>) -> usize
 }
 
 /// Whether a tree is of one node.
-pub(crate) fn is_leaf(tree: Option<&Subtree>) -> bool
+pub(crate) fn is_leaf(tree: Option<&Node>) -> bool
     ensures { IsTrue result ↔ IsLeaf (tree_of (option_copied tree.entry)) }
 {
     match tree {
@@ -30,7 +31,7 @@ pub(crate) fn is_leaf(tree: Option<&Subtree>) -> bool
 /// Balances a root whose sides differ in height by at most 2, by one rotation, single or double.
 pub(crate) fn balance(node: Subtree) -> Subtree
     requires root { IsRootOver 2 node }
-    requires height_fits { height_of (fork node) + 1 < 2 ^ 32 }
+    requires height_fits { height_of (fork node) + 1 < 2 ^ 16 }
     ensures tree { IsTTree (fork result) }
     ensures same_entries { in_order (fork result) ≡ in_order (fork node) }
     ensures same_nodes { node_count (fork result) ≡ node_count (fork node) }
@@ -51,7 +52,7 @@ pub(crate) fn balance(node: Subtree) -> Subtree
 fn lower_left(mut node: Subtree) -> Subtree
     requires root { IsRootOver 2 node }
     requires left_higher { height_of node.left ≡ height_of node.right + 2 }
-    requires height_fits { height_of (fork node) + 1 < 2 ^ 32 }
+    requires height_fits { height_of (fork node) + 1 < 2 ^ 16 }
     ensures tree { IsTTree (fork result) }
     ensures same_entries { in_order (fork result) ≡ in_order (fork node) }
     ensures same_nodes { node_count (fork result) ≡ node_count (fork node) }
@@ -69,7 +70,7 @@ fn lower_left(mut node: Subtree) -> Subtree
 fn lower_right(mut node: Subtree) -> Subtree
     requires root { IsRootOver 2 node }
     requires right_higher { height_of node.right ≡ height_of node.left + 2 }
-    requires height_fits { height_of (fork node) + 1 < 2 ^ 32 }
+    requires height_fits { height_of (fork node) + 1 < 2 ^ 16 }
     ensures tree { IsTTree (fork result) }
     ensures same_entries { in_order (fork result) ≡ in_order (fork node) }
     ensures same_nodes { node_count (fork result) ≡ node_count (fork node) }
@@ -87,7 +88,7 @@ fn lower_right(mut node: Subtree) -> Subtree
 /// an internal node, first receives entries of its old parent.
 fn lean_left(mut node: Subtree) -> Subtree
     requires tree { IsTTree (fork node) }
-    requires height_fits { height_of (fork node) + 1 < 2 ^ 32 }
+    requires height_fits { height_of (fork node) + 1 < 2 ^ 16 }
     ensures root { IsRootOver 2 result }
     ensures same_entries { in_order (fork result) ≡ in_order (fork node) }
     ensures same_nodes { node_count (fork result) ≡ node_count (fork node) }
@@ -107,7 +108,7 @@ fn lean_left(mut node: Subtree) -> Subtree
 /// an internal node, first receives entries of its old parent.
 fn lean_right(mut node: Subtree) -> Subtree
     requires tree { IsTTree (fork node) }
-    requires height_fits { height_of (fork node) + 1 < 2 ^ 32 }
+    requires height_fits { height_of (fork node) + 1 < 2 ^ 16 }
     ensures root { IsRootOver 2 result }
     ensures same_entries { in_order (fork result) ≡ in_order (fork node) }
     ensures same_nodes { node_count (fork result) ≡ node_count (fork node) }

@@ -32,7 +32,6 @@ pub(crate) fn build(refs: &[RowRef], nodes: usize, spares: &mut Spares) -> Optio
     requires room { length refs.now ≤ 16 * nodes }
     requires filled { 16 * nodes < length refs.now + 16 }
     requires spare { nodes ≤ spares.old }
-    requires height_fits { nodes < 2 ^ 32 }
     ensures tree { IsTTree (tree_of result) }
     ensures entries { in_order (tree_of result) ≡ refs.now }
     ensures nodes { node_count (tree_of result) ≡ nodes }

@@ -15,7 +15,7 @@ use crate::search::is_before;
 use arrayvec::ArrayVec;
 use mm_order::RefOrder;
 use mm_value::RowRef;
-use ttree_node::{Side, Subtree};
+use ttree_node::{Node, Side, Subtree};
 
 /// So many turns a path has at most; a tree that is deeper is not edited in place.
 const TURNS: usize = 64;
@@ -30,7 +30,7 @@ pub(crate) fn bounding_path<'a, O: RefOrder>(
     order: &O,
     sought: RowRef,
     path: &mut Path,
-) -> Option<&'a Subtree>
+) -> Option<&'a Node>
     requires tree { IsTTree (fork tree.now) }
     requires ordered { IsOrdered (O.covers order.now) (O.cmp order.now) (in_order (fork tree.now)) }
     requires covered { O.covers order.now sought }
@@ -41,7 +41,7 @@ pub(crate) fn bounding_path<'a, O: RefOrder>(
 {
     let mut found = None;
     let mut depth = 0;
-    let mut rest = Some(tree);
+    let mut rest = Some(tree.node());
     while let Some(node) = rest {
         if path.len() == TURNS {
             return None;
@@ -114,7 +114,7 @@ pub(crate) fn insert_in_place<O: RefOrder>(
 
 /// Whether a node may lose an entry and be left as it is: a leaf keeps one, an internal node 14, and a half-leaf and its leaf too many
 /// for one node.
-fn has_spare(node: &Subtree) -> bool
+fn has_spare(node: &Node) -> bool
     requires { length node.now.entries ≤ 16 }
     ensures { OnTrue result (2 ≤ length node.now.entries) }
 {

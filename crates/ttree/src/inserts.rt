@@ -18,7 +18,7 @@ use ttree_node::{Entries, Spares, Subtree};
 pub(crate) fn push_last(tree: Option<Subtree>, entry: RowRef, spares: &mut Spares) -> Subtree
     requires tree { IsTTree (tree_of tree) }
     requires spare { 1 ≤ spares.old }
-    requires height_fits { height_of (tree_of tree) + 2 < 2 ^ 32 }
+    requires height_fits { height_of (tree_of tree) + 2 < 2 ^ 16 }
     ensures tree { IsTTree (fork result) }
     ensures entries { in_order (fork result) ≡ in_order (tree_of tree) ++ entry ∷ [] }
     ensures nodes { node_count (fork result) + spares.new ≡ node_count (tree_of tree) + spares.old }
@@ -54,7 +54,7 @@ fn insert_between<O: RefOrder>(
     requires not_before { O.cmp order.now added (slice_index_or node.entries 0 added) ≢ Less }
     requires not_after { O.cmp order.now added (slice_index_or node.entries (length node.entries - 1) added) ≢ Greater }
     requires spare { 1 ≤ spares.old }
-    requires height_fits { height_of (fork node) + 2 < 2 ^ 32 }
+    requires height_fits { height_of (fork node) + 2 < 2 ^ 16 }
     ensures tree { IsTTree (fork result) }
     ensures adds { AddsInOrder (O.cmp order.now) (in_order (fork node)) added (in_order (fork result)) }
     ensures nodes { node_count (fork result) + spares.new ≡ node_count (fork node) + spares.old }
@@ -132,7 +132,7 @@ pub(crate) fn insert_into<O: RefOrder>(
     requires bound_covered { IfSome bound (O.covers order.now) }
     requires behind { IfSome bound (λ b. All (λ a. O.cmp order.now b a ≡ Less) (in_order (tree_of tree))) }
     requires spare { 1 ≤ spares.old }
-    requires height_fits { height_of (tree_of tree) + 2 < 2 ^ 32 }
+    requires height_fits { height_of (tree_of tree) + 2 < 2 ^ 16 }
     ensures tree { IfOk result (λ made. IsTTree (fork made)) }
     ensures adds { IfOk result (λ made. AddsInOrder (O.cmp order.now) (in_order (tree_of tree)) added (in_order (fork made))) }
     ensures nodes { IfOk result (λ made. node_count (fork made) + spares.new ≡ node_count (tree_of tree) + spares.old) }
@@ -151,7 +151,7 @@ pub(crate) fn insert_into<O: RefOrder>(
         return Ok(Subtree::leaf(spares, added));
     };
     let len = node.entries().len();
-    if is_before(&node, order, added) {
+    if is_before(node.node(), order, added) {
         let left = node.take_left();
         if left.is_none() && len < 16 {
             if is_below(order, added, bound) {

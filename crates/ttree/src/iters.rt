@@ -11,11 +11,11 @@ use arrayvec::ArrayVec;
 use mm_value::RowRef;
 use std::iter::FusedIterator;
 use std::marker::Model;
-use ttree_node::{EntryIter, Subtree};
+use ttree_node::{EntryIter, Node};
 
 /// The nodes, from the root downwards, whose entries are to come, each with its right side.
 /// A tree of at most 1,048,576 references has at most 28 levels.
-type Path<'a> = ArrayVec<Option<&'a Subtree>, 28>;
+type Path<'a> = ArrayVec<Option<&'a Node>, 28>;
 
 /// The references of a tree in order, seen as the list of those that are left.
 #[derive(Drop)]
@@ -39,7 +39,7 @@ impl<'a> Model for Iter<'a> {
 
 impl<'a> Iter<'a> {
     /// All references of a tree of at most 28 levels.
-    pub(crate) fn new(tree: Option<&'a Subtree>) -> Self
+    pub(crate) fn new(tree: Option<&'a Node>) -> Self
         requires tree { IsTTree (tree_of (option_copied tree)) }
         requires low { height_of (tree_of (option_copied tree)) ≤ 28 }
         ensures { result ≡ in_order (tree_of (option_copied tree.entry)) }
@@ -87,7 +87,7 @@ fn next_entries<'a>(path: &mut Path<'a>) -> Option<EntryIter<'a>>
 }
 
 /// Puts the left edge of a tree on the path, its root first.
-fn descend<'a>(path: &mut Path<'a>, tree: Option<&'a Subtree>)
+fn descend<'a>(path: &mut Path<'a>, tree: Option<&'a Node>)
     requires path { IsPath 28 path.old.items }
     requires tree { IsTTree (tree_of (option_copied tree)) }
     requires low { array_vec_len path.old + height_of (tree_of (option_copied tree)) ≤ 28 }

@@ -11,11 +11,11 @@ ghost use Rattle.ttree.specs.Searchable.{IsSearchable};
 use crate::search::search;
 use mm_order::{Probe, RefOrder, Seek};
 use mm_value::RowRef;
-use ttree_node::Subtree;
+use ttree_node::Node;
 
 /// An entry that fits the probe, by one question a node and five inside one.
 pub(crate) fn find_in<O: RefOrder, P: Probe>(
-    tree: Option<&Subtree>,
+    tree: Option<&Node>,
     order: &O,
     seek: &mut Seek<P>,
 ) -> Option<RowRef>
@@ -34,10 +34,10 @@ pub(crate) fn find_in<O: RefOrder, P: Probe>(
 /// The last node on the way down whose first entry does not lie behind the sought place, by one question a node; none where all
 /// entries lie behind it. Where anything fits, an entry of that node does (Lu, Ng and Tian, ADC 2000).
 fn bounding_node<'a, O: RefOrder, P: Probe>(
-    tree: Option<&'a Subtree>,
+    tree: Option<&'a Node>,
     order: &O,
     seek: &mut Seek<P>,
-) -> Option<&'a Subtree>
+) -> Option<&'a Node>
     requires { IsSearchable (O.covers order.now) (O.cmp order.now) (P.covers seek.old.probe) (P.place_of seek.old.probe)
         (tree_of (option_copied tree)) }
     ensures probe { seek.new.probe ≡ seek.old.probe }
@@ -60,7 +60,7 @@ fn bounding_node<'a, O: RefOrder, P: Probe>(
 }
 
 /// An entry of a node that fits the probe.
-fn find_fitting<P: Probe>(node: &Subtree, seek: &mut Seek<P>) -> Option<RowRef>
+fn find_fitting<P: Probe>(node: &Node, seek: &mut Seek<P>) -> Option<RowRef>
     requires some { 1 ≤ length node.now.entries }
     requires covered { All (P.covers seek.old.probe) node.now.entries }
     requires rising { IsNonDecreasingBy (λ a. ordering_index (P.place_of seek.old.probe a)) node.now.entries }

@@ -13,13 +13,13 @@ ghost use Rattle.ttree.specs.Searchable.{IsSearchable};
 use mm_order::{Probe, RefOrder};
 use mm_value::RowRef;
 use std::alloc::AllocError;
-use ttree_node::{Entries, Subtree};
+use ttree_node::{Entries, Node};
 
 /// Appends the entries that lie neither before the place of `low` nor after that of `high`.
 /// It goes down to the highest node that meets the range, and from there along its ends.
 /// `AllocError` where memory is refused; then some may have been appended.
 pub(crate) fn copy_range_of<O: RefOrder, L: Probe, H: Probe>(
-    tree: Option<&Subtree>,
+    tree: Option<&Node>,
     order: &O,
     low: &L,
     high: &H,
@@ -38,11 +38,11 @@ pub(crate) fn copy_range_of<O: RefOrder, L: Probe, H: Probe>(
 /// The highest node whose entries meet the range, if there is one: at it and below it lies all that lies in the range. Of each
 /// node above it asks about the last entry and, where that is not before the range, about the first.
 fn meeting<'a, O: RefOrder, L: Probe, H: Probe>(
-    tree: Option<&'a Subtree>,
+    tree: Option<&'a Node>,
     order: &O,
     low: &L,
     high: &H,
-) -> Option<&'a Subtree>
+) -> Option<&'a Node>
     requires low { IsSearchable (O.covers order.now) (O.cmp order.now) (L.covers low.now) (L.place_of low.now) (tree_of (option_copied tree)) }
     requires high { IsSearchable (O.covers order.now) (O.cmp order.now) (H.covers high.now) (H.place_of high.now) (tree_of (option_copied tree)) }
     ensures low { IsSearchable (O.covers order.now) (O.cmp order.now) (L.covers low.now) (L.place_of low.now) (tree_of (option_copied result)) }
@@ -69,7 +69,7 @@ fn meeting<'a, O: RefOrder, L: Probe, H: Probe>(
 /// Of a node that lies in the range as a whole it asks about the first and the last entry alone.
 /// `AllocError` where memory is refused; then some may have been appended.
 fn copy_between<O: RefOrder, L: Probe, H: Probe>(
-    tree: Option<&Subtree>,
+    tree: Option<&Node>,
     order: &O,
     low: &L,
     high: &H,
@@ -96,7 +96,7 @@ fn copy_between<O: RefOrder, L: Probe, H: Probe>(
 
 /// Whether all entries of a root lie in the range: the first not before the place of `low`, the
 /// last not after that of `high`.
-fn is_within<O: RefOrder, L: Probe, H: Probe>(node: &Subtree, order: &O, low: &L, high: &H) -> bool
+fn is_within<O: RefOrder, L: Probe, H: Probe>(node: &Node, order: &O, low: &L, high: &H) -> bool
     requires low { IsSearchable (O.covers order.now) (O.cmp order.now) (L.covers low.now) (L.place_of low.now) (fork node.now) }
     requires high { IsSearchable (O.covers order.now) (O.cmp order.now) (H.covers high.now) (H.place_of high.now) (fork node.now) }
     ensures { OnTrue result (entries_between (L.place_of low.now) (H.place_of high.now) node.now.entries ≡ node.now.entries) }
@@ -109,11 +109,7 @@ fn is_within<O: RefOrder, L: Probe, H: Probe>(node: &Subtree, order: &O, low: &L
 }
 
 /// The left side of a root, where an entry there may not lie before the place of `low`.
-fn left_from<'a, O: RefOrder, L: Probe>(
-    node: &'a Subtree,
-    order: &O,
-    low: &L,
-) -> Option<&'a Subtree>
+fn left_from<'a, O: RefOrder, L: Probe>(node: &'a Node, order: &O, low: &L) -> Option<&'a Node>
     requires { IsSearchable (O.covers order.now) (O.cmp order.now) (L.covers low.now) (L.place_of low.now) (fork node.now) }
     ensures tree { IsTTree (tree_of (option_copied result)) }
     ensures ordered { IsOrdered (O.covers order.now) (O.cmp order.now) (in_order (tree_of (option_copied result))) }
@@ -128,11 +124,7 @@ fn left_from<'a, O: RefOrder, L: Probe>(
 }
 
 /// The right side of a root, where an entry there may not lie after the place of `high`.
-fn right_to<'a, O: RefOrder, H: Probe>(
-    node: &'a Subtree,
-    order: &O,
-    high: &H,
-) -> Option<&'a Subtree>
+fn right_to<'a, O: RefOrder, H: Probe>(node: &'a Node, order: &O, high: &H) -> Option<&'a Node>
     requires { IsSearchable (O.covers order.now) (O.cmp order.now) (H.covers high.now) (H.place_of high.now) (fork node.now) }
     ensures tree { IsTTree (tree_of (option_copied result)) }
     ensures ordered { IsOrdered (O.covers order.now) (O.cmp order.now) (in_order (tree_of (option_copied result))) }
@@ -150,7 +142,7 @@ fn right_to<'a, O: RefOrder, H: Probe>(
 /// the range begins or ends among them. `AllocError` where memory is refused; then some may have
 /// been appended.
 fn copy_part<O: RefOrder, L: Probe, H: Probe>(
-    node: &Subtree,
+    node: &Node,
     order: &O,
     low: &L,
     high: &H,

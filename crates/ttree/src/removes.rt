@@ -67,7 +67,7 @@ fn absorb_right(mut node: Subtree, spares: &mut Spares) -> Subtree
 /// they fit, another root is balanced.
 fn mend(node: Subtree, spares: &mut Spares) -> Subtree
     requires root { IsRootOver 2 node }
-    requires height_fits { height_of (fork node) + 1 < 2 ^ 32 }
+    requires height_fits { height_of (fork node) + 1 < 2 ^ 16 }
     requires pool_fits { node_count (fork node) + spares.old < 2 ^ 32 }
     ensures tree { IsTTree (fork result) }
     ensures same_entries { in_order (fork result) ≡ in_order (fork node) }
@@ -117,7 +117,7 @@ fn settle(node: Subtree, spares: &mut Spares) -> Option<Subtree>
 /// Takes the greatest entry out of a tree.
 fn take_last(mut node: Subtree, spares: &mut Spares) -> (Option<Subtree>, RowRef)
     requires tree { IsTTree (fork node) }
-    requires height_fits { height_of (fork node) + 1 < 2 ^ 32 }
+    requires height_fits { height_of (fork node) + 1 < 2 ^ 16 }
     requires pool_fits { node_count (fork node) + spares.old < 2 ^ 32 }
     ensures tree { IsTTree (tree_of result.0) }
     ensures entries { in_order (tree_of result.0) ++ result.1 ∷ [] ≡ in_order (fork node) }
@@ -147,7 +147,7 @@ fn refill(mut node: Subtree, spares: &mut Spares) -> Option<Subtree>
     requires left_low { height_of node.left ≤ height_of node.right + 1 }
     requires right_low { height_of node.right ≤ height_of node.left + 1 }
     requires at_most_16 { length node.entries ≤ 16 }
-    requires height_fits { height_of (fork node) + 1 < 2 ^ 32 }
+    requires height_fits { height_of (fork node) + 1 < 2 ^ 16 }
     requires pool_fits { node_count (fork node) + spares.old < 2 ^ 32 }
     ensures tree { IsTTree (tree_of result) }
     ensures same_entries { in_order (tree_of result) ≡ in_order (fork node) }
@@ -230,7 +230,7 @@ fn remove_among<O: RefOrder>(
     requires tree { IsTTree (fork node) }
     requires ordered { IsOrdered (O.covers order.now) (O.cmp order.now) (in_order (fork node)) }
     requires covered { O.covers order.now gone }
-    requires height_fits { height_of (fork node) + 1 < 2 ^ 32 }
+    requires height_fits { height_of (fork node) + 1 < 2 ^ 16 }
     requires pool_fits { node_count (fork node) + spares.old < 2 ^ 32 }
     ensures tree { IsTTree (tree_of result.0) }
     ensures held { IsSome result.1 ↔ Contains node.entries gone }
@@ -265,7 +265,7 @@ pub(crate) fn remove_from<O: RefOrder>(
     requires tree { IsTTree (tree_of tree) }
     requires ordered { IsOrdered (O.covers order.now) (O.cmp order.now) (in_order (tree_of tree)) }
     requires covered { O.covers order.now gone }
-    requires height_fits { height_of (tree_of tree) + 1 < 2 ^ 32 }
+    requires height_fits { height_of (tree_of tree) + 1 < 2 ^ 16 }
     requires pool_fits { node_count (tree_of tree) + spares.old < 2 ^ 32 }
     ensures tree { IsTTree (tree_of result.0) }
     ensures held { IsSome result.1 ↔ Contains (in_order (tree_of tree)) gone }
@@ -280,7 +280,7 @@ pub(crate) fn remove_from<O: RefOrder>(
     let Some(mut node) = tree else {
         return (None, None);
     };
-    if is_before(&node, order, gone) {
+    if is_before(node.node(), order, gone) {
         let left = node.take_left();
         let (left, along) = remove_from(left, order, gone, behind, spares);
         node.set_left(left);

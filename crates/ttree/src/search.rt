@@ -7,7 +7,7 @@ ghost use Rattle.std.specs.Ordering.{ordering_index};
 use mm_order::{Probe, RefOrder, Seek};
 use mm_value::RowRef;
 use std::cmp::Ordering;
-use ttree_node::{Entries, Subtree};
+use ttree_node::{Entries, Node};
 
 /// So many halvings leave one of the 16 entries of a full node.
 pub(crate) const HALVINGS: usize = 4;
@@ -44,7 +44,7 @@ pub(crate) fn search<P: Probe>(seek: &mut Seek<P>, entries: &Entries) -> Result<
 }
 
 /// Whether a reference lies before all of a root's entries, by one question.
-pub(crate) fn is_before<O: RefOrder>(node: &Subtree, order: &O, sought: RowRef) -> bool
+pub(crate) fn is_before<O: RefOrder>(node: &Node, order: &O, sought: RowRef) -> bool
     requires some { 1 ≤ length node.now.entries }
     requires covered_entries { All (O.covers order.now) node.now.entries }
     requires covered { O.covers order.now sought }

@@ -1,6 +1,7 @@
 //! The T-tree.
 ghost use Rattle.std.specs.Prelude.{◌≡◌, ◌≢◌, ◌+◌, ◌≤◌, ◌↔◌, ◌∷◌, min, [], length, take, All, Contains, IsSome, IfSome, IfNone, IfOk};
 ghost use Rattle.std.specs.Int.{div_ceil};
+ghost use Rattle.std.specs.Option.{option_copied};
 ghost use Rattle.std.specs.declared.cmp.Ordering.TheVariants.{Equal};
 ghost use Rattle.mm_order.specs.Order.{IsOrdered};
 ghost use Rattle.mm_order.specs.Probe.{IsMonotone};
@@ -18,10 +19,21 @@ use mm_order::{OrderedRefs, Probe, RefOrder, Seek};
 use mm_value::RowRef;
 use std::alloc::{AllocError, Global};
 use std::marker::Model;
-use ttree_node::{Spares, Subtree};
+use ttree_node::{Node, Spares, Subtree};
 
-/// The most nodes, so that heights and numbers of nodes fit into 32 bits. A table has fewer rows, and each node has an entry.
+/// The most nodes, so that the number of nodes fits into 32 bits, and the height into 16. A table has fewer rows, and each node has an entry.
 const MAX_NODES: usize = 1 << 31;
+
+/// The root of a tree in its place, none where there is no tree.
+#[inline]
+fn root_of(tree: &Option<Subtree>) -> Option<&Node>
+    ensures { option_copied result ≡ tree.now }
+{
+    match tree {
+        None => None,
+        Some(tree) => Some(tree.node()),
+    }
+}
 
 /// Ordered references in a T-tree: a balanced binary tree whose nodes hold up to 16 references in
 /// order (Lehman and Carey, VLDB 1986). It keeps free nodes, so that an insertion takes no memory.
@@ -58,7 +70,6 @@ impl TTree {
 
     /// A tree of the references of a list that is already in order. It makes no comparison, and its nodes are full but
     /// for the last. `AllocError` where memory is refused.
-    #[tactic(auto, using(crate::proofs::Sizes::height_at_most_nodes))]
     pub fn from_sorted(alloc: Global, refs: &[RowRef]) -> Result<TTree, AllocError>
         ensures refs { IfOk result (λ tree. tree.refs ≡ refs.now) }
         ensures lowest { IfOk result (λ tree. IsLowest (div_ceil (length refs.now) 16) tree.height) }
@@ -102,7 +113,7 @@ impl TTree {
         ensures steps { seek.new.count ≤ seek.old.count + self.now.height + 5 }
         ensures at_most_33 { length self.now.refs ≤ 1048576 → seek.new.count ≤ seek.old.count + 33 }
     {
-        find_in(self.root.as_ref(), order, seek)
+        find_in(root_of(&self.root), order, seek)
     }
 
     /// The references in order, without a copy, of a tree that has at most 1,048,576.
@@ -111,13 +122,13 @@ impl TTree {
         requires { length self.now.refs ≤ 1048576 }
         ensures { result ≡ self.now.refs }
     {
-        Iter::new(self.root.as_ref())
+        Iter::new(root_of(&self.root))
     }
 
     /// Removes a reference, and with it as many of the first references in `behind` as follow it in the same node in that order; other
     /// entries may lie in between. Returns how many of `behind` were removed, or `None` if the reference was absent. So references
     /// that are given in the order of the tree take a search for each node that they are in, not for each of them.
-    #[tactic(auto, using(crate::proofs::Sizes::height_at_most_nodes))]
+    #[tactic(auto, using(crate::proofs::Sizes::height_at_most_52))]
     pub fn remove_along<O: RefOrder>(
         &mut self,
         order: &O,
@@ -177,7 +188,7 @@ impl OrderedRefs for TTree {
         self.spares.reserve(alloc, n)
     }
 
-    #[tactic(auto, using(crate::proofs::Sizes::height_at_most_nodes, crate::proofs::Sizes::entries_at_most))]
+    #[tactic(auto, using(crate::proofs::Sizes::height_at_most_52, crate::proofs::Sizes::entries_at_most))]
     fn insert<O: RefOrder>(&mut self, order: &O, added: RowRef) {
         if insert_in_place(&mut self.root, order, added) {
             self.len += 1;
@@ -203,7 +214,7 @@ impl OrderedRefs for TTree {
         out: &mut Vec<RowRef>,
     ) -> Result<(), AllocError> {
         let before = out.len();
-        let copied = copy_range_of(self.root.as_ref(), order, low, high, out);
+        let copied = copy_range_of(root_of(&self.root), order, low, high, out);
         if copied.is_err() {
             out.truncate(before);
         }

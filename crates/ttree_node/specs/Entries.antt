@@ -1,6 +1,11 @@
 -- The entries of a node.
-use Rattle.std.specs.Prelude.{ℕ, ◌-◌, List, length, slice_index_or}
+use Rattle.std.specs.Prelude.{◌≡◌, ℕ, ◌-◌, ◌≤◌, List, length, slice_index_or}
 use Rattle.mm_value.specs.declared.row_ref.RowRef.{RowRef}
+
+-- 16 places, of which the first `len` hold the entries
+pub record IsShort (places : List RowRef) (len : ℕ) : Type 0 where
+  pub fits : len ≤ 16
+  pub room : length places ≡ 16
 
 -- the entry at a place; past the end, the reference to the first slot of all
 abbrev pub entry_at : List RowRef → ℕ → RowRef

@@ -3,6 +3,7 @@ pub mod BlockLent
 pub mod Entries
 pub mod Nodes
 pub mod Paths
+pub mod formers
 pub mod Slide
 pub mod Spares
 pub mod Tree

@@ -1,25 +1,12 @@
--- What a node in memory is seen as.
-use Rattle.std.specs.Prelude.{◌≡◌, ℕ}
-use Rattle.ttree_node.specs.Tree.{Tree, Empty, Root, fork, height_of}
-use Rattle.ttree_node.specs.declared.nodes.Link.{Link}
-use Rattle.ttree_node.specs.declared.nodes.Link.TheVariants.{Free, Tied}
-use Rattle.ttree_node.specs.declared.nodes.Node.{Node}
+-- What a node in memory keeps of the heights of its sides.
+use Rattle.std.specs.Prelude.{◌≡◌, ℕ, min, Option}
+use Rattle.ttree_node.specs.Tree.{Root, tree_of, height_of}
 
--- the tree that hangs on a link
-abbrev pub link_tree : Link → Tree
-link_tree Free = Empty
-link_tree (Tied height subtree) = fork subtree
+-- the height of a tree, or of none, in 16 bits: that of a tree with more levels is kept as the greatest number
+abbrev pub short_height : Option Root → ℕ
+short_height tree = min (height_of (tree_of tree)) 65535
 
--- the height that a link keeps
-abbrev pub link_height : Link → ℕ
-link_height Free = 0
-link_height (Tied height subtree) = height
-
--- its entries between the trees of its links
-abbrev pub root_of : Node → Root
-root_of n = record { left = link_tree n.left; entries = n.entries; right = link_tree n.right }
-
--- each of its links keeps the number of nodes on a longest path from there downwards
-pub record IsHeightExact (n : Node) : Type 0 where
-  pub left : link_height n.left ≡ height_of (link_tree n.left)
-  pub right : link_height n.right ≡ height_of (link_tree n.right)
+-- each link keeps the height of what hangs on it
+pub record IsHeightKept (left_height : ℕ) (left : Option Root) (right_height : ℕ) (right : Option Root) : Type 0 where
+  pub left_is : left_height ≡ short_height left
+  pub right_is : right_height ≡ short_height right

@@ -3,25 +3,31 @@ ghost use Rattle.std.specs.Prelude.{◌≡◌, ◌==◌, ◌+◌, ◌-◌, ◌<�
 ghost use Rattle.std.specs.Iterator.{YieldsFirst, item_count};
 ghost use Rattle.ttree_node.specs.Entries.{entry_at, first_entry, last_entry};
 
-use arrayvec::ArrayVec;
 use mm_value::RowRef;
 use std::iter::FusedIterator;
 use std::marker::Model;
 use std::mem;
 
-/// At most 16 references, seen as the list of them.
+/// The most entries of a node.
+const ROOM: usize = 16;
+
+/// At most 16 references, seen as the list of them. The length takes 2 bytes, where that of an `ArrayVec` takes 8.
 #[derive(Drop)]
 pub struct Entries {
-    refs: ArrayVec<RowRef, 16>,
+    places: [RowRef; ROOM],
+    len: u16,
 }
 
 impl Model for Entries {
-    ghost use Rattle.std.specs.Prelude.{List};
+    ghost use Rattle.std.specs.Prelude.{List, take};
     ghost use Rattle.mm_value.specs.declared.row_ref.RowRef.{RowRef as Ref};
+    ghost use Rattle.ttree_node.specs.Entries.{IsShort};
 
     ghost Value = { List Ref };
 
-    ghost view = { λ e. e.refs.items };
+    ghost view = { λ e. take e.len e.places };
+
+    ghost invariant = { λ e. IsShort e.places e.len };
 }
 
 impl Entries {
@@ -30,7 +36,8 @@ impl Entries {
         ensures { result ≡ [] }
     {
         Entries {
-            refs: ArrayVec::new(),
+            places: [RowRef { slot: 0 }; ROOM],
+            len: 0,
         }
     }
 
@@ -40,14 +47,14 @@ impl Entries {
         ensures value { result ≡ length self.now }
         ensures at_most_16 { result ≤ 16 }
     {
-        self.refs.len()
+        self.len as usize
     }
 
     /// Whether there are none.
     pub fn is_empty(&self) -> bool
         ensures { result ≡ (length self.now == 0) }
     {
-        self.refs.is_empty()
+        self.len == 0
     }
 
     /// The entry at place `i`.
@@ -56,7 +63,15 @@ impl Entries {
         requires { i < length self.now }
         ensures { result ≡ entry_at self.now i }
     {
-        self.refs.as_slice()[i]
+        self.as_slice()[i]
+    }
+
+    /// The entries in order.
+    #[inline]
+    fn as_slice(&self) -> &[RowRef]
+        ensures { result.now ≡ self.now }
+    {
+        &self.places[..self.len as usize]
     }
 
     /// The first entry.
@@ -83,7 +98,7 @@ impl Entries {
         ensures { result ≡ self.now }
     {
         EntryIter {
-            left: self.refs.as_slice(),
+            left: self.as_slice(),
         }
     }
 
@@ -91,7 +106,7 @@ impl Entries {
     pub(crate) fn clear(&mut self)
         ensures { self.new ≡ [] }
     {
-        self.refs.clear();
+        self.len = 0;
     }
 
     /// Puts an entry behind the others.
@@ -99,7 +114,9 @@ impl Entries {
         requires room { length self.old < 16 }
         ensures { self.new ≡ self.old ++ entry ∷ [] }
     {
-        self.refs.push(entry);
+        let len = self.len as usize;
+        self.places[len] = entry;
+        self.len += 1;
     }
 
     /// Puts an entry before the one at place `i`.
@@ -108,7 +125,10 @@ impl Entries {
         requires in_bounds { i ≤ length self.old }
         ensures { self.new ≡ insert self.old i entry }
     {
-        self.refs.insert(i, entry);
+        let len = self.len as usize;
+        self.places.copy_within(i..len, i + 1);
+        self.places[i] = entry;
+        self.len += 1;
     }
 
     /// Takes out the entry at place `i`.
@@ -117,7 +137,11 @@ impl Entries {
         ensures taken { slice_get self.old i ≡ Some result }
         ensures rest { self.new ≡ remove self.old i }
     {
-        self.refs.remove(i)
+        let len = self.len as usize;
+        let taken = self.places[i];
+        self.places.copy_within(i + 1..len, i);
+        self.len -= 1;
+        taken
     }
 
     /// Takes out the last entry.
@@ -135,9 +159,17 @@ impl Entries {
         requires { length self.old + length behind.now ≤ 16 }
         ensures { self.new ≡ self.old ++ behind.now }
     {
-        self.refs
-            .try_extend_from_slice(behind.refs.as_slice())
-            .unwrap();
+        self.extend(behind.as_slice());
+    }
+
+    fn extend(&mut self, behind: &[RowRef])
+        requires { length self.old + length behind.now ≤ 16 }
+        ensures { self.new ≡ self.old ++ behind.now }
+    {
+        let len = self.len as usize;
+        let places = &mut self.places[..];
+        places[len..len + behind.len()].copy_from_slice(behind);
+        self.len += behind.len() as u16;
     }
 
     /// Puts entries before those that are there.
@@ -157,11 +189,10 @@ impl Entries {
         ensures taken { result ≡ drop at self.old }
         ensures rest { self.new ≡ take at self.old }
     {
-        let mut refs = ArrayVec::new();
-        refs.try_extend_from_slice(&self.refs.as_slice()[at..])
-            .unwrap();
-        self.refs.truncate(at);
-        Entries { refs }
+        let mut taken = Entries::new();
+        taken.extend(&self.as_slice()[at..]);
+        self.len = at as u16;
+        taken
     }
 
     /// Takes out the first `n` entries.

@@ -10,6 +10,6 @@ mod slides;
 mod turns;
 
 pub use entries::{Entries, EntryIter};
-pub use nodes::Subtree;
+pub use nodes::{Node, Subtree};
 pub use pool::Spares;
 pub use slides::Side;

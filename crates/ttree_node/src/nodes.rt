@@ -1,12 +1,11 @@
 //! Subtrees and what can be done at their root.
-ghost use Rattle.std.specs.Prelude.{◌≡◌, ◌+◌, ◌^◌, ◌<◌, ◌≤◌, [], ◌∷◌, ◌++◌, length, take, drop, insert, remove, slice_get, Some, IfOk};
+ghost use Rattle.std.specs.Prelude.{◌≡◌, ◌+◌, ◌^◌, ◌<◌, ◌≤◌, [], ◌∷◌, ◌++◌, None, length, take, drop, insert, remove, slice_get, Some, IfOk};
 ghost use Rattle.std.specs.Option.{option_copied};
-ghost use Rattle.ttree_node.specs.Nodes.{link_tree, link_height};
+ghost use Rattle.ttree_node.specs.Nodes.{short_height};
 ghost use Rattle.ttree_node.specs.Tree.{Empty, fork, tree_of, height_of, node_count};
-ghost use Rattle.ttree_node.specs.declared.nodes.Link.TheVariants.{Free};
 
 use crate::entries::Entries;
-use crate::owned::Owned;
+use crate::owned::{MaybeOwned, Owned};
 use crate::pool::Spares;
 use mm_value::RowRef;
 use std::alloc::{AllocError, Global};
@@ -15,35 +14,27 @@ use std::mem;
 
 /// A T-tree that is not empty: a node of at most 16 entries, between what stands left and
 /// what stands right of it (Lehman and Carey, VLDB 1986).
-#[cycle(subtree)]
-#[derive(Drop)]
 pub struct Subtree {
     pub(crate) root: Owned<Node, Global>,
 }
 
-/// One block of memory.
-#[cycle(subtree)]
+/// One block of memory: the root of a T-tree that is not empty, in its place.
+///
+/// It keeps the height of each side in 16 bits, 0 where nothing stands. So a link needs no tag beside its pointer, and a node takes
+/// 88 bytes, a block of 96 by `malloc`.
 #[derive(Drop)]
-pub(crate) struct Node {
+pub struct Node {
     pub(crate) entries: Entries,
-    pub(crate) left: Link,
-    pub(crate) right: Link,
+    pub(crate) left_height: u16,
+    pub(crate) right_height: u16,
+    pub(crate) left: MaybeOwned<Node, Global>,
+    pub(crate) right: MaybeOwned<Node, Global>,
+    alloc: Global,
 }
 
-const _: () = prove!(size_of::<Node>() == 104);
+const _: () = prove!(size_of::<Node>() == 88);
 
-/// A link of a node. It keeps the height of what hangs on it, in bytes that would be empty behind the tag: so a node takes
-/// 104 bytes, a block of 112 by `malloc`.
-#[cycle(subtree)]
-#[derive(Drop)]
-pub(crate) enum Link {
-    /// Nothing hangs on it.
-    Free,
-    /// A subtree of this height hangs on it.
-    Tied(u32, Subtree),
-}
-
-impl Model for Subtree {
+impl Model for Node {
     ghost use Rattle.ttree_node.specs.Tree.{Root};
     ghost use Rattle.ttree_node.specs.TreeCode.{root_code};
 
@@ -51,11 +42,12 @@ impl Model for Subtree {
 
     ghost coded = { root_code };
 
-    ghost use Rattle.ttree_node.specs.Nodes.{root_of, IsHeightExact};
+    ghost use Rattle.ttree_node.specs.Nodes.{IsHeightKept};
+    ghost use Rattle.ttree_node.specs.Tree.{tree_of};
 
-    ghost view = { λ s. root_of s.root.value };
+    ghost view = { λ n. record { left = tree_of n.left.value; entries = n.entries; right = tree_of n.right.value } };
 
-    ghost invariant = { λ s. IsHeightExact s.root.value };
+    ghost invariant = { λ n. IsHeightKept n.left_height n.left.value n.right_height n.right.value };
 
     ghost use Rattle.ttree_node.specs.Tree.{fork, node_count};
 
@@ -66,48 +58,107 @@ impl Model for Subtree {
     ghost size_decreases = { λ a h. Prim.grind arith };
 }
 
-impl Link {
-    /// A link to what may be there.
-    fn to(tree: Option<Subtree>) -> Link
-        requires { height_of (tree_of tree) < 2 ^ 32 }
-        ensures tree { link_tree result ≡ tree_of tree }
-        ensures height { link_height result ≡ height_of (tree_of tree) }
-    {
-        match tree {
-            None => Link::Free,
-            Some(subtree) => Link::Tied(subtree.height() as u32, subtree),
+impl Model for Subtree {
+    ghost use Rattle.ttree_node.specs.Tree.{Root};
+    ghost use Rattle.ttree_node.specs.TreeCode.{root_code};
+
+    ghost Value = { Root };
+
+    ghost coded = { root_code };
+
+    ghost view = { λ s. s.root.value };
+}
+
+impl Drop for Subtree {
+    /// Frees what stands on both sides too.
+    fn drop(mut self) {
+        if let Some(left) = self.take_left() {
+            drop(left);
         }
+        if let Some(right) = self.take_right() {
+            drop(right);
+        }
+        let Subtree { root: _ } = self;
+    }
+}
+
+/// Takes off what hangs on a link, whose height is kept.
+fn unlink(height: &mut u16, link: &mut MaybeOwned<Node, Global>, alloc: Global) -> Option<Subtree>
+    requires { height.old ≡ short_height link.old.value }
+    ensures taken { result ≡ link.old.value }
+    ensures height { height.new ≡ 0 }
+    ensures rest { link.new.value ≡ None }
+{
+    if *height == 0 {
+        return None;
+    }
+    *height = 0;
+    let taken = mem::replace(link, MaybeOwned::none(alloc));
+    Some(Subtree {
+        root: taken.into_owned(),
+    })
+}
+
+/// Puts a tree, or none, on a link that is empty, and keeps its height.
+fn link_to(height: &mut u16, link: &mut MaybeOwned<Node, Global>, tree: Option<Subtree>)
+    requires height { height.old ≡ 0 }
+    requires vacant { link.old.value ≡ None }
+    ensures height { height.new ≡ short_height link.new.value }
+    ensures tree { link.new.value ≡ tree }
+{
+    if let Some(subtree) = tree {
+        *height = subtree.root.as_ref().short_height();
+        *link = subtree.into_root().into_maybe();
+    }
+}
+
+impl Node {
+    /// The entries of the root, in order.
+    #[inline]
+    pub fn entries(&self) -> &Entries
+        ensures value { result.now ≡ self.now.entries }
+        ensures at_most_16 { length result.now ≤ 16 }
+    {
+        // It is at most 16.
+        let _len = self.entries.len();
+        &self.entries
     }
 
-    /// What hangs on the link.
-    pub(crate) fn tree(&self) -> Option<&Subtree>
-        ensures { tree_of (option_copied result) ≡ link_tree self.now }
+    /// What stands left of the root, none where nothing does.
+    #[inline]
+    pub fn left(&self) -> Option<&Node>
+        ensures { tree_of (option_copied result) ≡ self.now.left }
     {
-        match self {
-            Link::Free => None,
-            Link::Tied(_, subtree) => Some(subtree),
+        if self.left_height == 0 {
+            return None;
         }
+        Some(self.left.as_ref())
     }
 
-    /// Takes off what hangs on the link.
-    fn take(&mut self) -> Option<Subtree>
-        ensures taken { tree_of result ≡ link_tree self.old }
-        ensures rest { self.new ≡ Free }
+    /// What stands right of the root, none where nothing does.
+    #[inline]
+    pub fn right(&self) -> Option<&Node>
+        ensures { tree_of (option_copied result) ≡ self.now.right }
     {
-        match mem::replace(self, Link::Free) {
-            Link::Free => None,
-            Link::Tied(_, subtree) => Some(subtree),
+        if self.right_height == 0 {
+            return None;
         }
+        Some(self.right.as_ref())
     }
 
-    /// The height that it keeps, 0 where nothing hangs on it.
-    fn height(&self) -> u32
-        ensures { result ≡ link_height self.now }
+    /// The number of nodes on a longest path from the root downwards.
+    pub fn height(&self) -> usize
+        requires { height_of (fork self.now) < 2 ^ 16 }
+        ensures { result ≡ height_of (fork self.now) }
     {
-        match self {
-            Link::Free => 0,
-            Link::Tied(height, _) => *height,
-        }
+        self.left_height.max(self.right_height) as usize + 1
+    }
+
+    /// The same, as a link keeps it.
+    fn short_height(&self) -> u16
+        ensures { result ≡ short_height (Some self.now) }
+    {
+        self.left_height.max(self.right_height).saturating_add(1)
     }
 }
 
@@ -120,11 +171,22 @@ impl Subtree {
             alloc,
             Node {
                 entries: Entries::new(),
-                left: Link::Free,
-                right: Link::Free,
+                left_height: 0,
+                right_height: 0,
+                left: MaybeOwned::none(alloc),
+                right: MaybeOwned::none(alloc),
+                alloc,
             },
         )?;
         Ok(Subtree { root })
+    }
+
+    /// The block of its root, with all that hangs on it.
+    fn into_root(self) -> Owned<Node, Global>
+        ensures { result.value ≡ self }
+    {
+        let Subtree { root } = self;
+        root
     }
 
     /// A node with this one entry, made from a free node.
@@ -154,38 +216,45 @@ impl Subtree {
         spares.put(self);
     }
 
+    /// Its root, in its place.
+    #[inline]
+    pub fn node(&self) -> &Node
+        ensures { result.now ≡ self.now }
+    {
+        self.root.as_ref()
+    }
+
     /// The entries of the root, in order.
     #[inline]
     pub fn entries(&self) -> &Entries
         ensures value { result.now ≡ self.now.entries }
         ensures at_most_16 { length result.now ≤ 16 }
     {
-        let entries = &self.root.as_ref().entries;
-        // It is at most 16.
-        let _len = entries.len();
-        entries
+        self.root.as_ref().entries()
     }
 
     /// What stands left of the root, none where nothing does.
-    pub fn left(&self) -> Option<&Subtree>
+    #[inline]
+    pub fn left(&self) -> Option<&Node>
         ensures { tree_of (option_copied result) ≡ self.now.left }
     {
-        self.root.as_ref().left.tree()
+        self.root.as_ref().left()
     }
 
     /// What stands right of the root, none where nothing does.
-    pub fn right(&self) -> Option<&Subtree>
+    #[inline]
+    pub fn right(&self) -> Option<&Node>
         ensures { tree_of (option_copied result) ≡ self.now.right }
     {
-        self.root.as_ref().right.tree()
+        self.root.as_ref().right()
     }
 
     /// The number of nodes on a longest path from the root downwards.
     pub fn height(&self) -> usize
+        requires { height_of (fork self.now) < 2 ^ 16 }
         ensures { result ≡ height_of (fork self.now) }
     {
-        let node = self.root.as_ref();
-        node.left.height().max(node.right.height()) as usize + 1
+        self.root.as_ref().height()
     }
 
     /// Puts an entry before the one at place `i` of the root.
@@ -214,7 +283,7 @@ impl Subtree {
         ensures rest { self.new ≡ record self.old { left = Empty } }
     {
         let node = self.root.as_mut();
-        node.left.take()
+        unlink(&mut node.left_height, &mut node.left, node.alloc)
     }
 
     /// Takes away what stands right of the root and gives it, none where nothing does.
@@ -223,27 +292,25 @@ impl Subtree {
         ensures rest { self.new ≡ record self.old { right = Empty } }
     {
         let node = self.root.as_mut();
-        node.right.take()
+        unlink(&mut node.right_height, &mut node.right, node.alloc)
     }
 
     /// Puts a tree left of the root, where there is none.
     pub fn set_left(&mut self, left: Option<Subtree>)
-        requires vacant { self.old.left ≡ Empty }
-        requires height_fits { height_of (tree_of left) < 2 ^ 32 }
+        requires { self.old.left ≡ Empty }
         ensures { self.new ≡ record self.old { left = tree_of left } }
     {
         let node = self.root.as_mut();
-        node.left = Link::to(left);
+        link_to(&mut node.left_height, &mut node.left, left);
     }
 
     /// Puts a tree right of the root, where there is none.
     pub fn set_right(&mut self, right: Option<Subtree>)
-        requires vacant { self.old.right ≡ Empty }
-        requires height_fits { height_of (tree_of right) < 2 ^ 32 }
+        requires { self.old.right ≡ Empty }
         ensures { self.new ≡ record self.old { right = tree_of right } }
     {
         let node = self.root.as_mut();
-        node.right = Link::to(right);
+        link_to(&mut node.right_height, &mut node.right, right);
     }
 
     /// Puts entries before those of the root, which has room for them.

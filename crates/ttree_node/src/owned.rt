@@ -1,5 +1,6 @@
 //! The one place of the crate with a raw pointer: what owns a block.
-ghost use Rattle.std.specs.Prelude.{◌≡◌, IfOk};
+ghost use Rattle.std.specs.Prelude.{◌≡◌, Option, None, Some, IsSome, IfOk};
+ghost use Rattle.std.specs.Coded.{coded_option};
 
 use std::alloc::{AllocFailed, Allocator};
 use std::marker::Model;
@@ -42,6 +43,14 @@ impl<T, A: Allocator> Owned<T, A> {
     {
         unsafe { &mut *self.at }
     }
+
+    /// The same owner, as one that might have had no value.
+    pub(crate) fn into_maybe(self) -> MaybeOwned<T, A>
+        ensures { result.value ≡ Some self.value }
+    {
+        let Owned { at, alloc } = self;
+        MaybeOwned { at, alloc }
+    }
 }
 
 impl<T: Drop, A: Allocator> Owned<T, A> {
@@ -70,5 +79,63 @@ impl<T: Drop, A: Allocator> Owned<T, A> {
 impl<T: Drop, A: Allocator> Drop for Owned<T, A> {
     fn drop(self) {
         drop(self.into_box());
+    }
+}
+
+/// The pointer of an `Owned`, or null where there is no value. No tag says which, so whoever reads the value or takes it out has to
+/// know from elsewhere that it is there. Dropping this frees nothing: take the value out first.
+#[derive(Drop)]
+pub(crate) struct MaybeOwned<T, A: Allocator> {
+    at: *mut T,
+    alloc: A,
+    pub(crate) ghost value: { Option T } by { coded_option T.code },
+}
+
+impl<T, A: Allocator> Model for MaybeOwned<T, A> {
+    ghost use Rattle.ttree_node.specs.Block.{maybe_owns, maybe_lends};
+
+    ghost also_owns = { λ o. maybe_owns (A.dealloc_token o.alloc) T.row o.at o.value };
+
+    ghost also_shares = { λ o _ κ. maybe_lends T.row o.at o.value κ };
+}
+
+impl<T, A: Allocator> MaybeOwned<T, A> {
+    ghost use Rattle.std.specs.Borrow.{sem};
+    ghost use Rattle.ttree_node.specs.BlockLent.{maybe_follows};
+
+    /// No value.
+    pub(crate) fn none(alloc: A) -> MaybeOwned<T, A>
+        ensures { result.value ≡ None }
+    {
+        let at = std::ptr::null_mut();
+        MaybeOwned { at, alloc }
+    }
+
+    /// The owner of the value, which is there.
+    pub(crate) fn into_owned(self) -> Owned<T, A>
+        requires { IsSome self.value }
+        ensures { Some result.value ≡ self.value }
+    {
+        let MaybeOwned { at, alloc } = self;
+        Owned { at, alloc }
+    }
+
+    /// The value, which is there, for reading.
+    #[inline]
+    pub(crate) fn as_ref(&self) -> &T
+        requires { IsSome self.now.value }
+        ensures { Some result.now ≡ self.now.value }
+    {
+        unsafe { &*self.at }
+    }
+
+    /// The value, which is there, for writing.
+    #[inline]
+    pub(crate) fn as_mut(&mut self) -> &mut T
+        requires { IsSome self.old.value }
+        ensures* writes_back { sem 𝓛 (maybe_follows T.row A.row A.Allocator self.entry result) }
+        ensures value { Some result.now ≡ self.old.value }
+    {
+        unsafe { &mut *self.at }
     }
 }

@@ -6,32 +6,33 @@ use crate::nodes::Subtree;
 use std::alloc::{AllocError, Global};
 use std::marker::Model;
 
-/// The most free nodes: the height of their chain has 32 bits in each link.
+/// The most free nodes.
 const MAX_SPARES: usize = 1 << 32;
 
 /// Free nodes, so that an insertion that follows cannot meet want of memory.
 /// Seen as how many there are.
 pub struct Spares {
     chain: Option<Subtree>,
+    len: usize,
 }
 
 impl Model for Spares {
     ghost use Rattle.std.specs.Prelude.{ℕ};
-    ghost use Rattle.ttree_node.specs.Tree.{tree_of, height_of};
-    ghost use Rattle.ttree_node.specs.Spares.{IsChain};
+    ghost use Rattle.ttree_node.specs.Tree.{tree_of, node_count};
+    ghost use Rattle.ttree_node.specs.Spares.{IsPool};
 
     ghost Value = { ℕ };
 
-    ghost view = { λ s. height_of (tree_of s.chain) };
+    ghost view = { λ s. s.len };
 
-    ghost invariant = { λ s. IsChain (tree_of s.chain) };
+    ghost invariant = { λ s. IsPool (tree_of s.chain) s.len };
 }
 
 impl Drop for Spares {
     /// Frees node by node, since the chain may be long.
     fn drop(mut self) {
         self.trim(0);
-        let Spares { chain: _ } = self;
+        let Spares { chain: _, len: _ } = self;
     }
 }
 
@@ -40,17 +41,17 @@ impl Spares {
     pub fn new(_alloc: Global) -> Spares
         ensures { result ≡ 0 }
     {
-        Spares { chain: None }
+        Spares {
+            chain: None,
+            len: 0,
+        }
     }
 
     /// The number of free nodes.
     pub fn len(&self) -> usize
         ensures { result ≡ self.now }
     {
-        match &self.chain {
-            None => 0,
-            Some(chain) => chain.height(),
-        }
+        self.len
     }
 
     /// Allocates nodes until there are at least `n`. Where memory is refused before, it answers
@@ -91,6 +92,7 @@ impl Spares {
     {
         node.set_left(self.chain.take());
         self.chain = Some(node);
+        self.len += 1;
     }
 
     /// Takes out a node, which has no links.
@@ -104,6 +106,7 @@ impl Spares {
             unreachable!()
         };
         self.chain = node.take_left();
+        self.len -= 1;
         node
     }
 }

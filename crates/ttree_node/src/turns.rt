@@ -1,6 +1,6 @@
 //! Rotations.
-ghost use Rattle.std.specs.Prelude.{◌≡◌, ◌+◌, ◌^◌, ◌<◌};
-ghost use Rattle.ttree_node.specs.Tree.{IsFork, fork, in_order, height_of};
+ghost use Rattle.std.specs.Prelude.{◌≡◌};
+ghost use Rattle.ttree_node.specs.Tree.{IsFork, fork, in_order};
 ghost use Rattle.ttree_node.specs.Turn.{rotated_left, rotated_right};
 
 use crate::nodes::Subtree;
@@ -8,8 +8,7 @@ use crate::nodes::Subtree;
 impl Subtree {
     /// Its right child on top, and the old root left below it.
     pub fn rotate_left(mut self) -> Subtree
-        requires has_right { IsFork self.right }
-        requires height_fits { height_of (fork self) < 2 ^ 32 }
+        requires { IsFork self.right }
         ensures shape { result ≡ rotated_left self }
         ensures same_entries { in_order (fork result) ≡ in_order (fork self) }
     {
@@ -24,8 +23,7 @@ impl Subtree {
 
     /// Its left child on top, and the old root right below it.
     pub fn rotate_right(mut self) -> Subtree
-        requires has_left { IsFork self.left }
-        requires height_fits { height_of (fork self) < 2 ^ 32 }
+        requires { IsFork self.left }
         ensures shape { result ≡ rotated_right self }
         ensures same_entries { in_order (fork result) ≡ in_order (fork self) }
     {

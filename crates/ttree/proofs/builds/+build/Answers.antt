@@ -3,15 +3,7 @@ use Rattle.ttree_node.specs.Tree.{tree_of, height_of}
 use Rattle.ttree.specs.Balanced.{IsNode}
 use Rattle.ttree.specs.Lowest.{IsLowest}
 use Rattle.ttree.proofs.Lowest.{not_lower, one_level, IsLowest-root}
-use Rattle.ttree.proofs.Sizes.{height_at_most_nodes}
 use Rattle.ttree.proofs.builds.+build.Goals as goal
-
-pub set_left-requires-clause-height_fits : goal.set_left-requires-clause-height_fits
-set_left-requires-clause-height_fits t c = omega (arith, height_at_most_nodes (tree_of c.build-left.result), c.build-left.ensures.nodes, c.requires.height_fits)
-
-pub set_right-requires-clause-height_fits : goal.set_right-requires-clause-height_fits
-set_right-requires-clause-height_fits t c = omega
-    (arith, height_at_most_nodes (tree_of c.build-right.result), c.build-right.ensures.nodes, c.requires.height_fits)
 
 pub returns-clause-tree : goal.returns-clause-tree
 returns-clause-tree t c =

@@ -1,28 +1,22 @@
-use Rattle.std.proofs.Common.{◌≡◌, ◌≢◌, ◌+◌, ◌≤◌, ◌++◌, List, [], ◌∷◌, length, get_or, take, refl, sym, ap, ◌∙◌, subst, append_assoc, length-append, arith}
+use Rattle.std.proofs.Common.{◌≡◌, ◌≢◌, ◌++◌, [], ◌∷◌, length, get_or, sym, ap, ◌∙◌, subst, length-append, arith}
 use Rattle.std.proofs.Common.{rules}
-use Rattle.std.specs.Prelude.{Option, Some, None, IfSome}
 use Rattle.std.specs.List.{All}
 use Rattle.std.specs.Borrow.{Bor}
 use Rattle.std.specs.Option.{option_copied}
-use Rattle.std.specs.declared.cmp.Ordering.{Ordering}
 use Rattle.std.specs.declared.cmp.Ordering.TheVariants.{Less}
-use Rattle.mm_value.specs.declared.row_ref.RowRef.{RowRef}
-use Rattle.mm_order.specs.Order.{IsOrdered}
-use Rattle.ttree_node.specs.Tree.{Tree, Empty, Root, fork, tree_of, in_order, height_of}
+use Rattle.ttree_node.specs.Tree.{Empty, Root, fork, tree_of, in_order}
 use Rattle.ttree_node.specs.Paths.{tree_at, trail}
-use Rattle.ttree_node.specs.declared.slides.Side.{Side}
 use Rattle.ttree_node.specs.declared.slides.Side.TheVariants.{Left, Right}
-use Rattle.ttree_node.proofs.PathLemmas.{in_order-at, tree_at-left, tree_at-right, trail-right}
+use Rattle.ttree_node.proofs.PathLemmas.{tree_at-left, tree_at-right, trail-right}
 use Rattle.ttree.specs.Balanced.{IsTTree}
-use Rattle.ttree.proofs.Parts.{IsOrdered-front, IsOrdered-middle}
 use Rattle.ttree.proofs.Shuffles.{if_some}
 use Rattle.ttree.proofs.Walks.{IsFound, ordered_at, behind_left, found_here, found_before, behind_found}
 use Rattle.ttree.proofs.in_place.bounding_path.Goals as goal
 
 pub loop-rest-init : goal.loop-rest-init
 loop-rest-init g c = record {
-  here = ap (λ path. tree_at path (fork c.args.tree.now)) c.requires.empty;
-  balanced = c.requires.tree;
+  here = ap (λ path. tree_at path (fork c.args.tree.now)) c.requires.empty ∙ ap fork (sym c.node.ensures);
+  balanced = subst (λ r. IsTTree (fork r)) (sym c.node.ensures) c.requires.tree;
   deep = omega arith;
   behind = λ k d within. absurd (omega (arith, within, ap (λ path. length (trail path (fork c.args.tree.now))) c.requires.empty));
   found = tt;

@@ -1,9 +1,9 @@
-use Rattle.std.proofs.Common.{◌≡◌, ◌<◌, ◌≤◌, ◌+◌, [], ◌∷◌, length, sym, ap, ◌∙◌, subst, arith, rules}
-use Rattle.std.specs.Prelude.{Some, Contains, slice_get}
+use Rattle.std.proofs.Common.{◌≡◌, ◌<◌, ◌≤◌, [], ◌∷◌, length, sym, ap, ◌∙◌, subst, arith}
+use Rattle.std.specs.Prelude.{Some, slice_get}
 use Rattle.std.proofs.lemmas.List.Edits.{length-remove}
 use Rattle.std.specs.List.{remove}
 use Rattle.mm_order.specs.Order.{IsOrdered}
-use Rattle.ttree_node.specs.Tree.{Root, Tree, fork, in_order, node_count, height_of}
+use Rattle.ttree_node.specs.Tree.{Root, fork, in_order, node_count}
 use Rattle.ttree_node.specs.Paths.{HasSpareOnLeft, tree_at, root_entries, entries_at, with_entries, with_tree, borrowed}
 use Rattle.ttree_node.proofs.PathLemmas.{same_count, count_with_tree, borrowed_count, borrowed_root}
 use Rattle.ttree.specs.Balanced.{IsTTree}

@@ -18,7 +18,7 @@ use Rattle.ttree.proofs.inserts.+insert_into.Goals as goal
 pub is_before-requires-clause-covered_entries : goal.is_before-requires-clause-covered_entries
 is_before-requires-clause-covered_entries g t c =
     let n = c.in-Some.node in
-    (IsOrdered-middle _ _ (in_order n.left) n.entries (in_order n.right) (rw c.in-Some.is at c.requires.ordered)).covered
+    rw c.node.ensures (IsOrdered-middle _ _ (in_order n.left) n.entries (in_order n.right) (rw c.in-Some.is at c.requires.ordered)).covered
 
 pub returns-then-len-lt16-clause-adds : goal.returns-then-len-lt16-clause-adds
 returns-then-len-lt16-clause-adds g t c =
@@ -32,7 +32,7 @@ returns-then-len-lt16-clause-adds g t c =
     let tree : IsTTree (fork n) = rw c.in-Some.is at c.requires.tree in
     let adds : AddsInOrder cmp ([] ++ n.entries ++ in_order n.right) c.args.added (c.args.added ∷ [] ++ n.entries ++ in_order n.right) =
     adds_left _ _ (g.met.O.RefOrder.total c.args.order.now) [] n.entries (in_order n.right) was tree.2.filled c.args.added c.requires.covered
-    (c.args.added ∷ []) (c.is_before.ensures.0 c.if-is_before.true) (adds_alone (g.O.RefOrder.covers c.args.order.now) cmp c.args.added) in
+    (c.args.added ∷ []) (rw c.node.ensures at c.is_before.ensures.0 c.if-is_before.true) (adds_alone (g.O.RefOrder.covers c.args.order.now) cmp c.args.added) in
     subst (λ xs. AddsInOrder cmp xs c.args.added (in_order (fork c.put_entry.new.self))) (sym whole)
     (subst (AddsInOrder cmp ([] ++ n.entries ++ in_order n.right) c.args.added) (sym made) adds)
 
@@ -87,7 +87,8 @@ returns-in-Ok-clause-adds g t c =
     let below : AddsInOrder cmp (in_order n.left) c.args.added (in_order (fork c.in-Ok.left)) =
     subst (λ xs. AddsInOrder cmp xs c.args.added (in_order (fork c.in-Ok.left))) is c.in-Ok.ensures.adds in
     let adds = adds_left _ _ (g.met.O.RefOrder.total c.args.order.now) (in_order n.left) n.entries
-    (in_order n.right) was tree.2.filled c.args.added c.requires.covered (in_order (fork c.in-Ok.left)) (c.is_before.ensures.0 c.if-is_before.true) below in
+    (in_order n.right) was tree.2.filled c.args.added c.requires.covered (in_order (fork c.in-Ok.left))
+    (rw c.node.ensures at c.is_before.ensures.0 c.if-is_before.true) below in
     subst (λ xs. AddsInOrder cmp xs c.args.added (in_order (fork c.balance.result))) (sym whole)
     (subst (AddsInOrder cmp (in_order n.left ++ n.entries ++ in_order n.right) c.args.added) (sym made) adds)
 
@@ -205,7 +206,7 @@ returns-then-len-lt16-2-clause-behind g t c =
     let behind : IfSome c.args.bound (λ b. All (λ a. cmp b a ≡ Less) (in_order n.left ++ n.entries ++ in_order n.right)) = rw c.in-Some.is at
     c.requires.behind in
     not_below _ _ (g.met.O.RefOrder.total c.args.order.now) (in_order n.left) n.entries (in_order n.right) was tree.2.filled c.args.added c.requires.covered
-    (λ less. let e = sym (c.is_before.ensures.1 less) ∙ c.if-is_before.false in cc) c.args.bound c.requires.bound_covered behind
+    (λ less. let e = sym (c.is_before.ensures.1 (rw (← c.node.ensures) at less)) ∙ c.if-is_before.false in cc) c.args.bound c.requires.bound_covered behind
 
 pub returns-in-Ok-insert_into-clause-behind : goal.returns-in-Ok-insert_into-clause-behind
 returns-in-Ok-insert_into-clause-behind g t c =
@@ -216,7 +217,7 @@ returns-in-Ok-insert_into-clause-behind g t c =
     let behind : IfSome c.args.bound (λ b. All (λ a. cmp b a ≡ Less) (in_order n.left ++ n.entries ++ in_order n.right)) = rw c.in-Some.is at
     c.requires.behind in
     not_below _ _ (g.met.O.RefOrder.total c.args.order.now) (in_order n.left) n.entries (in_order n.right) was tree.2.filled c.args.added c.requires.covered
-    (λ less. let e = sym (c.is_before.ensures.1 less) ∙ c.if-is_before.false in cc) c.args.bound c.requires.bound_covered behind
+    (λ less. let e = sym (c.is_before.ensures.1 (rw (← c.node.ensures) at less)) ∙ c.if-is_before.false in cc) c.args.bound c.requires.bound_covered behind
 
 pub returns-in-Err-insert_into-clause-behind : goal.returns-in-Err-insert_into-clause-behind
 returns-in-Err-insert_into-clause-behind g t c =
@@ -227,4 +228,4 @@ returns-in-Err-insert_into-clause-behind g t c =
     let behind : IfSome c.args.bound (λ b. All (λ a. cmp b a ≡ Less) (in_order n.left ++ n.entries ++ in_order n.right)) = rw c.in-Some.is at
     c.requires.behind in
     not_below _ _ (g.met.O.RefOrder.total c.args.order.now) (in_order n.left) n.entries (in_order n.right) was tree.2.filled c.args.added c.requires.covered
-    (λ less. let e = sym (c.is_before.ensures.1 less) ∙ c.if-is_before.false in cc) c.args.bound c.requires.bound_covered behind
+    (λ less. let e = sym (c.is_before.ensures.1 (rw (← c.node.ensures) at less)) ∙ c.if-is_before.false in cc) c.args.bound c.requires.bound_covered behind

@@ -16,7 +16,7 @@ use Rattle.ttree.proofs.removes.+remove_from.Goals as goal
 pub is_before-requires-clause-covered_entries : goal.is_before-requires-clause-covered_entries
 is_before-requires-clause-covered_entries g t c =
     let n = c.in-Some.node in
-    (IsOrdered-middle _ _ (in_order n.left) n.entries (in_order n.right) (rw c.in-Some.is at c.requires.ordered)).covered
+    rw c.node.ensures (IsOrdered-middle _ _ (in_order n.left) n.entries (in_order n.right) (rw c.in-Some.is at c.requires.ordered)).covered
 
 pub remove_from-left-requires : goal.remove_from-left-requires
 remove_from-left-requires g t c κs within =
@@ -46,7 +46,7 @@ returns-then-is_none-clause-held g t c =
     let was : IsOrdered (g.O.RefOrder.covers c.args.order.now) cmp (in_order n.left ++ n.entries ++ in_order n.right) = rw c.in-Some.is at c.requires.ordered in
     let tree : IsTTree (fork n) = rw c.in-Some.is at c.requires.tree in
     let is : in_order (tree_of c.take_left-left.result) ≡ in_order n.left = search rules in
-    let before : cmp c.args.gone (get_or n.entries 0 c.args.gone) ≡ Less = c.is_before.ensures.0 c.if-is_before.true in (
+    let before : cmp c.args.gone (get_or n.entries 0 c.args.gone) ≡ Less = rw c.node.ensures at c.is_before.ensures.0 c.if-is_before.true in (
       λ no. absurd (search rules),
       λ held. sym c.if-is_none.ensures ∙ c.remove_from-left.ensures.held.1 (subst (λ xs. Contains xs c.args.gone) (sym is)
           (contains_left _ _ (g.met.O.RefOrder.total c.args.order.now) c.args.gone c.requires.covered (in_order n.left) n.entries
@@ -97,7 +97,8 @@ returns-then-is_none-2-clause-held g t c =
     let was : IsOrdered (g.O.RefOrder.covers c.args.order.now) cmp (in_order n.left ++ n.entries ++ in_order n.right) = rw c.in-Some.is at c.requires.ordered in
     let tree : IsTTree (fork n) = rw c.in-Some.is at c.requires.tree in
     let is : in_order (tree_of c.take_right-right.result) ≡ in_order n.right = search rules in
-    let not_before : cmp c.args.gone (get_or n.entries 0 c.args.gone) ≢ Less = λ less. let e = sym (c.is_before.ensures.1 less) ∙ c.if-is_before.false in cc in
+    let not_before : cmp c.args.gone (get_or n.entries 0 c.args.gone) ≢ Less = λ less. let e = sym
+    (c.is_before.ensures.1 (rw (← c.node.ensures) at less)) ∙ c.if-is_before.false in cc in
     let entries : c.set_right.new.self.entries ≡ n.entries = search rules in (
       λ found. subst (λ xs. Contains xs c.args.gone) (sym whole)
           (Contains-append_left (in_order n.left ++ n.entries) (in_order n.right) c.args.gone
