@@ -6,7 +6,7 @@ ghost use Rattle.bench_structures.specs.Apart.{AreApart};
 use crate::entries::after;
 use crate::report::{Pass, print};
 use mm_partition::Partitions;
-use mm_value::{Row, RowRef};
+use mm_value::RowRef;
 use std::alloc::{AllocError, Global};
 use std::time::Instant;
 
@@ -61,7 +61,7 @@ fn fill(alloc: Global, rows: &mut Partitions, n: usize) -> Result<Vec<RowRef>, A
     let mut refs = Vec::with_capacity(alloc, n)?;
     for _ in 0..n {
         rows.reserve(alloc, 1)?;
-        let at = rows.place(Row::new(Vec::new(alloc)));
+        let at = rows.place(&mut []);
         refs.push(at)?;
     }
     Ok(refs)

@@ -1,9 +1,9 @@
 //! The search for inequalities that show that a row cannot change what a query gives.
 use crate::report::{Pass, print};
-use mm_query::{Atom, BoundQuery, Comparison, Few, FieldPlace, FromItem, Operand, ShortList};
+use mm_query::{Atom, BoundQuery, Comparison, FieldPlace, FromItem, Operand, ShortList};
 use mm_relevance::irrelevant;
 use mm_schema::Name;
-use mm_value::{Row, Value};
+use mm_value::{Few, Row, Value};
 use std::alloc::Global;
 use std::time::Instant;
 

@@ -2,15 +2,16 @@
 use crate::assertions::{assert_same, assert_that};
 use mm_lang::write_reply;
 use mm_query::{Reply, RowList};
-use mm_value::{Refusal, Row, Value, Watched};
+use mm_value::{Few, Refusal, Tuple, Value, Watched};
 use std::alloc::{AllocError, Global};
 use std::process::Abort;
 use std::test::Fail;
 
 fn two_rows(alloc: Global) -> Result<RowList, AllocError> {
-    let first = Row::new(vec![in alloc; Value::Int(1), Value::Int(5)]?);
-    let second = Row::new(vec![in alloc; Value::Int(2), Value::Int(5)]?);
-    Ok(RowList::new(vec![in alloc; first, second]?))
+    let first = Tuple::copy_of(alloc, &[Value::Int(1), Value::Int(5)])?;
+    let second = Tuple::copy_of(alloc, &[Value::Int(2), Value::Int(5)])?;
+    let rows = vec![in alloc; first, second]?;
+    Ok(RowList::new(Few::from_vec(rows)))
 }
 
 /// Tests what a reply is written as.
@@ -35,7 +36,7 @@ fn writes_each_reply(rt: HostRuntime) -> Result<(), Fail> {
     expect_text(&rt, Reply::Count(2), "ok 2\n")?;
     let rows = two_rows(rt.alloc())?;
     expect_text(&rt, Reply::Rows(rows), "(1, 5)\n(2, 5)\nrows 2\n")?;
-    let no_rows = RowList::new(Vec::new(rt.alloc()));
+    let no_rows = RowList::new(Few::from_vec(Vec::new(rt.alloc())));
     expect_text(&rt, Reply::Rows(no_rows), "rows 0\n")?;
     let refused = Reply::Refused(Refusal::DuplicateKey);
     expect_text(&rt, refused, "error 40 duplicate key\n")?;

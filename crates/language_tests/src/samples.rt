@@ -1,9 +1,9 @@
 //! Tables and queries for tests.
 use crate::assertions::assert_same;
 use crate::put_again::put_again;
-use mm_query::{Atom, Comparison, Few, FieldName, FromItem, Operand, Query};
+use mm_query::{Atom, Comparison, FieldName, FromItem, Operand, Query};
 use mm_schema::{Catalog, Column, Columns, Name, NameRef, Role, TableDef};
-use mm_value::{ColType, Refusal, Text, Value};
+use mm_value::{ColType, Few, Refusal, Text, Value};
 use std::process::Abort;
 
 pub fn name(rt: &impl Abort, bytes: &[u8]) -> Name {

@@ -90,8 +90,8 @@ fn add_edit<'c>(
     let zero = Value::Int(0);
     match row_come(edit) {
         Some(row) => {
-            row.is_storable();
-            let value = row.values().get(column).unwrap_or(&zero);
+            let value = row.get(column).unwrap_or(&zero);
+            value.is_storable();
             add_row(alloc, rows, value, RowRead::Owned(row))
         }
         None => Ok(()),

@@ -7,7 +7,7 @@ ghost use Rattle.mm_delta.specs.Edited.{edits_at};
 ghost use Rattle.mm_delta.specs.Steps.{stays, takes};
 
 use mm_relation::Edit;
-use mm_value::{Row, RowRef};
+use mm_value::{RowRef, Value};
 
 /// The edits of one table.
 #[derive(Drop)]
@@ -40,12 +40,13 @@ pub fn row_gone(edit: &Edit) -> Option<RowRef>
     }
 }
 
-/// The row that an edit brings, if any.
-pub(crate) fn row_come(edit: &Edit) -> Option<&Row>
+/// The values of the row that an edit brings, if any.
+pub(crate) fn row_come(edit: &Edit) -> Option<&[Value]>
     ensures { option_copied result ≡ new_row edit.now }
 {
     match edit {
-        Edit::Add(row) | Edit::Swap(_, row) => Some(row),
+        Edit::Add(tuple) => Some(tuple.values()),
+        Edit::Swap(_, row) => Some(row.values()),
         Edit::Gone(_) => None,
     }
 }

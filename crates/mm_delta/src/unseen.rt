@@ -94,11 +94,11 @@ impl<'c> Sight<'c> {
         ensures same { view.new.store ≡ view.old.store }
     {
         match edit {
-            Edit::Add(row) => seen.come.push(RowRead::Owned(row))?,
+            Edit::Add(tuple) => seen.come.push(RowRead::Owned(tuple.values()))?,
             Edit::Gone(at) => seen.gone.push(RowRead::Stored(view.row(table, *at)))?,
             Edit::Swap(at, row) => {
                 let old = RowRead::Stored(view.row(table, *at));
-                let new = RowRead::Owned(row);
+                let new = RowRead::Owned(row.values());
                 if !self.looks_alike(old, new) {
                     seen.gone.push(old)?;
                     seen.come.push(new)?;

@@ -1,5 +1,5 @@
 -- Commands, read by their parts.
-use Rattle.std.proofs.Common.{◌≡◌, ◌≢◌, inl, ℕ, Bool, true, false, eqb, List, [], ◌++◌, Some, Result, Ok, refl, sym, ap, ◌∙◌, arith}
+use Rattle.std.proofs.Common.{◌≡◌, ◌≢◌, inl, ℕ, Bool, true, false, eqb, List, [], ◌++◌, Some, Result, Ok, refl, sym, ap, ◌∙◌, subst, arith}
 use Rattle.std.specs.List.{flat_map}
 use Rattle.std.specs.Option.{option_and_then, option_or}
 use Rattle.std.proofs.lemmas.Bool.{cond-true, cond-false, eq-eqb, ne_eqb}
@@ -226,22 +226,14 @@ pub insert_no_tuples : (old mid : Reader) (t : List ℕ) (e : Refusal) → Gives
 unfolding insert after_table say_insert
 insert_no_tuples old mid t e g h = let n = took g in fails_next name after_table old mid t e n.is (fails_first (comma_list tuple) (say_insert t) mid e h)
 
-pub insert_given : (old mid new : Reader) (t : List ℕ) (before after tuples : List (List Value)) → Gives name no_literals old mid t → before ≡ []
-    → GivesItems (comma_list tuple) (flat_map (λ values. values)) mid new before after → tuples ≡ after
+pub insert_given : (old mid new : Reader) (t : List ℕ) (read tuples : List (List Value)) → Gives name no_literals old mid t
+    → Gives (comma_list tuple) (flat_map (λ values. values)) mid new read → tuples ≡ read
     → Gives insert literals_of old new (command.Change (change.Insert t tuples))
 unfolding insert after_table say_insert
-insert_given old mid new t before after tuples g none items same =
-    let n = took g in
-    let h = items.given in
-    record {
-      said = command.Change (change.Insert t h.said);
-      read =
-          ap (option_and_then (λ (r : Front (List ℕ)). after_table r.0 r.1)) n.is
-          ∙ ap (option_and_then (λ (r : Front (List (List Value))). say_insert t r.0 r.1)) h.read;
-      fault = h.fault ∙ ap (λ f. option_or f (first_fault (flat_map (λ values. values) h.said))) n.fault;
-      same = λ fits. ap (λ l. command.Change (change.Insert t l)) (same ∙ items.joined ∙ ap (λ l. l ++ items.items) none ∙ h.same fits);
-      shorter = omega (arith, n.shorter, h.shorter);
-    }
+insert_given old mid new t read tuples g h same =
+    subst (λ l. Gives insert literals_of old new (command.Change (change.Insert t l))) (sym same)
+    (reads_behind name after_table literals_of old mid new t (Ok (command.Change (change.Insert t read))) (took g)
+    (given_made (comma_list tuple) (λ l. command.Change (change.Insert t l)) (flat_map (λ values. values)) literals_of (λ l. refl) h))
 
 -- DELETE
 

@@ -1,8 +1,9 @@
 -- The cells of one slot in all columns, as a sweep goes over the columns.
 use Rattle.std.proofs.Common.{◌≡◌, ℕ, zero, suc, ◌+◌, ◌<◌, ◌≤◌, List, [], ◌∷◌, ◌++◌, length, get_or, set, take, drop, refl, sym, ap, ◌∙◌, subst, add-one}
-use Rattle.std.proofs.Common.{⊎_elim, arith, length-set}
+use Rattle.std.proofs.Common.{⊎_elim, append-nil, arith, length-set}
 use Rattle.std.specs.Prelude.{All}
-use Rattle.std.proofs.Math.Seq.{map-set_same}
+use Rattle.std.proofs.Math.Seq.{drop-length, map-set_same, take-length}
+use Rattle.std.specs.List.{refill}
 use Rattle.std.proofs.lemmas.Bool.{cases_lt}
 use Rattle.std.proofs.lemmas.List.{get_or-map, get_or-set_same, get_or-set_other, length-map, map-set}
 use Rattle.std.proofs.lemmas.List.Elements.{All-set}
@@ -114,3 +115,11 @@ pub row_of-typed : (cs : List Column) (k : ℕ) → HasTypes (types_of cs) (row_
 row_of-typed [] k = refl
 row_of-typed (Numbers numbers ∷ cs) k = ap (λ ts. type.Int ∷ ts) (row_of-typed cs k)
 row_of-typed (Texts texts ∷ cs) k = ap (λ ts. type.Text ∷ ts) (row_of-typed cs k)
+
+-- a list that is written over whole is what was written
+pub refill_all : {X : Type 0} (n : ℕ) (xs ws : List X) → n ≡ length xs → length ws ≡ length xs → refill n xs ws ≡ ws
+refill_all n xs ws all size =
+    ap (λ n. take n (ws ++ drop (length ws) xs)) (all ∙ sym size)
+    ∙ (ap (λ n. take (length ws) (ws ++ drop n xs)) size
+    ∙ (ap (λ l. take (length ws) (ws ++ l)) (drop-length xs)
+    ∙ (ap (take (length ws)) (append-nil ws) ∙ take-length ws)))

@@ -7,5 +7,5 @@ use Rattle.mm_partition.specs.declared.row_read.RowRead.TheVariants.{Owned, Stor
 
 -- The row that is read.
 abbrev pub row_read : RowRead → List Value
-row_read (Owned row) = row.now
+row_read (Owned values) = values.now
 row_read (Stored view) = viewed view

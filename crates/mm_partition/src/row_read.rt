@@ -5,14 +5,23 @@ ghost use Rattle.mm_value.specs.Views.{value_of};
 ghost use Rattle.mm_partition.specs.Reads.{row_read};
 
 use crate::view::RowView;
-use mm_value::{AsRow, Row, ValueRef};
+use mm_value::{AsRow, Row, Value, ValueRef};
 use std::alloc::{AllocError, Global};
+
+/// The value at a position, counted from 0.
+#[inline(always)]
+fn value_at(values: &[Value], i: usize) -> ValueRef<'_>
+    requires { i < length values.now }
+    ensures { slice_get values.now i ≡ Some (value_of result) }
+{
+    values[i].as_ref()
+}
 
 /// A row to read, wherever it stands.
 #[derive(Clone, Copy)]
 pub enum RowRead<'a> {
-    /// A row that stands on its own.
-    Owned(&'a Row),
+    /// The values of a row that stands on its own.
+    Owned(&'a [Value]),
     /// A row of partitions.
     Stored(RowView<'a>),
 }
@@ -24,7 +33,7 @@ impl<'a> RowRead<'a> {
         ensures { result ≡ length (row_read self.now) }
     {
         match *self {
-            RowRead::Owned(row) => row.len(),
+            RowRead::Owned(values) => values.len(),
             RowRead::Stored(row) => row.len(),
         }
     }
@@ -36,7 +45,7 @@ impl<'a> RowRead<'a> {
         ensures { slice_get (row_read self.now) i ≡ Some (value_of result) }
     {
         match *self {
-            RowRead::Owned(row) => row.value(i).as_ref(),
+            RowRead::Owned(values) => value_at(values, i),
             RowRead::Stored(row) => row.value(i),
         }
     }
@@ -58,7 +67,7 @@ impl<'a> RowRead<'a> {
         ensures ok { IfOk result (λ row. row ≡ row_read self.now) }
     {
         match *self {
-            RowRead::Owned(row) => row.copy(alloc),
+            RowRead::Owned(values) => Row::copy_of(alloc, values),
             RowRead::Stored(row) => row.copy(alloc),
         }
     }

@@ -5,6 +5,7 @@ ghost use Rattle.mm_value.specs.declared.values.Value.{Value};
 ghost use Rattle.mm_partition.specs.Keys.{AreKeys};
 ghost use Rattle.mm_partition.specs.Places.{Free, Live, Hidden, extent_of, slot_at, content_at, IsLive, IsHidden, IsUnchanged, ChangesOnly};
 ghost use Rattle.mm_partition.specs.Places.{AreRowsStorable, AreReferencesSmall};
+ghost use Rattle.mm_value.specs.Storable.{AreStorable};
 ghost use Rattle.mm_partition.specs.Types.{HasTypes};
 ghost use Rattle.mm_partition.specs.Views.{viewed};
 
@@ -13,7 +14,7 @@ use crate::keys::ColumnKeys;
 use crate::slots::{SLOTS, State, index_of, reference_to};
 use crate::sweeps::{clear_each, push_each, reserve_each, swap_each};
 use crate::view::RowView;
-use mm_value::{ColType, Row, RowRef, ValueRef};
+use mm_value::{ColType, Row, RowRef, Value, ValueRef};
 use std::alloc::{AllocError, Global};
 use std::marker::Model;
 
@@ -229,31 +230,30 @@ impl Partitions {
         Ok(())
     }
 
-    /// Puts a row into a free slot and gives its reference. The index of that slot is at most the extent
+    /// Moves the values of a new row into a free slot and gives its reference. The index of that slot is at most the extent
     /// that there was, and the extent grows to have it within.
-    pub fn place(&mut self, row: Row) -> RowRef
+    pub fn place(&mut self, values: &mut [Value]) -> RowRef
         requires room { 1 ≤ self.old.room }
-        requires typed { HasTypes self.old.types row }
+        requires storable { AreStorable values.old }
+        requires typed { HasTypes self.old.types values.old }
         ensures fresh { slot_at self.old result ≡ Free }
-        ensures placed { ChangesOnly self.old self.new result (Live row) }
+        ensures placed { ChangesOnly self.old self.new result (Live values.old) }
         ensures room { self.new.room + 1 ≡ self.old.room }
         ensures within { result.slot ≤ extent_of self.old }
         ensures extent { extent_of self.new ≡ max (extent_of self.old) (result.slot + 1) }
         ensures types { self.new.types ≡ self.old.types }
     {
-        row.is_storable();
-        let mut values = row.into_values();
         match self.free.pop() {
             None => {
                 let index = self.states.len();
-                push_each(&mut self.columns, index, &mut values);
+                push_each(&mut self.columns, index, values);
                 self.states.push_reserved(State::Live);
                 self.spare -= 1;
                 reference_to(index)
             }
             Some(index) => {
                 let index = index as usize;
-                swap_each(&mut self.columns, index, &mut values);
+                swap_each(&mut self.columns, index, values);
                 self.states[index] = State::Live;
                 reference_to(index)
             }
@@ -272,7 +272,7 @@ impl Partitions {
     {
         row.is_storable();
         let mut values = row.into_values();
-        swap_each(&mut self.columns, index_of(at), &mut values);
+        swap_each(&mut self.columns, index_of(at), values.as_mut_slice());
         Row::new(values)
     }
 

@@ -22,11 +22,11 @@ pub fn reserve_each(columns: &mut Vec<Column>, n: usize) -> Result<(), AllocErro
 }
 
 /// Appends a slot at this index with these values, which are gone afterwards.
-pub fn push_each(columns: &mut Vec<Column>, index: usize, values: &mut Vec<Value>)
+pub fn push_each(columns: &mut Vec<Column>, index: usize, values: &mut [Value])
     requires room { All (Fits index 1) columns.old.items }
-    requires typed { HasTypes (types_of columns.old.items) values.old.items }
+    requires typed { HasTypes (types_of columns.old.items) values.old }
     ensures types { types_of columns.new.items ≡ types_of columns.old.items }
-    ensures here { row_of columns.new.items index ≡ values.old.items }
+    ensures here { row_of columns.new.items index ≡ values.old }
     ensures others { (k : ℕ) → k ≢ index → row_of columns.new.items k ≡ row_of columns.old.items k }
     ensures fits { (spare : ℕ) → All (Fits index (spare + 1)) columns.old.items → All (Fits (index + 1) spare) columns.new.items }
 {
@@ -36,14 +36,14 @@ pub fn push_each(columns: &mut Vec<Column>, index: usize, values: &mut Vec<Value
 }
 
 /// Puts these values into a slot, and what stood there into their place.
-pub fn swap_each(columns: &mut Vec<Column>, index: usize, values: &mut Vec<Value>)
+pub fn swap_each(columns: &mut Vec<Column>, index: usize, values: &mut [Value])
     requires within { All (λ c. index < size_of c) columns.old.items }
-    requires typed { HasTypes (types_of columns.old.items) values.old.items }
+    requires typed { HasTypes (types_of columns.old.items) values.old }
     ensures types { types_of columns.new.items ≡ types_of columns.old.items }
-    ensures here { row_of columns.new.items index ≡ values.old.items }
+    ensures here { row_of columns.new.items index ≡ values.old }
     ensures others { (k : ℕ) → k ≢ index → row_of columns.new.items k ≡ row_of columns.old.items k }
     ensures fits { (size spare : ℕ) → All (Fits size spare) columns.old.items → All (Fits size spare) columns.new.items }
-    ensures values { values.new.items ≡ row_of columns.old.items index }
+    ensures values { values.new ≡ row_of columns.old.items index }
 {
     for i in 0..columns.len() {
         columns[i].swap(index, &mut values[i]);

@@ -5,7 +5,6 @@ pub mod Choosing
 pub mod Counting
 pub mod Edits
 pub mod Faults
-pub mod Few
 pub mod Fields
 pub mod Machine
 pub mod Placing

@@ -11,12 +11,11 @@ ghost use Rattle.mm_query.specs.declared.command.Mutation.TheVariants.{Insert, U
 use crate::atom::{Assignment, Atom};
 use crate::bound_query::FieldPlace;
 use crate::command::Mutation;
-use crate::few::Few;
 use crate::place::{form_faults, place_assignments, place_tests};
 use crate::row_list::RowList;
 use crate::short_list::ShortList;
 use mm_schema::{Catalog, Column, Name, NameRef};
-use mm_value::{Refusal, Row, Value};
+use mm_value::{Few, Refusal, Tuple, Value};
 use std::alloc::Global;
 
 /// A change whose names were resolved against a catalog.
@@ -148,7 +147,7 @@ fn bind_insert(catalog: &Catalog, name: &Name, tuples: RowList) -> Result<BoundC
 }
 
 /// Whether some value of some tuple differs in type from its column.
-fn have_type_mismatch(columns: &[Column], tuples: &[Row]) -> bool
+fn have_type_mismatch(columns: &[Column], tuples: &[Tuple]) -> bool
     ensures { result ≡ list_any (has_type_mismatch columns.now) tuples.now }
 {
     tuples
@@ -157,7 +156,7 @@ fn have_type_mismatch(columns: &[Column], tuples: &[Row]) -> bool
 }
 
 /// Whether some tuple has more or fewer values than there are columns.
-fn have_other_length(columns: &[Column], tuples: &[Row]) -> bool
+fn have_other_length(columns: &[Column], tuples: &[Tuple]) -> bool
     ensures { result ≡ list_any (has_other_length columns.now) tuples.now }
 {
     tuples.iter().any(|tuple| tuple.len() != columns.len())

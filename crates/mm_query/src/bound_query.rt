@@ -4,12 +4,11 @@ ghost use Rattle.mm_schema.specs.Refused.{AnswersDue, first_refusal};
 ghost use Rattle.mm_query.specs.Resolving.{IsQueryWithin, placed_query, places_in, query_conditions};
 
 use crate::atom::Atom;
-use crate::few::Few;
 use crate::query::{FromItem, Query};
 use crate::scope::{Scope, form_faults};
 use crate::short_list::ShortList;
 use mm_schema::Catalog;
-use mm_value::Refusal;
+use mm_value::{Few, Refusal};
 use std::alloc::{AllocError, Global};
 
 /// A column of a row of a combination.

@@ -1,9 +1,9 @@
 //! Commands, with all names as written.
 use crate::atom::{Assignment, Atom};
-use crate::few::Few;
 use crate::query::Query;
 use crate::row_list::RowList;
 use mm_schema::{IndexDef, Name, NameRef, TableDef};
+use mm_value::Few;
 
 /// A change of the rows of tables. The names of its columns lie in the line that it was read from.
 #[derive(Debug, Drop)]

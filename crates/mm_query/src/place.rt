@@ -11,10 +11,9 @@ ghost use Rattle.mm_query.specs.declared.atom.Atom.{Atom as Test};
 use crate::atom::{Assignment, Atom, Operand};
 use crate::bound_query::FieldPlace;
 use crate::faults::{Faults, Resolved};
-use crate::few::Few;
 use crate::short_list::ShortList;
 use mm_schema::{Columns, NameRef};
-use mm_value::ColType;
+use mm_value::{ColType, Few};
 use std::alloc::{AllocError, Global};
 
 /// The most tests of a change.

@@ -2,8 +2,8 @@
 ghost use Rattle.std.specs.Prelude.{◌≡◌};
 
 use crate::atom::Atom;
-use crate::few::Few;
 use mm_schema::{Name, NameRef};
+use mm_value::Few;
 
 /// A column of a table of FROM, as it is written: `alias.column`. `N` is a name: one of its own, or one that lies in the line.
 #[derive(Debug, Drop)]

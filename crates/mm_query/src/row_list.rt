@@ -1,13 +1,13 @@
 //! Lists of rows.
 ghost use Rattle.std.specs.Prelude.{◌≡◌};
 
-use mm_value::Row;
+use mm_value::{Few, Tuple};
 use std::marker::Model;
 
-/// Rows, one after another: the tuples of an INSERT, or the rows of a reply.
+/// Rows, one after another: the tuples of an INSERT, or the rows of a reply. An only one lies in the list itself.
 #[derive(Debug, Drop)]
 pub struct RowList {
-    rows: Vec<Row>,
+    rows: Few<Tuple>,
 }
 
 impl Model for RowList {
@@ -16,28 +16,29 @@ impl Model for RowList {
 
     ghost Value = { List (List Val) };
 
-    ghost view = { λ l. l.rows.items };
+    ghost view = { λ l. l.rows };
 }
 
 impl RowList {
     /// The list of these rows, in their order. It takes no memory.
-    pub fn new(rows: Vec<Row>) -> RowList
-        ensures { result ≡ rows.items }
+    pub fn new(rows: Few<Tuple>) -> RowList
+        ensures { result ≡ rows }
     {
         RowList { rows }
     }
 
     /// The rows, in their order.
-    pub fn as_slice(&self) -> &[Row]
+    pub fn as_slice(&self) -> &[Tuple]
         ensures { result.now ≡ self.now }
     {
-        &self.rows
+        self.rows.as_slice()
     }
 
-    /// The rows as a vector, which takes no memory.
-    pub fn into_vec(self) -> Vec<Row>
-        ensures { result.items ≡ self }
+    /// The rows, each for the caller to keep. It takes no memory.
+    pub fn into_rows(self) -> Few<Tuple>
+        ensures { result ≡ self }
     {
-        self.rows
+        let RowList { rows } = self;
+        rows
     }
 }

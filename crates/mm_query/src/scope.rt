@@ -16,12 +16,11 @@ ghost use Rattle.mm_query.specs.declared.query.FromItem.{FromItem as Item};
 use crate::atom::{Atom, Operand};
 use crate::bound_query::FieldPlace;
 use crate::faults::{Faults, Resolved};
-use crate::few::Few;
 use crate::place::resolve_column;
 use crate::query::{FieldName, FromItem, Query};
 use crate::short_list::ShortList;
 use mm_schema::{Catalog, Name, NameRef};
-use mm_value::{ColType, Refusal};
+use mm_value::{ColType, Few, Refusal};
 use std::alloc::{AllocError, Global};
 
 /// The most tables of FROM.

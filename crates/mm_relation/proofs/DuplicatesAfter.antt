@@ -186,6 +186,22 @@ module _ (key : ℕ) (now : Slots) (refs : List RowRef) (edits : List Edit) (kep
           (λ row. not (list_any (same_in_column key row) (map seen gone)) && list_any (same_in_column key row) (map (row_at now) refs)) sorted))
           ∙ same_duplicates
 
+or_false : (b : Bool) → b ≡ (b || false)
+or_false true = refl
+or_false false = refl
+
+-- a row that is added alone makes duplicates just where another row has its key
+pub duplicates_of_one : (key : ℕ) (now : Slots) (refs : List RowRef) (row : Row) (kept : List RowRef) → Stay refs (Add row ∷ []) kept
+    → InOrder key key now refs → has_duplicate_keys key (rows_after now (Add row ∷ []) kept) ≡ list_any (same_in_column key row) (map (row_at now) refs)
+unfolding outs
+duplicates_of_one key now refs row kept stay ordered =
+    let edits : List Edit = Add row ∷ [] in
+    sym (duplicates_with_kept key (outs key now refs edits kept stay ordered) (rest key now refs edits kept stay ordered)
+    (none key now refs edits kept stay ordered) (row ∷ []) (row ∷ []) (IsPermutation-refl _) (map (row_at now) refs) []
+    (all_rows key now refs edits kept stay ordered) (IsPermutation-refl []) refl
+    (list_any (same_in_column key row) (map (row_at now) refs)) (or_false _)
+    ∙ same_duplicates key now refs edits kept stay ordered)
+
 -- without duplicates the keys stay apart, as `apply` asks
 pub KeysStayApart-without_duplicates : (stored : StoredRows) (edits : List Edit)
     → ((kept : List RowRef) → Stay stored.refs edits kept → false ≡ has_duplicate_keys stored.key (rows_after (slot_at stored.places) edits kept))

@@ -1,5 +1,5 @@
 -- The way back puts as many references into the index on the key as the edits took out of it.
-use Rattle.std.proofs.Common.{◌≡◌, ℕ, ◌+◌, ◌≤◌, Bool, true, false, cond, List, [], ◌∷◌, length, Option, Some, None, refl, sym, ap, ◌∙◌, arith}
+use Rattle.std.proofs.Common.{◌≡◌, ℕ, ◌+◌, ◌≤◌, Bool, true, false, cond, List, [], ◌∷◌, length, Some, None, refl, ap, arith}
 use Rattle.std.specs.Prelude.{not}
 use Rattle.std.specs.List.{cons_option}
 use Rattle.mm_value.specs.declared.row_ref.RowRef.{RowRef}
@@ -15,8 +15,6 @@ use Rattle.mm_relation.specs.declared.indexes.names.Side.TheVariants.{Old, New}
 use Rattle.mm_relation.specs.declared.log.UndoRecord.{UndoRecord}
 use Rattle.mm_relation.specs.declared.log.UndoRecord.TheVariants.{Added, Changed, Removed}
 use Rattle.mm_relation.proofs.Apply.{length-news}
-use Rattle.mm_relation.proofs.Came.{news}
-use Rattle.mm_relation.proofs.Changed.{olds}
 use Rattle.mm_relation.proofs.DuplicatesAfter.{removal_count-cons}
 use Rattle.mm_relation.proofs.Reverted.{EntriesPaired}
 use Rattle.mm_relation.proofs.Staying.{moving, names_counted, staying}

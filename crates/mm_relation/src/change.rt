@@ -15,7 +15,7 @@ ghost use Rattle.mm_relation.specs.Inverted.{Inverted};
 use crate::edits::Edit;
 use crate::log::{Log, UndoRecord};
 use mm_partition::Partitions;
-use mm_value::RowRef;
+use mm_value::{Few, RowRef};
 
 /// Makes one edit of the slots.
 fn change(rows: &mut Partitions, edit: Edit) -> UndoRecord
@@ -28,7 +28,11 @@ fn change(rows: &mut Partitions, edit: Edit) -> UndoRecord
     ensures types { rows.new.types ≡ rows.old.types }
 {
     match edit {
-        Edit::Add(row) => UndoRecord::Added(rows.place(row)),
+        Edit::Add(tuple) => {
+            tuple.is_storable();
+            let mut values = tuple.into_values();
+            UndoRecord::Added(rows.place(values.as_mut_slice()))
+        }
         Edit::Swap(at, row) => UndoRecord::Changed(at, rows.replace(at, row)),
         Edit::Gone(at) => {
             rows.hide(at);
@@ -38,14 +42,14 @@ fn change(rows: &mut Partitions, edit: Edit) -> UndoRecord
 }
 
 /// Makes all edits of the slots, and logs them.
-pub fn change_each(rows: &mut Partitions, edits: Vec<Edit>, log: &mut Log)
-    requires room { added_count edits.items ≤ rows.old.room }
-    requires log { length edits.items ≤ log.old.room }
+pub fn change_each(rows: &mut Partitions, edits: Few<Edit>, log: &mut Log)
+    requires room { added_count edits ≤ rows.old.room }
+    requires log { length edits ≤ log.old.room }
     requires empty { log.old.entries ≡ [] }
-    requires standing { Standing (slot_at rows.old) edits.items }
-    requires typed { All (HasTypes rows.old.types) (new_rows edits.items) }
-    ensures changes { Changes edits.items (slot_at rows.old) log.new.entries (slot_at rows.new) }
-    ensures extent { extent_of rows.new ≤ extent_of rows.old + added_count edits.items }
+    requires standing { Standing (slot_at rows.old) edits }
+    requires typed { All (HasTypes rows.old.types) (new_rows edits) }
+    ensures changes { Changes edits (slot_at rows.old) log.new.entries (slot_at rows.new) }
+    ensures extent { extent_of rows.new ≤ extent_of rows.old + added_count edits }
     ensures types { rows.new.types ≡ rows.old.types }
 {
     for edit in edits {

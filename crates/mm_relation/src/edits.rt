@@ -6,13 +6,13 @@ ghost use Rattle.mm_relation.specs.Edits.{edit_name, edit_other, added_count, na
 
 use crate::index_room::IndexRoom;
 use crate::indexes::names::{Names, Side};
-use mm_value::{Row, RowRef};
+use mm_value::{Row, RowRef, Tuple};
 
 /// One change that is asked for.
 #[derive(Drop)]
 pub enum Edit {
-    /// A row more.
-    Add(Row),
+    /// A row more, of these values.
+    Add(Tuple),
     /// Another row in place of this one.
     Swap(RowRef, Row),
     /// This row goes.

@@ -1,5 +1,5 @@
 //! The rows of edits, and rows by their keys. The rows stay where they lie.
-ghost use Rattle.std.specs.Prelude.{◌≡◌, [], ◌∷◌, length, map, All, IfOk};
+ghost use Rattle.std.specs.Prelude.{◌≡◌, [], ◌∷◌, is_some, length, map, All, IfOk};
 ghost use Rattle.std.specs.List.{list_any};
 ghost use Rattle.std.specs.List.Sorted.{IsPermutation};
 ghost use Rattle.std.specs.Option.{option_copied};
@@ -16,19 +16,19 @@ use crate::edits::Edit;
 use crate::indexes::names::Side;
 use crate::moves::{compare_in, moved_name};
 use mm_partition::{Partitions, RowView};
-use mm_value::{AsRow, Row};
+use mm_value::{AsRow, Value};
 use std::alloc::{AllocError, Global};
 
-/// The new row of an edit, unless it has the key of the row that it replaces.
-fn row_with_new_key<'a>(places: &Partitions, key: usize, edit: &'a Edit) -> Option<&'a Row>
+/// The values of the new row of an edit, unless it has the key of the row that it replaces.
+fn row_with_new_key<'a>(places: &Partitions, key: usize, edit: &'a Edit) -> Option<&'a [Value]>
     requires { All (HasRow (slot_at places.now)) (named edit_name side.Old (edit.now ∷ [])) }
     ensures { option_copied result ≡ row_with_new_key_of key (slot_at places.now) edit.entry.now }
 {
     match edit {
-        Edit::Add(row) => Some(row),
+        Edit::Add(tuple) => Some(tuple.values()),
         Edit::Swap(at, row) => {
             let keeps_key = compare_in(row, &places.get(*at), key).is_eq();
-            if keeps_key { None } else { Some(row) }
+            if keeps_key { None } else { Some(row.values()) }
         }
         Edit::Gone(_) => None,
     }
@@ -40,7 +40,7 @@ pub fn rows_with_new_keys<'a>(
     places: &Partitions,
     key: usize,
     edits: &'a [Edit],
-) -> Result<Vec<&'a Row>, AllocError>
+) -> Result<Vec<&'a [Value]>, AllocError>
     requires { All (HasRow (slot_at places.now)) (named edit_name side.Old edits.now) }
     ensures { IfOk result (λ rows. map (λ row. row.now) rows.items ≡ rows_with_new_keys_of key (slot_at places.now) edits.entry.now) }
 {
@@ -72,6 +72,14 @@ pub fn rows_that_free_keys<'a>(
     Ok(rows)
 }
 
+/// Whether a row goes by an edit or gets another key.
+fn frees_key(places: &Partitions, key: usize, edit: &Edit) -> bool
+    requires { All (HasRow (slot_at places.now)) (named edit_name side.Old (edit.now ∷ [])) }
+    ensures { result ≡ is_some (moved edit_name edit_other key key (slot_at places.now) edit.now side.Old) }
+{
+    moved_name(places, key, key, edit, Side::Old).is_some()
+}
+
 /// How many rows go by the edits or get another key.
 pub fn count_moved(places: &Partitions, key: usize, edits: &[Edit]) -> usize
     requires { All (HasRow (slot_at places.now)) (named edit_name side.Old edits.now) }
@@ -79,7 +87,7 @@ pub fn count_moved(places: &Partitions, key: usize, edits: &[Edit]) -> usize
 {
     let mut count = 0;
     for edit in edits {
-        if moved_name(places, key, key, edit, Side::Old).is_some() {
+        if frees_key(places, key, edit) {
             count += 1;
         }
     }
@@ -103,10 +111,10 @@ pub fn has_equal_neighbours<R: AsRow>(rows: &[R], key: usize) -> bool
 }
 
 /// Whether one of the sorted rows has the key of `row`: a binary search.
-pub fn contains_key<R: AsRow>(rows: &[R], row: &Row, key: usize) -> bool
+pub fn contains_key<R: AsRow>(rows: &[R], row: &[Value], key: usize) -> bool
     requires { AreByKey R.AsRow.row key rows.now }
     ensures { result ≡ list_any (same_in_column key row.now) (map R.AsRow.row rows.now) }
 {
-    rows.binary_search_by(|other| compare_in(other, row, key))
+    rows.binary_search_by(|other| compare_in(other, &row, key))
         .is_ok()
 }

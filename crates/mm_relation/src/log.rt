@@ -6,7 +6,7 @@ use crate::indexes::names::{Names, Side};
 use mm_value::{Row, RowRef};
 use std::alloc::{AllocError, Global};
 use std::marker::Model;
-use std::mem;
+use std::{mem, slice};
 
 /// An undo record: one change of a row.
 #[derive(Drop)]
@@ -58,29 +58,39 @@ impl Names for UndoRecord {
     }
 }
 
-/// The changes of one command, the oldest first.
+/// The changes of one command, the oldest first. An only one lies in the log itself, so that the log of a command that changes one
+/// row takes no block.
 #[derive(Drop)]
 pub struct Log {
-    entries: Vec<UndoRecord>,
+    alloc: Global,
+    records: Records,
+}
+
+/// Where the changes lie.
+#[derive(Drop)]
+pub(crate) enum Records {
+    /// There is one.
+    Only(UndoRecord),
+    /// There are so many. A vector that has no room stands for a log that takes one change.
+    All(Vec<UndoRecord>),
 }
 
 impl Model for Log {
-    ghost use Rattle.std.specs.Prelude.{◌-◌, vec_len};
-    ghost use Rattle.std.specs.Vec.{vec_capacity};
-    ghost use Rattle.mm_relation.specs.UndoRecords.{UndoRecords};
+    ghost use Rattle.mm_relation.specs.UndoRecords.{UndoRecords, records_in};
 
     ghost Value = { UndoRecords };
 
-    ghost view = { λ u. record { entries = u.entries.items; room = vec_capacity u.entries - vec_len u.entries } };
+    ghost view = { λ u. records_in u.records };
 }
 
 impl Log {
     /// No changes. It takes no memory.
     pub fn new(alloc: Global) -> Log
-        ensures { result ≡ record { entries = []; room = 0 } }
+        ensures { result ≡ record { entries = []; room = 1 } }
     {
         Log {
-            entries: Vec::new(alloc),
+            alloc,
+            records: Records::All(Vec::new(alloc)),
         }
     }
 
@@ -88,20 +98,30 @@ impl Log {
     pub fn entries(&self) -> &[UndoRecord]
         ensures { result.now ≡ self.now.entries }
     {
-        self.entries.as_slice()
+        match &self.records {
+            Records::Only(record) => slice::from_ref(record),
+            Records::All(records) => records.as_slice(),
+        }
     }
 
-    /// Makes room for at least `n` more changes, and in an empty log for no more, since an open transaction keeps it. The changes
-    /// stay, and so does the room that was there; `AllocError` where memory is refused.
-    pub(crate) fn reserve(&mut self, alloc: Global, n: usize) -> Result<(), AllocError>
+    /// Makes room in an empty log for at least `n` changes, and for no more where it has none, since an open transaction keeps it.
+    /// The room that was there stays; `AllocError` where memory is refused, which it is not for one change.
+    pub(crate) fn reserve(&mut self, n: usize) -> Result<(), AllocError>
+        requires { self.old.entries ≡ [] }
         ensures room { OnOk result (n ≤ self.new.room) }
         ensures entries { self.new.entries ≡ self.old.entries }
-        ensures kept { self.old.room ≤ self.new.room }
+        ensures one { n ≤ 1 → IsOk result }
     {
-        if self.entries.is_empty() && self.entries.capacity() < n {
-            self.entries = Vec::with_capacity(alloc, n)?;
+        let Records::All(records) = &mut self.records else {
+            unreachable!()
+        };
+        if records.capacity() == 0 {
+            if n > 1 {
+                *records = Vec::with_capacity(self.alloc, n)?;
+            }
+            return Ok(());
         }
-        self.entries.reserve(n)
+        records.reserve(n)
     }
 
     /// Appends the record of a change.
@@ -110,7 +130,14 @@ impl Log {
         ensures entries { self.new.entries ≡ self.old.entries ++ entry ∷ [] }
         ensures room { self.old.room ≤ self.new.room + 1 }
     {
-        self.entries.push_reserved(entry);
+        let Records::All(records) = &mut self.records else {
+            unreachable!()
+        };
+        if records.capacity() == 0 {
+            self.records = Records::Only(entry);
+            return;
+        }
+        records.push_reserved(entry);
     }
 
     /// Puts another change in the place of one, and gives that one.
@@ -119,14 +146,19 @@ impl Log {
         ensures was { slice_get self.old.entries index ≡ Some result }
         ensures entries { self.new.entries ≡ slice_set self.old.entries index entry }
     {
-        mem::replace(&mut self.entries[index], entry)
+        match &mut self.records {
+            Records::Only(record) => mem::replace(record, entry),
+            Records::All(records) => mem::replace(&mut records[index], entry),
+        }
     }
 
-    /// Forgets the changes. The room for them is kept.
+    /// Forgets the changes. The room for more than one is kept.
     pub(crate) fn clear(&mut self)
         ensures entries { self.new.entries ≡ [] }
-        ensures room { self.old.room ≤ self.new.room }
     {
-        self.entries.clear();
+        match &mut self.records {
+            Records::Only(_) => self.records = Records::All(Vec::new(self.alloc)),
+            Records::All(records) => records.clear(),
+        }
     }
 }

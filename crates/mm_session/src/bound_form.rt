@@ -14,7 +14,7 @@ use crate::replies::Kept;
 use crate::responding::respond;
 use mm_query::{Bound, BoundChange, Command, Mutation, Query, Reply, RowBuffer, RowList};
 use mm_txn::{ChangeToRun, Db};
-use mm_value::Refusal;
+use mm_value::{Few, Refusal, Tuple};
 use std::alloc::{AllocError, Global};
 
 /// The bound form of a command, which has places in place of names.
@@ -164,9 +164,9 @@ fn copy_rows(alloc: Global, rows: &RowList) -> Result<RowList, AllocError>
     ensures { IfOk result (λ copies. copies ≡ rows.now) }
 {
     let rows = rows.as_slice();
-    let mut copies = Vec::with_capacity(alloc, rows.len())?;
+    let mut copies = Few::with_capacity(alloc, rows.len())?;
     for row in rows {
-        copies.push(row.copy(alloc)?)?;
+        copies.push(alloc, Tuple::copy_of(alloc, row.values())?)?;
     }
     Ok(RowList::new(copies))
 }

@@ -1,11 +1,11 @@
 -- Parts that were filled, put together.
-use Rattle.std.proofs.Common.{◌≡◌, ◌<◌, ◌≤◌, ◌+◌, arith, ℕ, suc, List, [], ◌∷◌, ◌++◌, Option, Some, None}
-use Rattle.std.proofs.Common.{Err, length, map, take, drop, get_or, set, refl, sym, ap, ◌∙◌}
+use Rattle.std.proofs.Common.{◌≡◌, ◌<◌, ◌+◌, ℕ, suc, List, [], ◌∷◌, ◌++◌, Option, Some, None}
+use Rattle.std.proofs.Common.{Err, length, map, take, drop, get_or, refl, sym, ap, ◌∙◌}
 use Rattle.std.proofs.Common.{inl, inr, subst, append_assoc, append-nil}
 use Rattle.std.specs.List.{flat_map}
 use Rattle.std.specs.Option.{option_or, unwrap_or}
 use Rattle.std.proofs.Math.IntN.{ℤ}
-use Rattle.std.proofs.lemmas.List.{drop-set-lt, drop_more, take-append-drop, take_all, take_more, take_more_set}
+use Rattle.std.proofs.lemmas.List.{drop_more, take-append-drop, take_more}
 use Rattle.std.proofs.lemmas.List.Concat.{flat_map-append}
 use Rattle.mm_value.specs.Types.{type_of}
 use Rattle.mm_value.specs.declared.refusal.Refusal.{Refusal}
@@ -19,7 +19,7 @@ use Rattle.mm_lang.specs.Reading.{first_fault, literal_fault, operand_literals, 
 use Rattle.mm_statement.specs.Filling.{blank_assignment, blank_atom, blank_operand, blank_value}
 use Rattle.mm_statement.specs.declared.filler.Filler.{Filler}
 use Rattle.mm_statement.specs.steps.Counts.{IsCounted}
-use Rattle.mm_statement.specs.steps.Fills.{Fills, FillsPart, Goes, InPlace, IsUnfillable, Replaces, blank_number, fault_of, filled_by}
+use Rattle.mm_statement.specs.steps.Fills.{Fills, FillsPart, Goes, IsUnfillable, Replaces, blank_number, fault_of, filled_by}
 use Rattle.mm_statement.specs.steps.Fills.{number_of, only_number, only_value}
 use Rattle.mm_statement.proofs.Fillers.{fault-append, or_assoc, or_none, or_none_parts}
 use Rattle.mm_statement.proofs.Shapes.{same_parts}
@@ -280,8 +280,6 @@ at_place xs i d here = sym (take-append-drop i xs) ∙ ap (λ l. take i xs ++ l)
 pub one_read : {X : Type 0} (xs : List X) (i : ℕ) (x : X) → i < length xs → x ≡ get_or xs i x → take (i + 1) xs ≡ take i xs ++ x ∷ []
 one_read xs i x here is = take_more xs i x here ∙ ap (λ y. take i xs ++ y ∷ []) (sym is)
 
--- ---- rows that are filled where they lie
-
 -- Where two lists are the same from a place on, so are their elements there, and what is behind it.
 pub from_here : {X : Type 0} (xs ys : List X) (i : ℕ) (d : X) → i < length xs → i < length ys → drop i ys ≡ drop i xs
     → (get_or ys i d ≡ get_or xs i d) × (drop (i + 1) ys ≡ drop (i + 1) xs)
@@ -291,23 +289,3 @@ from_here xs ys i d here there same =
     let head : get_or ys i d ≡ get_or xs i d = cc in
     let tail : drop (i + 1) ys ≡ drop (i + 1) xs = cc in
     (head, tail)
-
-module _ {A : Type 0} (blank : A → A) (literals : A → List Value) (old : Filler) (first : List A) where
-  pub in_place_next : (mid new : Filler) (now : List A) (i : ℕ) (x y : A) → i < length first → i < length now → InPlace blank literals old mid first now i
-      → x ≡ get_or now i x → Fills blank literals mid new x y → InPlace blank literals old new first (set now i y) (i + 1)
-  in_place_next mid new now i x y here there h is f =
-      let same = from_here first now i x here there h.left in
-      record {
-        filled =
-            subst (λ l. Fills (map blank) (flat_map literals) old new (take (i + 1) first) l) (sym (take_more_set now i y there))
-            (subst (λ l. Fills (map blank) (flat_map literals) old new l (take i now ++ y ∷ []))
-            (sym (one_read first i x here (is ∙ same.0)))
-            (fills_next blank literals old mid new (take i first) (take i now) x y h.filled f));
-        left = drop-set-lt (i + 1) now i y (omega arith) ∙ same.1;
-      }
-
-  pub in_place_end : (new : Filler) (now : List A) (i : ℕ) → length first ≤ i → length now ≤ i → InPlace blank literals old new first now i
-      → Fills (map blank) (flat_map literals) old new first now
-  in_place_end new now i here there h =
-      subst (λ l. Fills (map blank) (flat_map literals) old new first l) (take_all i now there)
-      (subst (λ l. Fills (map blank) (flat_map literals) old new l (take i now)) (take_all i first here) h.filled)

@@ -1,17 +1,17 @@
 //! The parts of a command that have literals.
-ghost use Rattle.std.specs.Prelude.{◌≡◌, List, OnOk, map};
+ghost use Rattle.std.specs.Prelude.{◌≡◌, List, map};
 ghost use Rattle.std.specs.List.{flat_map};
 ghost use Rattle.std.specs.Mem.{FitsInMemory};
 ghost use Rattle.mm_lang.specs.Reading.{assignment_literals, operand_literals, test_literals};
 ghost use Rattle.mm_statement.specs.Filling.{blank_assignment, blank_atom, blank_operand, blank_value};
-ghost use Rattle.mm_statement.specs.steps.Fills.{Fills, FillsPart, FillsWithMemory, blank_number, number_of, only_number, only_value};
+ghost use Rattle.mm_statement.specs.steps.Fills.{FillsPart, FillsWithMemory, blank_number, number_of, only_number, only_value};
 ghost use Rattle.mm_statement.specs.steps.Counts.{IsCounted, assignments_counted, tests_counted};
 ghost use Rattle.mm_value.specs.declared.values.Value.{Value as Val};
 
 use crate::filler::Filler;
-use mm_query::{Assignment, Atom, Few, Operand, RowList};
+use mm_query::{Assignment, Atom, Operand, RowList};
 use mm_schema::NameRef;
-use mm_value::{Refusal, Row, Value};
+use mm_value::{Few, Refusal, Tuple, Value};
 use std::alloc::{AllocError, Global};
 
 /// A part of a command that has literals.
@@ -133,7 +133,7 @@ pub(crate) fn fill_few<T: Fill>(
     Ok(Few::from_vec(filled))
 }
 
-/// Tuples with the next values in their holes. `AllocError` where memory is refused.
+/// Tuples with the next values in their holes, and copies of their other literals. `AllocError` where memory is refused.
 pub(crate) fn fill_tuples(
     alloc: Global,
     filler: &mut Filler<'_>,
@@ -141,32 +141,24 @@ pub(crate) fn fill_tuples(
 ) -> Result<RowList, AllocError>
     ensures { FillsWithMemory (map (map blank_value)) (flat_map (λ tuple. tuple)) filler.old filler.new tuples result }
 {
-    let mut rows = tuples.into_vec();
-    fill_rows(alloc, filler, &mut rows)?;
-    Ok(RowList::new(rows))
-}
-
-/// Puts the next values into the holes of rows. `AllocError` where memory is refused.
-fn fill_rows(alloc: Global, filler: &mut Filler<'_>, rows: &mut [Row]) -> Result<(), AllocError>
-    ensures { OnOk result (Fills (map (map blank_value)) (flat_map (λ tuple. tuple)) filler.old filler.new rows.old rows.new) }
-{
-    for row in rows.iter_mut() {
-        let filled = fill_tuple(alloc, filler, row)?;
-        *row = filled;
+    let mut filled = Few::with_capacity(alloc, tuples.as_slice().len())?;
+    for tuple in tuples.as_slice() {
+        let row = fill_tuple(alloc, filler, tuple)?;
+        filled.push(alloc, row)?;
     }
-    Ok(())
+    Ok(RowList::new(filled))
 }
 
 /// A tuple with the next values in its holes, and copies of its other literals. `AllocError` where memory is refused.
-fn fill_tuple(alloc: Global, filler: &mut Filler<'_>, tuple: &Row) -> Result<Row, AllocError>
+fn fill_tuple(alloc: Global, filler: &mut Filler<'_>, tuple: &Tuple) -> Result<Tuple, AllocError>
     ensures { FillsWithMemory (map blank_value) (λ tuple. tuple) filler.old filler.new tuple.now result }
 {
-    let mut values = Vec::with_capacity(alloc, tuple.len())?;
+    let mut filled = Tuple::with_capacity(alloc, tuple.len())?;
     for literal in tuple.values() {
         let value = fill_literal(alloc, filler, literal)?;
-        values.push(value)?;
+        filled.push(value)?;
     }
-    Ok(Row::new(values))
+    Ok(filled)
 }
 
 /// The next value, where a literal is a hole, or a copy of the literal. `AllocError` where memory is refused for a text.

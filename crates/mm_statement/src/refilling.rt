@@ -13,7 +13,7 @@ ghost use Rattle.mm_value.specs.declared.values.Value.TheVariants.{Int};
 use crate::holes::Holes;
 use crate::refiller::{Refiller, Stop};
 use mm_query::{Assignment, Atom, BoundQuery, FieldPlace, Operand, RowList, ShortList};
-use mm_value::{Row, Value};
+use mm_value::{Few, Tuple, Value};
 use std::alloc::{AllocError, Global};
 
 /// Puts new values into the holes of a bound query, in written order. Nothing else of it is touched, and only a text of more than 16
@@ -58,7 +58,7 @@ pub fn refill_delete(
 }
 
 /// The rows of a bound INSERT with new values in their holes and copies of the other values. `None` where `refill_query` gives `false`.
-/// `AllocError` where memory is refused for the list, a row, or a text of more than 16 bytes.
+/// `AllocError` where memory is refused for a list of several rows, a row of more than 4 values, or a text of more than 16 bytes.
 pub fn refilled_rows(
     alloc: Global,
     holes: &Holes,
@@ -206,25 +206,25 @@ fn filled_rows(
     ensures { IfOk result (Refills (map (map blank_value)) (flat_map (λ (row : List Val). row)) holes.now values.now rows.now) }
 {
     let mut refiller = Refiller::new(holes, values);
-    let mut filled = Vec::with_capacity(alloc, rows.as_slice().len())?;
+    let mut filled = Few::with_capacity(alloc, rows.as_slice().len())?;
     for row in rows.as_slice() {
         let row = filled_row(alloc, &mut refiller, row)?;
-        filled.push(row)?;
+        filled.push(alloc, row)?;
     }
     refiller.finish()?;
     Ok(RowList::new(filled))
 }
 
 /// A row with the next values in its holes, and copies of its other values.
-fn filled_row(alloc: Global, refiller: &mut Refiller<'_>, row: &Row) -> Result<Row, Stop>
+fn filled_row(alloc: Global, refiller: &mut Refiller<'_>, row: &Tuple) -> Result<Tuple, Stop>
     ensures { IfOk result (RefillsPart (map blank_value) (λ (row : List Val). row) refiller.old refiller.new row.now) }
 {
-    let mut values = Vec::with_capacity(alloc, row.len())?;
+    let mut filled = Tuple::with_capacity(alloc, row.len())?;
     for literal in row.values() {
         let value = filled_value(alloc, refiller, literal)?;
-        values.push(value)?;
+        filled.push(value)?;
     }
-    Ok(Row::new(values))
+    Ok(filled)
 }
 
 /// The next value, where a literal is a hole, or a copy of the literal.

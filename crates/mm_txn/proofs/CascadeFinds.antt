@@ -88,7 +88,7 @@ filter_push q xs x b is = filter-append q xs (x ∷ []) ∙ ap (λ c. filter q x
 -- What is found at a place behind another.
 pub removals_found : (own : PlacedEdits) (cascaded : List RelationEdits) (place k : ℕ) (x : RelationEdits) → k < length cascaded → x ≡ get_or cascaded k x
     → x.table ≡ place → own.0 ≢ place → edits_at (map placed (drop k cascaded)) place ≡ edits_at (map placed cascaded) place
-    → x.edits.items ≡ edits_at (own ∷ map placed cascaded) place
+    → x.edits ≡ edits_at (own ∷ map placed cascaded) place
 removals_found own cascaded place k x within is here other rest =
     sym (ap (λ b. option_map_or (λ (d : PlacedEdits). d.1) (cond b (Some (placed x))
     (find (λ (d : PlacedEdits). d.0 == place) (map placed (drop (suc k) cascaded)))) [])

@@ -158,12 +158,12 @@ module _ (old : Tables) (own : RelationEdits) (cascaded : List RelationEdits) (a
   many = omega (arith, several, length-map cascaded placed)
 
   -- The first edits fit their relation, and only take rows out of it.
-  pub own_fit : (stored : StoredRows) → IsAt old own.table stored → AreFit stored own.edits.items
+  pub own_fit : (stored : StoredRows) → IsAt old own.table stored → AreFit stored own.edits
   own_fit stored at =
       let first = All-head (FitsAt old) (placed own) (map placed cascaded) are.fit in
-      subst (λ (s : StoredRows). AreFit s own.edits.items) (one_relation first.0 stored (sym first.1 ∙ at)) first.2
+      subst (λ (s : StoredRows). AreFit s own.edits) (one_relation first.0 stored (sym first.1 ∙ at)) first.2
 
-  pub own_removals : new_rows own.edits.items ≡ []
+  pub own_removals : new_rows own.edits ≡ []
   own_removals = All-head (λ (c : PlacedEdits). new_rows c.1 ≡ []) (placed own) (map placed cascaded) (are.removals many)
 
   pub all_left : AreLeft old own cascaded cascaded old

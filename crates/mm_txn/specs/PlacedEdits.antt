@@ -27,7 +27,7 @@ abbrev pub PlacedEdits : Type 0
 PlacedEdits = ℕ × List Edit
 
 abbrev pub placed : RelationEdits → PlacedEdits
-placed edits = (edits.table, edits.edits.items)
+placed edits = (edits.table, edits.edits)
 
 -- The same of a change that the lists take.
 abbrev pub placed_change : TableChange → PlacedEdits

@@ -19,7 +19,7 @@ use mm_delta::{references_of_gone, row_gone};
 use mm_relation::Edit;
 use mm_schema::{Catalog, Column, Name};
 use mm_store::{IndexRef, Store, View};
-use mm_value::RowRef;
+use mm_value::{Few, RowRef};
 use std::alloc::{AllocError, Global};
 
 /// A CASCADE column of a table, and the rows that go of the table that it refers to.
@@ -45,7 +45,7 @@ pub(crate) fn cascades(
     requires kept { AreKept catalog.now store.now }
     requires distinct { HasDistinctNames catalog.now }
     requires fit { FitsAt store.now (placed own.now) }
-    requires removals { new_rows own.now.edits.items ≡ [] }
+    requires removals { new_rows own.now.edits ≡ [] }
     ensures are { IfOk result (λ cascaded. AreEdits store.now (placed own.now ∷ map placed cascaded.items)) }
     ensures cascades { IfOk result (λ cascaded. map (named catalog.now store.now.tables) (placed own.now ∷ map placed cascaded.items)
         ≡ with_cascades catalog.now catalog.now.tables (instance_of store.now.tables) (named catalog.now store.now.tables (placed own.now) ∷ [])) }
@@ -54,8 +54,10 @@ pub(crate) fn cascades(
     let count = catalog.tables().len();
     for table in own.table + 1..count {
         let edits = cascaded_edits(alloc, catalog, store, table, own, cascaded.as_slice())?;
-        if !edits.is_empty() {
+        if !edits.as_slice().is_empty() {
             cascaded.push(RelationEdits { table, edits })?;
+        } else {
+            drop(edits);
         }
     }
     Ok(cascaded)
@@ -69,15 +71,15 @@ fn cascaded_edits(
     table: usize,
     own: &RelationEdits,
     cascaded: &[RelationEdits],
-) -> Result<Vec<Edit>, AllocError>
+) -> Result<Few<Edit>, AllocError>
     requires kept { AreKept catalog.now store.now }
     requires distinct { HasDistinctNames catalog.now }
     requires there { table < length catalog.now.tables }
     requires are { AreEdits store.now (placed own.now ∷ map placed cascaded.now) }
-    ensures fit { IfOk result (λ edits. FitsAt store.now (table, edits.items)) }
-    ensures removals { IfOk result (λ edits. new_rows edits.items ≡ []) }
+    ensures fit { IfOk result (λ edits. FitsAt store.now (table, edits)) }
+    ensures removals { IfOk result (λ edits. new_rows edits ≡ []) }
     ensures pairs { IfOk result (λ edits. (t : Table) → slice_get catalog.now.tables table ≡ Some t
-        → pairs_at store.now.tables (table, edits.items)
+        → pairs_at store.now.tables (table, edits)
         ≡ removals_of (filter (is_cascaded catalog.now (map (named catalog.now store.now.tables) (placed own.now ∷ map placed cascaded.now))
         t.definition.columns)
         (rows_at store.now.tables table))) }

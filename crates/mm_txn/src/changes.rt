@@ -152,13 +152,13 @@ fn remove_from(
     undo: &mut Undo,
 ) -> Result<(), Refusal>
     requires there { removals.table < length store.old.tables }
-    requires fit { (stored : StoredRows) → IsAt store.old removals.table stored → AreFit stored removals.edits.items }
-    requires removals { new_rows removals.edits.items ≡ [] }
+    requires fit { (stored : StoredRows) → IsAt store.old removals.table stored → AreFit stored removals.edits }
+    requires removals { new_rows removals.edits ≡ [] }
     requires fits { CanUndo store.old undo.old }
     ensures due { (stored : StoredRows) → IsAt store.old removals.table stored
-        → AnswersDue (if makes_orphans store.old removals.table stored.key (edit_pairs (slot_at stored.places) removals.edits.items) then Some RowIsReferenced else None) result }
+        → AnswersDue (if makes_orphans store.old removals.table stored.key (edit_pairs (slot_at stored.places) removals.edits) then Some RowIsReferenced else None) result }
     ensures ok { OnOk result ((stored : StoredRows) → IsAt store.old removals.table stored
-        → (new : StoredRows) × Turns store.old removals.table new store.new × HasRows stored (rows_with stored removals.edits.items) new) }
+        → (new : StoredRows) × Turns store.old removals.table new store.new × HasRows stored (rows_with stored removals.edits) new) }
     ensures form { EachTurns SameForm store.old.tables store.new.tables }
     ensures links { store.new.links ≡ store.old.links }
     ensures logged { (entries : List Logged) × (undo.new ≡ undo.old ++ entries) }

@@ -17,7 +17,7 @@ use crate::row_edits::{additions, removals, updates};
 use mm_delta::TableChange;
 use mm_relation::Edit;
 use mm_store::Store;
-use mm_value::Refusal;
+use mm_value::{Few, Refusal};
 use std::alloc::Global;
 
 /// Edits of the relation of one table.
@@ -26,7 +26,7 @@ pub(crate) struct RelationEdits {
     /// The table's place in the order of creation.
     pub(crate) table: usize,
     /// The edits, of which each names another row.
-    pub(crate) edits: Vec<Edit>,
+    pub(crate) edits: Few<Edit>,
 }
 
 impl RelationEdits {
@@ -87,11 +87,11 @@ fn own_edits(
     ensures due { (schema : Schema) (mutation : Mutation) → AreOf schema.tables store.now.tables → IsBoundChange schema mutation (bound_of change.entry)
         → AnswersDue (first_refusal (binding_conditions mutation schema ++ value_conditions mutation (state_of schema store.now.tables))) result }
     ensures ok { IfOk result (λ e. (schema : Schema) (mutation : Mutation) → AreOf schema.tables store.now.tables
-        → IsBoundChange schema mutation (bound_of change.entry) → AreOwnEditsOf mutation schema store.now.tables e.table e.edits.items) }
+        → IsBoundChange schema mutation (bound_of change.entry) → AreOwnEditsOf mutation schema store.now.tables e.table e.edits) }
 {
     match change {
         ChangeToRun::Insert { table, tuples } => {
-            let edits = additions(alloc, tuples.into_vec())?;
+            let edits = additions(alloc, tuples.into_rows())?;
             Ok(RelationEdits { table, edits })
         }
         ChangeToRun::Update {

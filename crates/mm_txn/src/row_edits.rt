@@ -23,17 +23,21 @@ use mm_plan::{find_rows, in_key_order};
 use mm_query::{Assignment, Atom, FieldPlace, updated_row};
 use mm_relation::Edit;
 use mm_store::View;
-use mm_value::{Refusal, Row, RowRef};
+use mm_value::{Few, Refusal, RowRef, Tuple};
 use smallvec::SmallVec;
 use std::alloc::{AllocError, Global};
 
 /// Edits that add these rows, in their order. They name no row that is there. `AllocError` where memory is refused.
-pub(crate) fn additions(alloc: Global, rows: Vec<Row>) -> Result<Vec<Edit>, AllocError>
-    ensures pairs { IfOk result (λ edits. (now : Slots) → edit_pairs now edits.items ≡ additions rows.items) }
-    ensures standing { IfOk result (λ edits. (now : Slots) → Standing now edits.items) }
-    ensures rows { IfOk result (λ edits. new_rows edits.items ≡ rows.items) }
+pub(crate) fn additions(alloc: Global, rows: Few<Tuple>) -> Result<Few<Edit>, AllocError>
+    ensures pairs { IfOk result (λ edits. (now : Slots) → edit_pairs now edits ≡ additions rows) }
+    ensures standing { IfOk result (λ edits. (now : Slots) → Standing now edits) }
+    ensures rows { IfOk result (λ edits. new_rows edits ≡ rows) }
 {
-    rows.into_iter().map(Edit::Add).collect(alloc)
+    let mut edits = Few::with_capacity(alloc, rows.as_slice().len())?;
+    for row in rows {
+        edits.push(alloc, Edit::Add(row))?;
+    }
+    Ok(edits)
 }
 
 /// Edits that put in place of each row that meets all atoms the row that the assignments make of it. The rows are found as for a
@@ -45,14 +49,14 @@ pub(crate) fn updates(
     table: usize,
     assignments: &[Assignment<usize>],
     atoms: &[Atom<FieldPlace>],
-) -> Result<Vec<Edit>, Refusal>
+) -> Result<Few<Edit>, Refusal>
     requires there { table < length view.old.store.tables }
     requires assignments { (stored : StoredRows) → IsAt view.old.store table stored → AssignmentsWithin (length stored.places.types) assignments.now }
     ensures due { (stored : StoredRows) → IsAt view.old.store table stored
         → AnswersDue (first_refusal (range_conditions (new_values (updates_of assignments.now (filter (meets atoms.now) (rows_of stored)))))) result }
     ensures pairs { IfOk result (λ edits. (stored : StoredRows) → IsAt view.old.store table stored
-        → edit_pairs (slot_at stored.places) edits.items ≡ updates_of assignments.now (filter (meets atoms.now) (rows_of stored))) }
-    ensures standing { IfOk result (λ edits. (stored : StoredRows) → IsAt view.old.store table stored → Standing (slot_at stored.places) edits.items) }
+        → edit_pairs (slot_at stored.places) edits ≡ updates_of assignments.now (filter (meets atoms.now) (rows_of stored))) }
+    ensures standing { IfOk result (λ edits. (stored : StoredRows) → IsAt view.old.store table stored → Standing (slot_at stored.places) edits) }
 {
     let found = find_rows(alloc, view, table, atoms)?;
     swaps(alloc, view, table, found.as_slice(), assignments)
@@ -65,18 +69,19 @@ fn swaps(
     table: usize,
     refs: &[RowRef],
     assignments: &[Assignment<usize>],
-) -> Result<Vec<Edit>, Refusal>
+) -> Result<Few<Edit>, Refusal>
     requires there { table < length view.old.store.tables }
     requires live { (stored : StoredRows) → IsAt view.old.store table stored → All (IsLive stored.places) refs.now }
     requires assignments { (stored : StoredRows) → IsAt view.old.store table stored → AssignmentsWithin (length stored.places.types) assignments.now }
     ensures due { (stored : StoredRows) → IsAt view.old.store table stored → AnswersDue (first_refusal (range_conditions
         (flat_map (λ at. updated_row assignments.now (row_at (slot_at stored.places) at)) refs.now))) result }
     ensures made { IfOk result (λ edits. (stored : StoredRows) → IsAt view.old.store table stored
-        → edits.items ≡ map (swap_of (slot_at stored.places) assignments.now) refs.now) }
+        → edits ≡ map (swap_of (slot_at stored.places) assignments.now) refs.now) }
 {
-    let mut edits = Vec::with_capacity(alloc, refs.len())?;
+    let mut edits = Few::with_capacity(alloc, refs.len())?;
     for at in refs {
-        edits.push(swap(alloc, *at, view.row(table, *at), assignments)?)?;
+        let edit = swap(alloc, *at, view.row(table, *at), assignments)?;
+        edits.push(alloc, edit)?;
     }
     Ok(edits)
 }
@@ -103,14 +108,14 @@ pub(crate) fn removals(
     view: &mut View<'_>,
     table: usize,
     atoms: &[Atom<FieldPlace>],
-) -> Result<Vec<Edit>, AllocError>
+) -> Result<Few<Edit>, AllocError>
     requires { table < length view.old.store.tables }
     ensures pairs { IfOk result (λ edits. (stored : StoredRows) → IsAt view.old.store table stored
-        → edit_pairs (slot_at stored.places) edits.items ≡ removals_of (filter (meets atoms.now) (rows_of stored))) }
-    ensures fit { IfOk result (λ edits. (stored : StoredRows) → IsAt view.old.store table stored → AreFit stored edits.items) }
+        → edit_pairs (slot_at stored.places) edits ≡ removals_of (filter (meets atoms.now) (rows_of stored))) }
+    ensures fit { IfOk result (λ edits. (stored : StoredRows) → IsAt view.old.store table stored → AreFit stored edits) }
 {
     let found = find_rows(alloc, view, table, atoms)?;
-    found.into_iter().map(Edit::Gone).collect(alloc)
+    gone_each(alloc, found.as_slice())
 }
 
 /// Edits that take out the rows of these references, each once and in key order, however the references stand. `AllocError` where
@@ -120,13 +125,24 @@ pub(crate) fn removals_at(
     view: &mut View<'_>,
     table: usize,
     refs: Vec<RowRef>,
-) -> Result<Vec<Edit>, AllocError>
+) -> Result<Few<Edit>, AllocError>
     requires there { table < length view.old.store.tables }
     requires live { (stored : StoredRows) → IsAt view.old.store table stored → All (IsLive stored.places) refs.items }
-    ensures items { IfOk result (λ edits. (stored : StoredRows) → IsAt view.old.store table stored → edits.items ≡ map Gone (among refs.items stored)) }
-    ensures fit { IfOk result (λ edits. (stored : StoredRows) → IsAt view.old.store table stored → AreFit stored edits.items) }
-    ensures none_comes { IfOk result (λ edits. new_rows edits.items ≡ []) }
+    ensures items { IfOk result (λ edits. (stored : StoredRows) → IsAt view.old.store table stored → edits ≡ map Gone (among refs.items stored)) }
+    ensures fit { IfOk result (λ edits. (stored : StoredRows) → IsAt view.old.store table stored → AreFit stored edits) }
+    ensures none_comes { IfOk result (λ edits. new_rows edits ≡ []) }
 {
     let gone = in_key_order(alloc, view, table, SmallVec::from_vec(refs))?;
-    gone.into_iter().map(Edit::Gone).collect(alloc)
+    gone_each(alloc, gone.as_slice())
+}
+
+/// Edits that take out the rows of these references, in their order. `AllocError` where memory is refused.
+fn gone_each(alloc: Global, refs: &[RowRef]) -> Result<Few<Edit>, AllocError>
+    ensures { IfOk result (λ edits. edits ≡ map Gone refs.now) }
+{
+    let mut edits = Few::with_capacity(alloc, refs.len())?;
+    for at in refs {
+        edits.push(alloc, Edit::Gone(*at))?;
+    }
+    Ok(edits)
 }

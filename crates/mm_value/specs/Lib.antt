@@ -1,6 +1,7 @@
 pub mod Device
 pub mod Equality
 pub mod EqualityLaws
+pub mod Few
 pub mod Hash
 pub mod Literal
 pub mod Order

@@ -4,8 +4,9 @@ ghost use Rattle.std.specs.Option.{option_map};
 ghost use Rattle.mm_value.specs.Views.{value_of};
 ghost use Rattle.mm_value.specs.declared.values.Value.{Value as AnyValue};
 
-use crate::tuple::Row;
+use crate::row::Row;
 use crate::value_ref::ValueRef;
+use crate::values::Value;
 
 /// What a row can be read from.
 pub trait AsRow {
@@ -58,5 +59,19 @@ impl<'r> AsRow for &'r Row {
     #[inline(always)]
     fn value(&self, i: usize) -> ValueRef<'_> {
         (*self).values()[i].as_ref()
+    }
+}
+
+impl<'r> AsRow for &'r [Value] {
+    ghost row = { λ r. r.now };
+
+    #[inline(always)]
+    fn len(&self) -> usize {
+        (**self).len()
+    }
+
+    #[inline(always)]
+    fn value(&self, i: usize) -> ValueRef<'_> {
+        (*self)[i].as_ref()
     }
 }

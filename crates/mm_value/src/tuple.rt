@@ -1,41 +1,58 @@
-//! Rows.
-ghost use Rattle.std.specs.Prelude.{◌≡◌, ◌<◌, length, slice_get, Some, IfOk};
+//! The tuples of an INSERT.
+ghost use Rattle.std.specs.Prelude.{◌≡◌, ◌<◌, ◌≤◌, ◌++◌, ◌∷◌, [], length, IfOk, IsOk, OnErr, OnOk};
 ghost use Rattle.mm_value.specs.Storable.{AreStorable};
 
 use crate::values::Value;
+use smallvec::SmallVec;
 use std::alloc::{AllocError, Global};
 use std::marker::Model;
 
-/// A row: its values from left to right.
+/// The values that an INSERT gives a row, from left to right, on their way into the columns of its table. Up to 4 lie in the tuple
+/// itself, so it takes no block.
 #[derive(Debug, Drop)]
-pub struct Row {
-    values: Vec<Value>,
+pub struct Tuple {
+    values: SmallVec<Value, 4>,
 }
 
-impl Model for Row {
+impl Model for Tuple {
     ghost use Rattle.std.specs.Prelude.{List};
     ghost use Rattle.mm_value.specs.Storable.{AreStorable};
     ghost use Rattle.mm_value.specs.declared.values.Value.{Value as Val};
 
     ghost Value = { List Val };
 
-    ghost view = { λ r. r.values.items };
+    ghost view = { λ t. t.values.items };
 
-    ghost invariant = { λ r. AreStorable r.values.items };
+    ghost invariant = { λ t. AreStorable t.values.items };
 }
 
-impl Row {
-    /// A row of these values.
-    pub fn new(values: Vec<Value>) -> Row
-        ensures { result ≡ values.items }
+impl Tuple {
+    /// No values, and room for so many. `AllocError` where memory is refused for more than 4.
+    pub fn with_capacity(alloc: Global, count: usize) -> Result<Tuple, AllocError>
+        ensures ok { IfOk result (λ tuple. tuple ≡ []) }
+        ensures few { count ≤ 4 → IsOk result }
     {
-        for value in &values {
-            value.is_storable();
-        }
-        Self { values }
+        Ok(Tuple {
+            values: SmallVec::with_capacity(alloc, count)?,
+        })
     }
 
-    /// A law of each row: its whole numbers have 64 bits, and its texts at most 64 bytes without a line feed. It does nothing.
+    /// Puts a value behind the others. `AllocError` where memory is refused for more than 4, and then the tuple is as before.
+    pub fn push(&mut self, value: Value) -> Result<(), AllocError>
+        ensures ok { OnOk result (self.new ≡ self.old ++ value ∷ []) }
+        ensures err { OnErr result (self.new ≡ self.old) }
+        ensures few { length self.old < 4 → IsOk result }
+    {
+        value.is_storable();
+        // It is at least 4.
+        let _room = self.values.capacity();
+        match self.values.push(value) {
+            Ok(()) => Ok(()),
+            Err(_) => Err(AllocError),
+        }
+    }
+
+    /// A law of each tuple: its whole numbers have 64 bits, and its texts at most 64 bytes without a line feed. It does nothing.
     pub fn is_storable(&self)
         ensures { AreStorable self.now }
     {
@@ -49,14 +66,6 @@ impl Row {
         self.values.len()
     }
 
-    /// The value at a position, counted from 0.
-    pub fn value(&self, i: usize) -> &Value
-        requires { i < length self.now }
-        ensures { slice_get self.now i ≡ Some result.now }
-    {
-        &self.values[i]
-    }
-
     /// The values, from left to right.
     pub fn values(&self) -> &[Value]
         ensures { result.now ≡ self.now }
@@ -65,21 +74,21 @@ impl Row {
     }
 
     /// The values, from left to right, each for the caller to keep.
-    pub fn into_values(self) -> Vec<Value>
+    pub fn into_values(self) -> SmallVec<Value, 4>
         ensures { result.items ≡ self }
     {
-        let Row { values } = self;
+        let Tuple { values } = self;
         values
     }
 
-    /// A row of the same values. `AllocError` where memory is refused for the list of them or for a text.
-    pub fn copy(&self, alloc: Global) -> Result<Row, AllocError>
-        ensures ok { IfOk result (λ row. row ≡ self.now) }
+    /// Copies of these values. `AllocError` where memory is refused for a text, or for more than 4 of them.
+    pub fn copy_of(alloc: Global, values: &[Value]) -> Result<Tuple, AllocError>
+        ensures ok { IfOk result (λ tuple. tuple ≡ values.now) }
     {
-        let mut values = Vec::with_capacity(alloc, self.len())?;
-        for value in &self.values {
-            values.push(value.copy(alloc)?)?;
+        let mut copies = Tuple::with_capacity(alloc, values.len())?;
+        for value in values {
+            copies.push(value.copy(alloc)?)?;
         }
-        Ok(Row { values })
+        Ok(copies)
     }
 }

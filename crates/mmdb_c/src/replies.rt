@@ -11,7 +11,7 @@ use crate::cell::Cell;
 use mm_lang::{write_buffered_rows, write_reply};
 use mm_query::Reply;
 use mm_session::LastReply;
-use mm_value::{Row, Value, Watched, WriteError};
+use mm_value::{Tuple, Value, Watched, WriteError};
 use std::io::Write;
 
 /// How many rows a reply has or tells of; 0 where it is of another kind.
@@ -34,7 +34,7 @@ fn row_at<'s>(reply: &LastReply<'s>, place: usize) -> Option<&'s [Value]>
 {
     match reply {
         LastReply::Rows(rows) if place < rows.len() => Some(rows.row(place)),
-        LastReply::Other(Reply::Rows(rows)) => rows.as_slice().get(place).map(Row::values),
+        LastReply::Other(Reply::Rows(rows)) => rows.as_slice().get(place).map(Tuple::values),
         _ => None,
     }
 }

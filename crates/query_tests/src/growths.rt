@@ -10,8 +10,8 @@ mod lists;
 mod plans;
 mod runs;
 
-use mm_query::{Atom, BoundQuery, Few, FieldPlace, ShortList};
-use mm_value::{AsValue, Row, Value, compare};
+use mm_query::{Atom, BoundQuery, FieldPlace, ShortList};
+use mm_value::{AsValue, Few, Row, Value, compare};
 use std::alloc::{AllocError, Global};
 use std::io;
 

@@ -8,10 +8,10 @@ use crate::atoms::{
 };
 use crate::samples::{Values, sample};
 use mm_plan::{Step, plan_steps, run_plan};
-use mm_query::{Atom, BoundQuery, Comparison, Few, FieldPlace, ShortList};
+use mm_query::{Atom, BoundQuery, Comparison, FieldPlace, ShortList};
 use mm_schema::IndexKind;
 use mm_store::{IndexRef, Store};
-use mm_value::Refusal;
+use mm_value::{Few, Refusal};
 use std::alloc::{AllocError, Global};
 use std::process::Abort;
 use std::test::Fail;

@@ -10,7 +10,7 @@ use crate::pair::pair;
 use mm_relation::Edit;
 use mm_schema::{IndexKind, Reference};
 use mm_store::{Store, Undo};
-use mm_value::{ColType, Refusal};
+use mm_value::{ColType, Few, Refusal};
 use std::alloc::{AllocError, Global};
 
 /// The types of the two columns of each table.
@@ -55,11 +55,11 @@ pub fn empty(alloc: Global) -> Result<Store, AllocError>
 }
 
 /// The additions of rows of the keys from 1 to `count` with these values.
-fn additions(alloc: Global, count: u32, values: Values) -> Result<Vec<Edit>, AllocError>
-    ensures none { IfOk result (λ edits. named edit_name side.Old edits.items ≡ []) }
-    ensures typed { IfOk result (λ edits. All (HasTypes plain_types) (new_rows edits.items)) }
+fn additions(alloc: Global, count: u32, values: Values) -> Result<Few<Edit>, AllocError>
+    ensures none { IfOk result (λ edits. named edit_name side.Old edits ≡ []) }
+    ensures typed { IfOk result (λ edits. All (HasTypes plain_types) (new_rows edits)) }
 {
-    let mut edits = Vec::new(alloc);
+    let mut edits = Few::with_capacity(alloc, count as usize)?;
     for earlier in 0..count {
         let key = i64::from(earlier) + 1;
         let value = match values {
@@ -67,8 +67,8 @@ fn additions(alloc: Global, count: u32, values: Values) -> Result<Vec<Edit>, All
             Values::Falling => i64::from(count - earlier),
             Values::Ones => 1,
         };
-        let row = pair(alloc, key, value)?;
-        edits.push(Edit::Add(row))?;
+        let tuple = pair(alloc, key, value)?;
+        edits.push(alloc, Edit::Add(tuple))?;
     }
     Ok(edits)
 }

@@ -1,8 +1,8 @@
 //! Queries and rows for tests.
-use mm_query::{Atom, BoundQuery, Comparison, Few, FieldPlace, FromItem, Operand, ShortList};
+use mm_query::{Atom, BoundQuery, Comparison, FieldPlace, FromItem, Operand, ShortList};
 use mm_relevance::CycleEdge;
 use mm_schema::Name;
-use mm_value::{Refusal, Row, Text, Value};
+use mm_value::{Few, Refusal, Row, Text, Value};
 use std::alloc::Global;
 
 /// A column of the row at a place.

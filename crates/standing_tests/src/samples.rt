@@ -4,10 +4,10 @@ ghost use Rattle.mm_partition.specs.Types.{HasTypes};
 ghost use Rattle.store_tests.specs.SampleStore.{plain_types};
 
 use mm_partition::RowView;
-use mm_query::{Atom, BoundQuery, Comparison, Few, FieldPlace, FromItem, Operand, ShortList};
+use mm_query::{Atom, BoundQuery, Comparison, FieldPlace, FromItem, Operand, ShortList};
 use mm_schema::Name;
 use mm_templist::ShownRows;
-use mm_value::{Refusal, Row, Value, ValueRef, compare};
+use mm_value::{Few, Refusal, Row, Value, ValueRef, compare};
 use std::alloc::{AllocError, Global};
 
 /// The key of the row at a place.

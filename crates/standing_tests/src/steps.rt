@@ -21,7 +21,7 @@ use mm_relation::Edit;
 use mm_schema::IndexKind;
 use mm_standing::Standing;
 use mm_store::{IndexRef, Store, Undo};
-use mm_value::{ColType, Refusal, RowRef, Value, ValueRef};
+use mm_value::{ColType, Few, Refusal, RowRef, Tuple, Value, ValueRef};
 use std::alloc::{AllocError, Global};
 
 /// The types of the two columns of each table.
@@ -57,23 +57,30 @@ fn add_index(alloc: Global, store: &mut Store) -> Result<(), AllocError>
     Ok(())
 }
 
-/// The addition of the row of a key and a number.
-pub fn addition(alloc: Global, key: i64, number: i64) -> Result<Vec<Edit>, AllocError>
-    ensures none { IfOk result (λ edits. named edit_name side.Old edits.items ≡ []) }
-    ensures typed { IfOk result (λ edits. All (HasTypes plain_types) (new_rows edits.items)) }
+/// The tuple of a key and a number.
+fn tuple(alloc: Global, key: i64, number: i64) -> Result<Tuple, AllocError>
+    ensures { IfOk result (HasTypes plain_types) }
 {
-    Ok(vec![in alloc; Edit::Add(row(alloc, key, number)?)]?)
+    Tuple::copy_of(alloc, &[Value::Int(key), Value::Int(number)])
+}
+
+/// The addition of the row of a key and a number.
+pub fn addition(alloc: Global, key: i64, number: i64) -> Result<Few<Edit>, AllocError>
+    ensures none { IfOk result (λ edits. named edit_name side.Old edits ≡ []) }
+    ensures typed { IfOk result (λ edits. All (HasTypes plain_types) (new_rows edits)) }
+{
+    Ok(Few::one(Edit::Add(tuple(alloc, key, number)?)))
 }
 
 /// The removal of the row of a key. `NoTargetRow` where no row of the table has it.
-pub fn removal(alloc: Global, store: &Store, table: usize, key: i64) -> Result<Vec<Edit>, Refusal>
+pub fn removal(alloc: Global, store: &Store, table: usize, key: i64) -> Result<Few<Edit>, Refusal>
     requires there { table < length store.now.tables }
-    ensures fit { IfOk result (λ edits. (stored : StoredRows) → IsAt store.now table stored → AreFit stored edits.items) }
+    ensures fit { IfOk result (λ edits. (stored : StoredRows) → IsAt store.now table stored → AreFit stored edits) }
 {
     let Some(at) = at_key(store, table, key) else {
         return Err(Refusal::NoTargetRow);
     };
-    Ok(vec![in alloc; Edit::Gone(at)]?)
+    Ok(Few::one(Edit::Gone(at)))
 }
 
 /// The edit that puts another number into the row of a key. `NoTargetRow` where no row of the table has it.
@@ -83,15 +90,15 @@ pub fn replacement(
     table: usize,
     key: i64,
     number: i64,
-) -> Result<Vec<Edit>, Refusal>
+) -> Result<Few<Edit>, Refusal>
     requires there { table < length store.now.tables }
     requires plain { ArePlain store.now }
-    ensures fit { IfOk result (λ edits. (stored : StoredRows) → IsAt store.now table stored → AreFit stored edits.items) }
+    ensures fit { IfOk result (λ edits. (stored : StoredRows) → IsAt store.now table stored → AreFit stored edits) }
 {
     let Some(at) = at_key(store, table, key) else {
         return Err(Refusal::NoTargetRow);
     };
-    Ok(vec![in alloc; Edit::Swap(at, row(alloc, key, number)?)]?)
+    Ok(Few::one(Edit::Swap(at, row(alloc, key, number)?)))
 }
 
 /// Whether the row of a reference has a key.
@@ -127,11 +134,11 @@ pub fn make_edits(
     undo: &mut Undo,
     standing: &mut Standing,
     table: usize,
-    edits: Vec<Edit>,
+    edits: Few<Edit>,
 ) -> Result<(), Refusal>
     requires case { IsCase store.old undo.old standing.old }
     requires there { table < length store.old.tables }
-    requires fit { (stored : StoredRows) → IsAt store.old table stored → AreFit stored edits.items }
+    requires fit { (stored : StoredRows) → IsAt store.old table stored → AreFit stored edits }
     ensures case { IsCase store.new undo.new standing.new }
     ensures marks { (commands changes : ℕ) → IsMark store.old undo.old standing.old commands changes
         → IsMark store.new undo.new standing.new commands changes }

@@ -14,7 +14,7 @@ use crate::assertions::{assert_same, assert_that};
 use mm_order::OrderedRefs;
 use mm_relation::{Edit, IndexRoom, Log, Relation};
 use mm_schema::IndexKind;
-use mm_value::{ColType, Row, RowRef, Text, Value, ValueRef};
+use mm_value::{ColType, Few, Row, RowRef, Text, Tuple, Value, ValueRef};
 use std::alloc::{AllocError, Global};
 use std::process::Abort;
 use std::test::Fail;
@@ -46,14 +46,22 @@ fn row_of(alloc: Global, key: i64, digit: i64) -> Result<Row, AllocError>
     Ok(Row::new(values))
 }
 
-/// The addition of a row for each key, with its last decimal digit.
-fn additions(alloc: Global, keys: &[i64]) -> Result<Vec<Edit>, AllocError>
-    ensures none { IfOk result (λ edits. named edit_name side.Old edits.items ≡ []) }
-    ensures typed { IfOk result (λ edits. All (HasTypes sample_types) (new_rows edits.items)) }
+/// The same as the tuple of an addition.
+fn tuple_of(alloc: Global, key: i64, digit: i64) -> Result<Tuple, AllocError>
+    ensures { IfOk result (HasTypes sample_types) }
 {
-    let mut edits = Vec::new(alloc);
+    let row = row_of(alloc, key, digit)?;
+    Tuple::copy_of(alloc, row.values())
+}
+
+/// The addition of a row for each key, with its last decimal digit.
+fn additions(alloc: Global, keys: &[i64]) -> Result<Few<Edit>, AllocError>
+    ensures none { IfOk result (λ edits. named edit_name side.Old edits ≡ []) }
+    ensures typed { IfOk result (λ edits. All (HasTypes sample_types) (new_rows edits)) }
+{
+    let mut edits = Few::with_capacity(alloc, keys.len())?;
     for key in keys {
-        edits.push(Edit::Add(row_of(alloc, *key, *key % 10)?))?;
+        edits.push(alloc, Edit::Add(tuple_of(alloc, *key, *key % 10)?))?;
     }
     Ok(edits)
 }
@@ -70,10 +78,10 @@ fn edit_of(alloc: Global, at: RowRef, to: Option<i64>) -> Result<Edit, AllocErro
 }
 
 /// Makes the edits for good, and says that it did, unless two rows would have one key then.
-fn make(relation: &mut Relation, alloc: Global, edits: Vec<Edit>) -> Result<bool, AllocError>
+fn make(relation: &mut Relation, alloc: Global, edits: Few<Edit>) -> Result<bool, AllocError>
     requires sample { IsSample relation.old }
-    requires stay { (kept : List Ref) × Stay relation.old.refs edits.items kept }
-    requires typed { All (HasTypes sample_types) (new_rows edits.items) }
+    requires stay { (kept : List Ref) × Stay relation.old.refs edits kept }
+    requires typed { All (HasTypes sample_types) (new_rows edits) }
     ensures { IsSample relation.new }
 {
     relation.is_kept();
@@ -126,9 +134,8 @@ fn try_turn(
     let Some(at) = at_key(relation, key) else {
         return Ok(false);
     };
-    let mut edits = Vec::new(alloc);
-    edits.push(edit_of(alloc, at, to)?)?;
-    make(relation, alloc, edits)
+    let edit = edit_of(alloc, at, to)?;
+    make(relation, alloc, Few::one(edit))
 }
 
 /// The same where memory is refused once at most.
@@ -292,22 +299,22 @@ fn edits_of(
     one: RowRef,
     other: RowRef,
     gone: RowRef,
-) -> Result<Vec<Edit>, AllocError>
-    ensures old { IfOk result (λ edits. named edit_name side.Old edits.items ≡ one ∷ other ∷ gone ∷ []) }
-    ensures typed { IfOk result (λ edits. All (HasTypes sample_types) (new_rows edits.items)) }
+) -> Result<Few<Edit>, AllocError>
+    ensures old { IfOk result (λ edits. named edit_name side.Old edits ≡ one ∷ other ∷ gone ∷ []) }
+    ensures typed { IfOk result (λ edits. All (HasTypes sample_types) (new_rows edits)) }
 {
     let digit = digit_of(relation, exchange.one).unwrap_or(0);
     let first = row_of(alloc, exchange.other, digit)?;
     let digit = digit_of(relation, exchange.other).unwrap_or(0);
     let second = row_of(alloc, exchange.one, digit)?;
-    let new = row_of(alloc, exchange.key, exchange.digit)?;
+    let new = tuple_of(alloc, exchange.key, exchange.digit)?;
     let edits = vec![in alloc;
         Edit::Swap(one, first),
         Edit::Swap(other, second),
         Edit::Gone(gone),
         Edit::Add(new),
     ]?;
-    Ok(edits)
+    Ok(Few::from_vec(edits))
 }
 
 /// The edits of a command, none where a row of it is missing or two rows would have one key then.
@@ -315,10 +322,10 @@ fn edits_apart(
     relation: &Relation,
     alloc: Global,
     exchange: Exchange,
-) -> Result<Option<Vec<Edit>>, AllocError>
-    ensures standing { IfOk result (λ found. IfSome found (λ edits. Standing (slot_at relation.now.places) edits.items)) }
-    ensures apart { IfOk result (λ found. IfSome found (λ edits. KeysStayApart relation.now edits.items)) }
-    ensures typed { IfOk result (λ found. IfSome found (λ edits. All (HasTypes sample_types) (new_rows edits.items))) }
+) -> Result<Option<Few<Edit>>, AllocError>
+    ensures standing { IfOk result (λ found. IfSome found (λ edits. Standing (slot_at relation.now.places) edits)) }
+    ensures apart { IfOk result (λ found. IfSome found (λ edits. KeysStayApart relation.now edits)) }
+    ensures typed { IfOk result (λ found. IfSome found (λ edits. All (HasTypes sample_types) (new_rows edits))) }
 {
     relation.is_kept();
     let Some((one, other, gone)) = rows_of(relation, exchange) else {

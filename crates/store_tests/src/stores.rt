@@ -15,7 +15,7 @@ use mm_partition::RowView;
 use mm_relation::Edit;
 use mm_schema::{IndexKind, Reference};
 use mm_store::{IndexRef, Store, Undo};
-use mm_value::{ColType, Refusal, Row, RowRef, Value, ValueRef};
+use mm_value::{ColType, Few, Refusal, Row, RowRef, Tuple, Value, ValueRef};
 use std::alloc::{AllocError, Global};
 use std::marker::Model;
 use std::process::Abort;
@@ -86,22 +86,21 @@ fn sample_again(alloc: Global, references: &[Reference]) -> Result<Store, AllocE
     }
 }
 
-/// A row of a key and its last decimal digit.
-fn row_of(alloc: Global, key: i64) -> Result<Row, AllocError>
+/// The tuple of a key and its last decimal digit.
+fn tuple_of(alloc: Global, key: i64) -> Result<Tuple, AllocError>
     ensures { IfOk result (HasTypes plain_types) }
 {
-    let values = vec![in alloc; Value::Int(key), Value::Int(key % 10)]?;
-    Ok(Row::new(values))
+    Tuple::copy_of(alloc, &[Value::Int(key), Value::Int(key % 10)])
 }
 
 /// The addition of a row for each key.
-fn additions(alloc: Global, keys: &[i64]) -> Result<Vec<Edit>, AllocError>
-    ensures none { IfOk result (λ edits. named edit_name side.Old edits.items ≡ []) }
-    ensures typed { IfOk result (λ edits. All (HasTypes plain_types) (new_rows edits.items)) }
+fn additions(alloc: Global, keys: &[i64]) -> Result<Few<Edit>, AllocError>
+    ensures none { IfOk result (λ edits. named edit_name side.Old edits ≡ []) }
+    ensures typed { IfOk result (λ edits. All (HasTypes plain_types) (new_rows edits)) }
 {
-    let mut edits = Vec::new(alloc);
+    let mut edits = Few::with_capacity(alloc, keys.len())?;
     for key in keys {
-        edits.push(Edit::Add(row_of(alloc, *key)?))?;
+        edits.push(alloc, Edit::Add(tuple_of(alloc, *key)?))?;
     }
     Ok(edits)
 }
@@ -111,12 +110,12 @@ pub fn make_edits(
     store: &mut Store,
     alloc: Global,
     table: usize,
-    edits: Vec<Edit>,
+    edits: Few<Edit>,
     undo: &mut Undo,
 ) -> Result<(), AllocError>
     requires there { table < length store.old.tables }
     requires plain { ArePlain store.old }
-    requires lawful { (stored : StoredRows) → IsAt store.old table stored → AreLawful store.old table stored edits.items }
+    requires lawful { (stored : StoredRows) → IsAt store.old table stored → AreLawful store.old table stored edits }
     requires fits { CanUndo store.old undo.old }
     ensures count { length store.new.tables ≡ length store.old.tables }
     ensures plain { ArePlain store.new }
@@ -133,12 +132,12 @@ fn note(
     store: &mut Store,
     alloc: Global,
     table: usize,
-    edits: Vec<Edit>,
+    edits: Few<Edit>,
     undo: &mut Undo,
 ) -> Result<bool, AllocError>
     requires there { table < length store.old.tables }
     requires plain { ArePlain store.old }
-    requires fit { (stored : StoredRows) → IsAt store.old table stored → AreFit stored edits.items }
+    requires fit { (stored : StoredRows) → IsAt store.old table stored → AreFit stored edits }
     requires fits { CanUndo store.old undo.old }
     ensures count { length store.new.tables ≡ length store.old.tables }
     ensures plain { ArePlain store.new }
@@ -214,10 +213,10 @@ pub fn edits_of(
     alloc: Global,
     table: usize,
     step: Step,
-) -> Result<Option<Vec<Edit>>, AllocError>
+) -> Result<Option<Few<Edit>>, AllocError>
     requires there { table < length store.now.tables }
     requires plain { ArePlain store.now }
-    ensures { IfOk result (λ found. IfSome found (λ edits. (stored : StoredRows) → IsAt store.now table stored → AreFit stored edits.items)) }
+    ensures { IfOk result (λ found. IfSome found (λ edits. (stored : StoredRows) → IsAt store.now table stored → AreFit stored edits)) }
 {
     match step {
         Step::Put(keys) => {
@@ -229,17 +228,13 @@ pub fn edits_of(
                 return Ok(None);
             };
             let values = vec![in alloc; Value::Int(key), Value::Int(value)]?;
-            let mut edits = Vec::new(alloc);
-            edits.push(Edit::Swap(at, Row::new(values)))?;
-            Ok(Some(edits))
+            Ok(Some(Few::one(Edit::Swap(at, Row::new(values)))))
         }
         Step::Remove(key) => {
             let Some(at) = at_key(store, table, key) else {
                 return Ok(None);
             };
-            let mut edits = Vec::new(alloc);
-            edits.push(Edit::Gone(at))?;
-            Ok(Some(edits))
+            Ok(Some(Few::one(Edit::Gone(at))))
         }
     }
 }

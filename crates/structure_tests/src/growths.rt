@@ -7,6 +7,7 @@ mod hash_tables;
 mod orders;
 mod partitions;
 mod trees;
+mod tuples;
 mod values;
 
 use std::io;

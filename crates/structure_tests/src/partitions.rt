@@ -56,7 +56,9 @@ fn place_row(alloc: Global, rows: &mut Partitions, number: i64) -> Result<RowRef
     ensures room { OnOk result (rows.new.room + 1 ≡ rows.old.room) }
     ensures types { rows.new.types ≡ rows.old.types }
 {
-    Ok(rows.place(row_of(alloc, number)?))
+    let row = row_of(alloc, number)?;
+    row.is_storable();
+    Ok(rows.place(row.into_values().as_mut_slice()))
 }
 
 /// The number in a row of one number.
@@ -298,7 +300,9 @@ fn place_with_text(
     ensures room { OnOk result (rows.new.room + 1 ≡ rows.old.room) }
     ensures types { rows.new.types ≡ rows.old.types }
 {
-    Ok(rows.place(row_with_text(alloc, number, text)?))
+    let row = row_with_text(alloc, number, text)?;
+    row.is_storable();
+    Ok(rows.place(row.into_values().as_mut_slice()))
 }
 
 /// Tracks a column of texts, one row before and one behind.

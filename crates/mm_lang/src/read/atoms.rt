@@ -10,9 +10,9 @@ use crate::read::keyword::Keyword;
 use crate::read::phrase::{Phrase, Separator, read_clause};
 use crate::read::reader::Reader;
 use crate::read::token::Symbol;
-use mm_query::{Assignment, Atom, Few, Operand};
+use mm_query::{Assignment, Atom, Operand};
 use mm_schema::NameRef;
-use mm_value::Refusal;
+use mm_value::{Few, Refusal};
 use std::marker::PhantomData;
 
 /// How a command names a column, in a line that lives for `'l`.

@@ -9,8 +9,7 @@ ghost use Rattle.mm_value.specs.declared.values.Value.{Value as Val};
 use crate::read::keyword::Keyword;
 use crate::read::reader::Reader;
 use crate::read::token::Symbol;
-use mm_query::Few;
-use mm_value::Refusal;
+use mm_value::{Few, Refusal};
 
 /// What stands between each two items of a list.
 #[derive(Clone, Copy)]

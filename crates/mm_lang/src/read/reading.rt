@@ -11,7 +11,7 @@ use crate::read::atoms::{AssignmentPhrase, read_tests};
 use crate::read::columns::ColumnPhrase;
 use crate::read::hole::has_hole;
 use crate::read::keyword::Keyword;
-use crate::read::phrase::{Separator, read_in_parentheses, read_items, read_list};
+use crate::read::phrase::{Separator, read_in_parentheses, read_items};
 use crate::read::reader::Reader;
 use crate::read::select::{read_explain, read_select, read_watch};
 use crate::read::token::is_blank;
@@ -177,13 +177,7 @@ fn read_insert<'l>(reader: &mut Reader<'l>) -> Result<Command<'l>, Refusal>
     ensures { ReadsPhrase insert literals_of reader.old reader.new result }
 {
     let table = reader.name()?;
-    let mut tuples = Vec::new(reader.alloc());
-    read_list(
-        &mut TuplePhrase::new(reader.alloc()),
-        Separator::Comma,
-        reader,
-        &mut tuples,
-    )?;
+    let tuples = read_items(&mut TuplePhrase, Separator::Comma, reader)?;
     let tuples = RowList::new(tuples);
     Ok(Command::Change(Mutation::Insert { table, tuples }))
 }

@@ -1,57 +1,23 @@
 //! The tuples of an INSERT.
-ghost use Rattle.std.specs.Prelude.{◌≡◌, [], IfOk, OnOk, OnErr};
+ghost use Rattle.std.specs.List.{flat_map};
+ghost use Rattle.mm_lang.specs.Grammar.{comma_list, literal_of};
+ghost use Rattle.mm_lang.specs.Phrases.{one};
+ghost use Rattle.mm_lang.specs.steps.Parsing.{ReadsItems, only_literal};
 
-use crate::read::phrase::{Phrase, read_in_parentheses};
+use crate::read::phrase::{Phrase, Separator};
 use crate::read::reader::Reader;
-use mm_value::{Refusal, Row, Value};
-use std::alloc::{AllocError, Global};
+use crate::read::token::Symbol;
+use mm_value::{Refusal, Tuple};
 
-/// How a literal is read, a number or a text. Its item is the value.
+/// How a tuple is read: literals in parentheses, with a comma between each two. Its item has their values.
 #[derive(Drop)]
-pub(crate) struct LiteralPhrase;
-
-impl<'l> Phrase<'l> for LiteralPhrase {
-    ghost use Rattle.mm_lang.specs.Grammar.{literal_of};
-    ghost use Rattle.mm_lang.specs.Phrases.{one};
-    ghost use Rattle.mm_lang.specs.steps.Parsing.{only_literal};
-    ghost use Rattle.mm_lang.specs.steps.Shrinking.{one_never_longer};
-
-    type Item = Value;
-
-    ghost reading = { one literal_of };
-
-    ghost literals = { only_literal };
-
-    ghost never_longer = { one_never_longer literal_of };
-
-    /// Reads a literal. `Syntax` where none stands first in the rest, `Memory` where memory was refused for a text. A
-    /// literal past its limit is no error yet: it is noted in the reader, and a zero stands in its place.
-    fn read(&mut self, reader: &mut Reader<'l>) -> Result<Value, Refusal> {
-        reader.literal()
-    }
-}
-
-/// How a tuple is read: literals in parentheses, with a comma between each two. Its item is the row of their values,
-/// which are gathered here before the row gets its block.
-#[derive(Drop)]
-pub(crate) struct TuplePhrase {
-    values: Vec<Value>,
-}
-
-impl TuplePhrase {
-    /// The phrase with no value gathered yet. It takes no memory.
-    pub(crate) fn new(alloc: Global) -> TuplePhrase {
-        TuplePhrase {
-            values: Vec::new(alloc),
-        }
-    }
-}
+pub(crate) struct TuplePhrase;
 
 impl<'l> Phrase<'l> for TuplePhrase {
     ghost use Rattle.mm_lang.specs.Grammar.{tuple};
     ghost use Rattle.mm_lang.specs.steps.Shrinking.{tuple_never_longer};
 
-    type Item = Row;
+    type Item = Tuple;
 
     ghost reading = { tuple };
 
@@ -59,23 +25,26 @@ impl<'l> Phrase<'l> for TuplePhrase {
 
     ghost never_longer = { tuple_never_longer };
 
-    /// Reads a tuple. `Syntax` where none stands first in the rest, `Memory` where memory was refused for a text, for
-    /// the values or for the row. A literal past its limit is no error yet: it is noted in the reader.
-    fn read(&mut self, reader: &mut Reader<'l>) -> Result<Row, Refusal> {
-        self.values.clear();
-        read_in_parentheses(&mut LiteralPhrase, reader, &mut self.values)?;
-        Ok(take_row(reader.alloc(), &mut self.values)?)
+    /// Reads a tuple. `Syntax` where none stands first in the rest, `Memory` where memory was refused for a text, or for
+    /// more than 4 values. A literal past its limit is no error yet: it is noted in the reader.
+    fn read(&mut self, reader: &mut Reader<'l>) -> Result<Tuple, Refusal> {
+        reader.symbol(Symbol::Open)?;
+        let mut tuple = Tuple::with_capacity(reader.alloc(), 0)?;
+        read_values(reader, &mut tuple)?;
+        reader.symbol(Symbol::Close)?;
+        Ok(tuple)
     }
 }
 
-// A row of these values, which are none afterwards. `AllocError` where memory was refused; then they are as before.
-// A row is kept, so it gets a block of just their size: one that shrank where it lies would leave a gap behind it.
-fn take_row(alloc: Global, values: &mut Vec<Value>) -> Result<Row, AllocError>
-    ensures row { IfOk result (λ r. r ≡ values.old.items) }
-    ensures taken { OnOk result (values.new.items ≡ []) }
-    ensures err { OnErr result (values.new.items ≡ values.old.items) }
+// Reads one or more literals, with a comma between each two, and puts their values behind those of the tuple, so that they need no
+// list of their own.
+fn read_values(reader: &mut Reader<'_>, tuple: &mut Tuple) -> Result<(), Refusal>
+    ensures { ReadsItems (comma_list (one literal_of)) (flat_map only_literal) reader.old reader.new tuple.old tuple.new result }
 {
-    let mut row = Vec::with_capacity(alloc, values.len())?;
-    row.append(values)?;
-    Ok(Row::new(row))
+    loop {
+        tuple.push(reader.literal()?)?;
+        if !reader.skip_separator(Separator::Comma) {
+            return Ok(());
+        }
+    }
 }

@@ -21,7 +21,7 @@ use crate::write::row_line::RowLines;
 use itoa::Buffer;
 use mm_query::{PlanLine, Reply};
 use mm_schema::IndexId;
-use mm_value::{Refusal, Row, Watched, WriteError, put_all};
+use mm_value::{Refusal, Tuple, Watched, WriteError, put_all};
 use std::io::Write;
 
 /// Writes a reply, each line of it with its line feed: `ok`, `ok` and a count, a line for each row and then their
@@ -44,13 +44,13 @@ pub fn write_reply<W: Write>(reply: &Reply, writer: &mut Watched<W>) -> Result<(
 
 /// Writes the reply of rows: a line for each, and then their number. Takes no memory. After `WriteError` the writer has
 /// failed, and a front of the reply's text was written.
-fn write_rows<W: Write>(rows: &[Row], writer: &mut Watched<W>) -> Result<(), WriteError>
+fn write_rows<W: Write>(rows: &[Tuple], writer: &mut Watched<W>) -> Result<(), WriteError>
     requires { has_failed writer.old ≡ false }
     ensures { Writes W.contents writer.old writer.new result (rows_text rows.now) }
 {
     let mut lines = RowLines::new();
     for row in rows {
-        lines.add_row(row, writer)?;
+        lines.add_values(row.values(), writer)?;
     }
     lines.finish(rows.len(), writer)
 }

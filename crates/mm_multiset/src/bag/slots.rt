@@ -39,7 +39,11 @@ pub(crate) fn put(
     ensures capacity { vec_capacity counts.old - vec_len counts.old ≤ vec_capacity counts.new - vec_len counts.new + 1 }
     ensures types { rows.new.types ≡ rows.old.types }
 {
-    let at = rows.place(row);
+    let at = {
+        row.is_storable();
+        let mut values = row.into_values();
+        rows.place(values.as_mut_slice())
+    };
     let index = index_of(at);
     if index < counts.len() {
         counts[index] = count;

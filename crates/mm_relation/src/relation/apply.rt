@@ -26,6 +26,7 @@ use crate::indexes::{put_into_all, reserve_all, take_from_all};
 use crate::key_rows::count_moved;
 use crate::log::Log;
 use mm_order::OrderedRefs;
+use mm_value::Few;
 use std::alloc::{AllocError, Global};
 
 impl Relation {
@@ -46,19 +47,19 @@ impl Relation {
     pub fn apply(
         &mut self,
         alloc: Global,
-        edits: Vec<Edit>,
+        edits: Few<Edit>,
         undo_room: IndexRoom,
         log: &mut Log,
     ) -> Result<IndexRoom, AllocError>
         requires empty { log.old.entries ≡ [] }
-        requires standing { Standing (slot_at self.old.places) edits.items }
-        requires typed { All (HasTypes self.old.places.types) (new_rows edits.items) }
-        requires keys { KeysStayApart self.old edits.items }
+        requires standing { Standing (slot_at self.old.places) edits }
+        requires typed { All (HasTypes self.old.places.types) (new_rows edits) }
+        requires keys { KeysStayApart self.old edits }
         ensures changes { OnOk result
-            (Changes edits.items (slot_at self.old.places) log.new.entries (slot_at self.new.places)) }
-        ensures rows { OnOk result (HasRowsAfter self.old edits.items self.new) }
+            (Changes edits (slot_at self.old.places) log.new.entries (slot_at self.new.places)) }
+        ensures rows { OnOk result (HasRowsAfter self.old edits self.new) }
         ensures row_list { OnOk result (rows_of self.new
-            ≡ changed self.old.key (edit_pairs (slot_at self.old.places) edits.items) (rows_of self.old)) }
+            ≡ changed self.old.key (edit_pairs (slot_at self.old.places) edits) (rows_of self.old)) }
         ensures ordered { OnOk result
             (InOrder self.new.key self.new.key (slot_at self.new.places) self.new.refs) }
         ensures back { OnOk result
@@ -72,7 +73,7 @@ impl Relation {
         ensures key { OnOk result (self.new.key ≡ self.old.key) }
         ensures types { OnOk result (self.new.places.types ≡ self.old.places.types) }
         ensures indexes { OnOk result (EachTurns SameIndex self.old.indexes self.new.indexes) }
-        ensures extent { OnOk result (extent_of self.new.places ≤ extent_of self.old.places + added_count edits.items) }
+        ensures extent { OnOk result (extent_of self.new.places ≤ extent_of self.old.places + added_count edits) }
         ensures needed { IfOk result (λ needed. needed ≡ undo_room_of self.new.key (slot_at self.new.places) log.new.entries) }
         ensures fits { IfOk result (λ needed. (undo_room.key + needed.key < 2 ^ 32) × (undo_room.indexes + needed.indexes < 2 ^ 32)) }
         ensures undo_room { OnOk result (undo_room.key + key_room self.new.key (slot_at self.new.places) log.new.entries ≤ self.new.spare) }
@@ -94,7 +95,8 @@ impl Relation {
         undo_room: IndexRoom,
         log: &mut Log,
     ) -> Result<IndexRoom, AllocError>
-        requires { Standing (slot_at self.old.places) edits.now }
+        requires empty { log.old.entries ≡ [] }
+        requires standing { Standing (slot_at self.old.places) edits.now }
         ensures same { SameButRoom self.old self.new }
         ensures entries { log.new.entries ≡ log.old.entries }
         ensures room { OnOk result (added_count edits.now ≤ self.new.places.room) }
@@ -113,24 +115,24 @@ impl Relation {
         let room = count_room(edits, moved, undo_room).ok_or(AllocError)?;
         self.rows.track(alloc, self.key)?;
         self.rows.reserve(alloc, count_added(edits))?;
-        log.reserve(alloc, edits.len())?;
+        log.reserve(edits.len())?;
         self.by_key.reserve(alloc, room.all.key as usize)?;
         reserve_all(alloc, &mut self.indexes, room.all.indexes as usize)?;
         Ok(room.undo)
     }
 
     /// Makes all edits in room that is there, and logs them.
-    fn change(&mut self, edits: Vec<Edit>, log: &mut Log)
-        requires room { added_count edits.items ≤ self.old.places.room }
-        requires log { length edits.items ≤ log.old.room }
+    fn change(&mut self, edits: Few<Edit>, log: &mut Log)
+        requires room { added_count edits ≤ self.old.places.room }
+        requires log { length edits ≤ log.old.room }
         requires empty { log.old.entries ≡ [] }
-        requires spare { length (new_rows edits.items)
-            ≤ self.old.spare + length (named (stayed edit_name edit_other self.old.key self.old.key (slot_at self.old.places)) Old edits.items) }
-        requires spares { All (λ x. length (new_rows edits.items) ≤ spare_of x) self.old.indexes }
-        requires standing { Standing (slot_at self.old.places) edits.items }
-        requires typed { All (HasTypes self.old.places.types) (new_rows edits.items) }
-        requires keys { KeysStayApart self.old edits.items }
-        ensures changes { Changes edits.items (slot_at self.old.places) log.new.entries (slot_at self.new.places) }
+        requires spare { length (new_rows edits)
+            ≤ self.old.spare + length (named (stayed edit_name edit_other self.old.key self.old.key (slot_at self.old.places)) Old edits) }
+        requires spares { All (λ x. length (new_rows edits) ≤ spare_of x) self.old.indexes }
+        requires standing { Standing (slot_at self.old.places) edits }
+        requires typed { All (HasTypes self.old.places.types) (new_rows edits) }
+        requires keys { KeysStayApart self.old edits }
+        ensures changes { Changes edits (slot_at self.old.places) log.new.entries (slot_at self.new.places) }
         ensures back { before log.new.entries (slot_at self.new.places) ≡ slot_at self.old.places }
         ensures stands { StandsBack log.new.entries (slot_at self.new.places) }
         ensures hidden { AreHidden (slot_at self.new.places) (removed log.new.entries) }
@@ -138,19 +140,19 @@ impl Relation {
             → slot_at self.old.places at ≡ Hidden row → slot_at self.new.places at ≡ Hidden row }
         ensures differs { Differs (slot_at self.new.places) (slot_at self.old.places)
             (named record_name New log.new.entries) (named record_name Old log.new.entries) }
-        ensures rows { HasRowsAfter self.old edits.items self.new }
+        ensures rows { HasRowsAfter self.old edits self.new }
         ensures row_list { rows_of self.new
-            ≡ changed self.old.key (edit_pairs (slot_at self.old.places) edits.items) (rows_of self.old) }
+            ≡ changed self.old.key (edit_pairs (slot_at self.old.places) edits) (rows_of self.old) }
         ensures ordered { InOrder self.new.key self.new.key (slot_at self.new.places) self.new.refs }
         ensures key { self.new.key ≡ self.old.key }
         ensures types { self.new.places.types ≡ self.old.places.types }
         ensures indexes { EachTurns SameIndex self.old.indexes self.new.indexes }
-        ensures extent { extent_of self.new.places ≤ extent_of self.old.places + added_count edits.items }
+        ensures extent { extent_of self.new.places ≤ extent_of self.old.places + added_count edits }
         ensures key_room { key_room self.old.key (slot_at self.new.places) log.new.entries
-            ≡ length (named (moved edit_name edit_other self.old.key self.old.key (slot_at self.old.places)) Old edits.items) }
-        ensures spare { self.old.spare + length (named (stayed edit_name edit_other self.old.key self.old.key (slot_at self.old.places)) Old edits.items)
-            ≤ self.new.spare + length (new_rows edits.items) }
-        ensures spares { EachTurns (λ x y. spare_of x ≤ spare_of y + length (new_rows edits.items)) self.old.indexes self.new.indexes }
+            ≡ length (named (moved edit_name edit_other self.old.key self.old.key (slot_at self.old.places)) Old edits) }
+        ensures spare { self.old.spare + length (named (stayed edit_name edit_other self.old.key self.old.key (slot_at self.old.places)) Old edits)
+            ≤ self.new.spare + length (new_rows edits) }
+        ensures spares { EachTurns (λ x y. spare_of x ≤ spare_of y + length (new_rows edits)) self.old.indexes self.new.indexes }
     {
         take_each(
             &self.rows,

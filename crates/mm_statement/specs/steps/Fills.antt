@@ -1,5 +1,5 @@
 -- What the steps of filling a command give.
-use Rattle.std.specs.Prelude.{◌≡◌, ◌⊎◌, ℕ, ℤ, pos, Bool, true, false, List, [], ◌∷◌, ◌++◌, drop, map, take, Option, Some, None, Result, Ok, Err}
+use Rattle.std.specs.Prelude.{◌≡◌, ◌⊎◌, ℕ, ℤ, pos, Bool, true, false, List, [], ◌∷◌, ◌++◌, map, Option, Some, None, Result, Ok, Err}
 use Rattle.std.specs.List.{flat_map}
 use Rattle.std.specs.Option.{option_or, option_map_or, unwrap_or}
 use Rattle.std.specs.Vec.Iter.{into_iter_items}
@@ -63,11 +63,6 @@ pub record Goes {A : Type 0} (blank : A → A) (literals : A → List Value) (ol
   pub done : List A
   pub split : parts ≡ done ++ left
   pub fills : Fills (map blank) (flat_map literals) old now done filled
-
--- The parts up to a place were filled where they lie, and those from there on are as they were.
-pub record InPlace {A : Type 0} (blank : A → A) (literals : A → List Value) (old now : Filler) (first parts : List A) (place : ℕ) : Type 0 where
-  pub filled : Fills (map blank) (flat_map literals) old now (take place first) (take place parts)
-  pub left : drop place parts ≡ drop place first
 
 -- Nothing that differs from a part in its literals alone has the next literals, with the values in place of the holes.
 abbrev pub IsUnfillable : {A : Type 0} → (A → A) → (A → List Value) → Filler → A → Type 0

@@ -13,7 +13,7 @@ ghost use Rattle.mm_schema.specs.References.{is_referred as is_named, lacks_targ
 
 use super::Link;
 use mm_relation::{Edit, Relation};
-use mm_value::{AsRow, Row, RowRef, compare};
+use mm_value::{AsRow, Row, RowRef, Value, compare};
 
 impl Link {
     /// Whether a new row of the edits of the referring table refers to no row. It takes O(m log n) comparisons for n target rows
@@ -38,10 +38,10 @@ impl Link {
         ensures { result ≡ list_any (lacks_target_row self.now.reference.column to.now.key (rows_of to.now)) (new_rows (edit.now ∷ [])) }
     {
         match edit {
-            Edit::Add(row) => self.is_orphan(to, row),
+            Edit::Add(tuple) => self.is_orphan(to, tuple.values()),
             // What the old row refers to is there, so a row that refers to the same is not sought.
             Edit::Swap(at, row) => !self.keeps_target(from, to, *at, row)
-                && self.is_orphan(to, row),
+                && self.is_orphan(to, row.values()),
             Edit::Gone(_) => false,
         }
     }
@@ -62,11 +62,11 @@ impl Link {
     }
 
     /// Whether a row refers to no row.
-    fn is_orphan(&self, to: &Relation, row: &Row) -> bool
+    fn is_orphan(&self, to: &Relation, row: &[Value]) -> bool
         ensures { result ≡ lacks_target_row self.now.reference.column to.now.key (rows_of to.now) row.now }
     {
         to.is_kept();
-        match row.get(self.reference.column) {
+        match AsRow::get(&row, self.reference.column) {
             Some(value) => to.find(value).is_none(),
             None => true,
         }

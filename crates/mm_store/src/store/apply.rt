@@ -15,6 +15,7 @@ use super::{Store, is_kept};
 use crate::links::{reserve_all, retie_all};
 use crate::undo::{LoggedCommand, Undo, reserve};
 use mm_relation::{Edit, IndexRoom, Log, count_added};
+use mm_value::Few;
 use std::alloc::{AllocError, Global};
 use std::mem;
 
@@ -28,14 +29,14 @@ impl Store {
         &mut self,
         alloc: Global,
         table: usize,
-        edits: Vec<Edit>,
+        edits: Few<Edit>,
         undo: &mut Undo,
     ) -> Result<(), AllocError>
         requires there { table < length self.old.tables }
-        requires lawful { (stored : StoredRows) → IsAt self.old table stored → AreLawful self.old table stored edits.items }
+        requires lawful { (stored : StoredRows) → IsAt self.old table stored → AreLawful self.old table stored edits }
         requires fits { CanUndo self.old undo.old }
         ensures ok { OnOk result ((stored : StoredRows) → IsAt self.old table stored
-            → (new : StoredRows) × Turns self.old table new self.new × HasRows stored (rows_with stored edits.items) new) }
+            → (new : StoredRows) × Turns self.old table new self.new × HasRows stored (rows_with stored edits) new) }
         ensures err { OnErr result ((stored : StoredRows) → IsAt self.old table stored
             → (new : StoredRows) × Turns self.old table new self.new × HasRows stored (rows_of stored) new) }
         ensures links { self.new.links ≡ self.old.links }
@@ -74,15 +75,15 @@ impl Store {
         &mut self,
         alloc: Global,
         table: usize,
-        edits: Vec<Edit>,
+        edits: Few<Edit>,
         undo_room: IndexRoom,
         log: &mut Log,
     ) -> Result<IndexRoom, AllocError>
         requires there { table < length self.old.tables }
-        requires lawful { (stored : StoredRows) → IsAt self.old table stored → AreLawful self.old table stored edits.items }
+        requires lawful { (stored : StoredRows) → IsAt self.old table stored → AreLawful self.old table stored edits }
         requires empty { log.old.entries ≡ [] }
         ensures ok { IfOk result (λ needed. (stored : StoredRows) → IsAt self.old table stored
-            → (new : StoredRows) × Turns self.old table new self.new × IsEdited stored edits.items undo_room needed log.new.entries new) }
+            → (new : StoredRows) × Turns self.old table new self.new × IsEdited stored edits undo_room needed log.new.entries new) }
         ensures fits { IfOk result (λ needed. (undo_room.key + needed.key < 2 ^ 32) × (undo_room.indexes + needed.indexes < 2 ^ 32)) }
         ensures reversible { IfOk result (λ needed. IsReversible (headings_of self.old) self.old.links
             (record { table = table; entries = log.new.entries; room = needed }) (snapshot_of self.new)) }

@@ -127,7 +127,7 @@ impl Db {
     {
         self.contents.is_at_rest();
         let edits = self.contents.edits_of(alloc, change)?;
-        let count = edits.own.edits.len();
+        let count = edits.own.edits.as_slice().len();
         self.contents.make_edits(alloc, edits, &mut self.undo)?;
         self.contents.settle_outside(self.is_open, &mut self.undo);
         Ok(count)

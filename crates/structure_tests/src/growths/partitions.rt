@@ -29,7 +29,8 @@ fn place_a(alloc: Global, rows: &mut Partitions) -> Result<RowRef, Refusal>
 {
     let row = row_of(alloc, b"a")?;
     rows.reserve(alloc, 1)?;
-    Ok(rows.place(row))
+    row.is_storable();
+    Ok(rows.place(row.into_values().as_mut_slice()))
 }
 
 /// Whether a row is that of a text.
@@ -87,7 +88,8 @@ fn place_b(
     requires typed { HasTypes rows.old.types b }
 {
     reserve(rt, rows, first)?;
-    let second = rows.place(b);
+    b.is_storable();
+    let second = rows.place(b.into_values().as_mut_slice());
     assert_that(rt, is_row_of(rows.get(first), b"a"));
     assert_that(rt, is_row_of(rows.get(second), b"b"));
     assert_same(

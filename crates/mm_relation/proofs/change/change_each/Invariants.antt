@@ -11,15 +11,12 @@ use Rattle.mm_relation.proofs.change.change_each.Given as goal
 -- whatever the edits that are left will log and make, joined to what was logged, is what all edits make
 abbrev pub invariant-loop-edit : goal.invariant-loop-edit
 invariant-loop-edit l = record {
-  goes : (goal.iterator-loop-edit).can_next l.edit-iterator;
-  ends : (goal.iterator-loop-edit).is_finite l.edit-iterator;
-  size : length l.edit-iterator.rest.items ≡ l.edit-iterator.rest.len;
-  room : added_count l.edit-iterator.rest.items ≤ l.rows.room;
-  extent : extent_of l.rows + added_count l.edit-iterator.rest.items ≤ extent_of l.fn.rows + added_count l.fn.edits.items;
-  log : length l.edit-iterator.rest.items ≤ l.log.room;
+  room : added_count l.edit-iterator ≤ l.rows.room;
+  extent : extent_of l.rows + added_count l.edit-iterator ≤ extent_of l.fn.rows + added_count l.fn.edits;
+  log : length l.edit-iterator ≤ l.log.room;
   types : l.rows.types ≡ l.fn.rows.types;
-  typed : All (HasTypes l.fn.rows.types) (new_rows l.edit-iterator.rest.items);
-  standing : Standing (slot_at l.rows) l.edit-iterator.rest.items;
-  changes : (ns : List UndoRecord) (final : Slots) → Changes l.edit-iterator.rest.items (slot_at l.rows) ns final
-      → Changes l.fn.edits.items (slot_at l.fn.rows) (l.log.entries ++ ns) final;
+  typed : All (HasTypes l.fn.rows.types) (new_rows l.edit-iterator);
+  standing : Standing (slot_at l.rows) l.edit-iterator;
+  changes : (ns : List UndoRecord) (final : Slots) → Changes l.edit-iterator (slot_at l.rows) ns final
+      → Changes l.fn.edits (slot_at l.fn.rows) (l.log.entries ++ ns) final;
 }

@@ -1,4 +1,4 @@
-use Rattle.std.proofs.Common.{◌≡◌, ◌+◌, ◌<◌, ◌≤◌, ◌∷◌, ◌++◌, [], List, Option, None, Some, true, false, length, take, refl, sym, ap, ◌∙◌, arith}
+use Rattle.std.proofs.Common.{◌≡◌, ◌+◌, ◌≤◌, ◌∷◌, ◌++◌, [], List, Option, None, Some, true, false, length, take, refl, sym, ap, ◌∙◌, arith}
 use Rattle.std.specs.Prelude.{is_some}
 use Rattle.std.proofs.lemmas.List.{length-take-le, length_push}
 use Rattle.mm_value.specs.declared.row_ref.RowRef.{RowRef}
@@ -9,15 +9,15 @@ use Rattle.mm_relation.specs.Edits.{edit_name, edit_other}
 use Rattle.mm_relation.specs.Moves.{moved}
 use Rattle.mm_relation.specs.Refs.{HasRow}
 use Rattle.mm_relation.proofs.DuplicatesAfter.{olds_counted}
-use Rattle.mm_relation.proofs.Gathered.{gathered_some, gathered_none, All-gathered}
+use Rattle.mm_relation.proofs.Gathered.{gathered_some, gathered_none, All-one_gathered}
 use Rattle.mm_relation.proofs.Staying.{fewer_move, moving}
 use Rattle.mm_relation.proofs.key_rows.count_moved.Goals as goal
-use Rattle.mm_relation.proofs.key_rows.count_moved.Goals.{then-is_some, else-is_some}
+use Rattle.mm_relation.proofs.key_rows.count_moved.Goals.{then-frees_key, else-frees_key}
 
-pub moved_name-requires : goal.moved_name-requires
-moved_name-requires c = λ at is.
-    All-gathered (λ e. edit_name e Old) (HasRow (slot_at c.args.places.now)) c.args.edits.now c.loop-edit.edit-index c.edit-item.result at
-    c.loop-edit-test.true (ap (λ e. edit_name e Old) (sym c.edit-item.is) ∙ is) c.requires
+pub frees_key-requires : goal.frees_key-requires
+frees_key-requires c =
+    All-one_gathered (λ e. edit_name e Old) (HasRow (slot_at c.args.places.now)) c.args.edits.now c.loop-edit.edit-index c.edit-item.result
+    c.loop-edit-test.true c.edit-item.is c.requires
 
 pub overflow_add-count : goal.overflow_add-count
 overflow_add-count c =
@@ -34,18 +34,18 @@ loop-edit-preserved c =
     let h = λ (e : Edit). moved edit_name edit_other c.args.key c.args.key now e Old in
     let before : List RowRef = moving edit_name edit_other c.args.key c.args.key now Old (take c.loop-edit.edit-index c.args.edits.now) in
     let after : List RowRef = moving edit_name edit_other c.args.key c.args.key now Old (take (c.loop-edit.edit-index + 1) c.args.edits.now) in
-    elim c.if-is_some.branch [
-      | then-is_some w ↦
-          let some = there c.moved_name.result (sym c.is_some.ensures ∙ w.if-is_some.true) in
+    elim c.if-frees_key.branch [
+      | then-frees_key w ↦
+          let some = there (h c.edit-item.result) (sym c.frees_key.ensures ∙ w.if-frees_key.true) in
           let more : after ≡ before ++ some.0 ∷ [] =
           gathered_some h c.args.edits.now c.loop-edit.edit-index c.edit-item.result some.0 c.loop-edit-test.true c.edit-item.is
-          (sym c.moved_name.ensures ∙ some.1) in
+          some.1 in
           omega (arith, w.count-is, c.loop-edit.invariant, ap (λ (xs : List RowRef). length xs) more, length_push before some.0)
-      | else-is_some w ↦
-          let none = absent c.moved_name.result (sym c.is_some.ensures ∙ w.if-is_some.false) in
+      | else-frees_key w ↦
+          let none = absent (h c.edit-item.result) (sym c.frees_key.ensures ∙ w.if-frees_key.false) in
           let same : after ≡ before =
           gathered_none h c.args.edits.now c.loop-edit.edit-index c.edit-item.result c.loop-edit-test.true c.edit-item.is
-          (sym c.moved_name.ensures ∙ none) in
+          none in
           omega (arith, w.count-is, c.loop-edit.invariant, ap (λ (xs : List RowRef). length xs) same)
     ]
   where

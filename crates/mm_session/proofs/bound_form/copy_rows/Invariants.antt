@@ -3,4 +3,4 @@ use Rattle.mm_session.proofs.bound_form.copy_rows.Given as goal
 
 -- the copies are the first rows
 abbrev pub invariant-loop-row : goal.invariant-loop-row
-invariant-loop-row l = l.copies.items ≡ take l.row-index l.rows
+invariant-loop-row l = l.copies ≡ take l.row-index l.rows

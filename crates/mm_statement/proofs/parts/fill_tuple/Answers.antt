@@ -11,9 +11,9 @@ loop-literal-preserved c =
     let i = c.loop-literal.literal-index in
     let old = c.args.filler.now in
     let new = c.fill_literal.new.filler in
-    subst (λ (l : List Value). Fills (map blank_value) (λ (t : List Value). t) old new l c.push.new.self.items)
+    subst (λ (l : List Value). Fills (map blank_value) (λ (t : List Value). t) old new l c.push.new.self)
     (sym (one_read literals i c.literal-item.result c.loop-literal-test.true c.literal-item.is))
     (subst (λ (l : List Value). Fills (map blank_value) (λ (t : List Value). t) old new (take i literals ++ c.literal-item.result ∷ []) l)
-    (sym c.in_ok-push.ensures.items)
-    (tuple_next old c.loop-literal.filler new (take i literals) c.loop-literal.values.items c.literal-item.result c.in_ok-value.value
+    (sym c.in_ok-push.ensures.ok)
+    (tuple_next old c.loop-literal.filler new (take i literals) c.loop-literal.filled c.literal-item.result c.in_ok-value.value
     c.loop-literal.invariant c.in_ok-value.ensures))

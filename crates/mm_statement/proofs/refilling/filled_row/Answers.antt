@@ -12,9 +12,9 @@ loop-literal-preserved c =
     let i = c.loop-literal.literal-index in
     let old = c.args.refiller.now in
     let new = c.filled_value.new.refiller in
-    subst (λ (l : List Value). RefillsPart (map blank_value) (λ (t : List Value). t) old new l c.push.new.self.items)
+    subst (λ (l : List Value). RefillsPart (map blank_value) (λ (t : List Value). t) old new l c.push.new.self)
     (sym (one_read literals i c.literal-item.result c.loop-literal-test.true c.literal-item.is))
     (subst (λ (l : List Value). RefillsPart (map blank_value) (λ (t : List Value). t) old new (take i literals ++ c.literal-item.result ∷ []) l)
-    (sym c.in_ok-push.ensures.items)
-    (row_next old c.loop-literal.refiller new (take i literals) c.loop-literal.values.items c.literal-item.result c.in_ok-value.value
+    (sym c.in_ok-push.ensures.ok)
+    (row_next old c.loop-literal.refiller new (take i literals) c.loop-literal.filled c.literal-item.result c.in_ok-value.value
     c.loop-literal.invariant c.in_ok-value.ensures))

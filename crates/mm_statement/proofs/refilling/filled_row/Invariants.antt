@@ -6,4 +6,4 @@ use Rattle.mm_statement.proofs.refilling.filled_row.Given as goal
 
 abbrev pub invariant-loop-literal : goal.invariant-loop-literal
 invariant-loop-literal l =
-    RefillsPart (map blank_value) (λ (t : List Value). t) l.fn.refiller l.refiller (take l.literal-index l.literal-items) l.values.items
+    RefillsPart (map blank_value) (λ (t : List Value). t) l.fn.refiller l.refiller (take l.literal-index l.literal-items) l.filled

@@ -20,9 +20,9 @@ loop-row-preserved c =
     let i = c.loop-row.row-index in
     let old = c.new-refiller.result in
     let new = c.filled_row.new.refiller in
-    subst (λ l. Refilled old new l c.push.new.self.items) (sym (one_read rows i c.row-item.result c.loop-row-test.true c.row-item.is))
-    (subst (λ l. Refilled old new (take i rows ++ c.row-item.result ∷ []) l) (sym c.in_ok-push.ensures.items)
-    (next_refilled (map blank_value) (λ (t : List Value). t) old c.loop-row.refiller new (take i rows) c.loop-row.filled.items c.row-item.result
+    subst (λ l. Refilled old new l c.push.new.self) (sym (one_read rows i c.row-item.result c.loop-row-test.true c.row-item.is))
+    (subst (λ l. Refilled old new (take i rows ++ c.row-item.result ∷ []) l) (sym c.in_ok-push.ensures.ok)
+    (next_refilled (map blank_value) (λ (t : List Value). t) old c.loop-row.refiller new (take i rows) c.loop-row.filled c.row-item.result
     c.in_ok-row.row c.loop-row.invariant c.in_ok-row.ensures))
 
 pub returns : goal.returns
@@ -32,7 +32,7 @@ returns c =
     subst (λ l. Refills (map (map blank_value)) (flat_map (λ (t : List Value). t)) c.args.holes.now c.args.values.now c.args.rows.now l) (sym c.new.ensures)
     (whole_refilled c.args.holes.now c.args.values.now c.new-refiller.result c.loop-row.refiller c.new-refiller.ensures.holes
     c.new-refiller.ensures.minus_ones c.new-refiller.ensures.values c.in_ok-finish.ensures (map (map blank_value)) (flat_map (λ (t : List Value). t))
-    c.args.rows.now c.loop-row.filled.items
-    (subst (λ l. Refilled c.new-refiller.result c.loop-row.refiller l c.loop-row.filled.items) c.as_slice-row-items.ensures
-    (subst (λ l. Refilled c.new-refiller.result c.loop-row.refiller l c.loop-row.filled.items) (take_all c.loop-row.row-index rows all)
+    c.args.rows.now c.loop-row.filled
+    (subst (λ l. Refilled c.new-refiller.result c.loop-row.refiller l c.loop-row.filled) c.as_slice-row-items.ensures
+    (subst (λ l. Refilled c.new-refiller.result c.loop-row.refiller l c.loop-row.filled) (take_all c.loop-row.row-index rows all)
     c.loop-row.invariant)))

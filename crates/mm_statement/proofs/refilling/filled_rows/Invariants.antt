@@ -7,4 +7,4 @@ use Rattle.mm_statement.proofs.refilling.filled_rows.Given as goal
 
 abbrev pub invariant-loop-row : goal.invariant-loop-row
 invariant-loop-row l =
-    RefillsPart (map (map blank_value)) (flat_map (λ (t : List Value). t)) l.initial.refiller l.refiller (take l.row-index l.row-items) l.filled.items
+    RefillsPart (map (map blank_value)) (flat_map (λ (t : List Value). t)) l.initial.refiller l.refiller (take l.row-index l.row-items) l.filled

@@ -96,7 +96,7 @@ returns-clause-pairs c =
     (take_all k items c.loop-cascade-test.false ∙ c.deref-cascade-items.ensures.value)
     ∙ ap (λ xs. is_cascaded_by_some store.tables xs row) (c.in_ok-columns.ensures t at)
     ∙ cascades_go schema store c.requires.kept c.requires.distinct cs c.requires.are c.args.table t at row in
-    ap (λ o. option_map_or (λ (s : StoredRows). edit_pairs (slot_at s.places) edits.items) o []) here
+    ap (λ o. option_map_or (λ (s : StoredRows). edit_pairs (slot_at s.places) edits) o []) here
     ∙ ap (edit_pairs now) (edits_are stored seen)
     ∙ pairs_filtered now q p stored.refs (λ x among.
     (c.loop-cascade.invariant.found stored here).found x (Contains-from_IsIn stored.refs x among) ∙ goes (row_at now x))

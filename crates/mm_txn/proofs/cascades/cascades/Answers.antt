@@ -1,5 +1,5 @@
 -- Table by table the cascaded rows are found.
-use Rattle.std.proofs.Common.{◌≡◌, ◌≢◌, ◌<◌, ◌≤◌, ◌+◌, List, [], ◌∷◌, ◌++◌, Some, drop, length, map, slice_get, ap, ◌∙◌, rules, subst, sym, vec_len, arith}
+use Rattle.std.proofs.Common.{◌≡◌, ◌≢◌, ◌<◌, ◌≤◌, ◌+◌, List, [], ◌∷◌, ◌++◌, Some, drop, length, map, slice_get, ap, ◌∙◌, rules, subst, sym, arith}
 use Rattle.std.proofs.Common.{eq-eqb}
 use Rattle.std.specs.List.{All, filter}
 use Rattle.std.proofs.lemmas.Bool.{eqb-true, false≢true}
@@ -50,7 +50,7 @@ loop-table-preserved c =
     let own = placed c.args.own.now in
     let table = c.loop-table.table in
     let cs : List PlacedEdits = own ∷ map placed c.loop-table.cascaded.items in
-    let edits : List Edit = c.in_ok-edits.edits.items in
+    let edits : List Edit = c.in_ok-edits.edits in
     let within : table < length schema.tables = subst (λ (ts : List Table). table < length ts) c.tables-count.ensures.value c.loop-table-test.true in
     let pairs : (t : Table) → slice_get schema.tables table ≡ Some t → pairs_at store.tables (table, edits)
     ≡ removals_of (filter (is_cascaded schema (map (named schema store.tables) cs) t.definition.columns) (rows_at store.tables table)) =
@@ -65,9 +65,8 @@ loop-table-preserved c =
           ap (λ cascaded. own ∷ map placed cascaded.items) w.cascaded-is ∙ ap (λ (xs : List RelationEdits). own ∷ map placed xs) w.in_ok-push.ensures.items
           ∙ ap (λ (xs : List PlacedEdits). own ∷ xs) (map-append placed c.loop-table.cascaded.items _) in
           let some : edits ≢ [] = λ none.
-          let size : length edits ≡ 0 = ap length none in
-          let zero : vec_len c.in_ok-edits.edits ≡ 0 = omega (arith, size, c.in_ok-edits.edits.ok.0) in
-          false≢true (sym w.if-not-is_empty.true ∙ c.is_empty.ensures ∙ eq-eqb (vec_len c.in_ok-edits.edits) 0 zero) in
+          let size : length c.as_slice-in-loop-table.result.now ≡ 0 = ap length (c.as_slice-in-loop-table.ensures ∙ none) in
+          false≢true (sym w.if-not-is_empty.true ∙ c.is_empty.ensures ∙ eq-eqb (length c.as_slice-in-loop-table.result.now) 0 size) in
           record {
             are = subst (AreEdits store) (sym more)
                 (one_more store cs (table, edits) c.loop-table.invariant.are c.in_ok-edits.ensures.fit c.loop-table.invariant.before
@@ -84,8 +83,8 @@ loop-table-preserved c =
       | else-not-is_empty w ↦
           let same : own ∷ map placed c.if-not-is_empty.cascaded.items ≡ cs = ap (λ cascaded. own ∷ map placed cascaded.items) w.cascaded-is in
           let none : edits ≡ [] =
-          let zero : vec_len c.in_ok-edits.edits ≡ 0 = eqb-true (vec_len c.in_ok-edits.edits) 0 (sym c.is_empty.ensures ∙ w.if-not-is_empty.false) in
-          nil_from_length edits (omega (arith, zero, c.in_ok-edits.edits.ok.0)) in
+          let size = eqb-true (length c.as_slice-in-loop-table.result.now) 0 (sym c.is_empty.ensures ∙ w.if-not-is_empty.false) in
+          sym c.as_slice-in-loop-table.ensures ∙ nil_from_length c.as_slice-in-loop-table.result.now size in
           record {
             are = subst (AreEdits store) (sym same) c.loop-table.invariant.are;
             before = subst (All (λ (d : PlacedEdits). d.0 < table + 1)) (sym same) before;

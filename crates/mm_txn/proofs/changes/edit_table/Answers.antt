@@ -24,7 +24,7 @@ check-requires-clause-there c = one_there c.args.store.now (placed c.args.own) c
 pub check-requires-clause-fit : goal.check-requires-clause-fit
 check-requires-clause-fit c =
     λ stored at.
-    subst (λ (es : List Edit). AreFit stored es) (sym c.as_slice.ensures.value) (one_fits c.args.store.now (placed c.args.own) c.requires.are stored at)
+    subst (λ (es : List Edit). AreFit stored es) (sym c.as_slice.ensures) (one_fits c.args.store.now (placed c.args.own) c.requires.are stored at)
 
 pub returns-in_err-check-clause-due : goal.returns-in_err-check-clause-due
 returns-in_err-check-clause-due c =
@@ -36,7 +36,7 @@ returns-in_err-check-clause-due c =
     front_due (edits_conditions store stored own []) (list_conditions (rows_edited store (own ∷ [])) c.args.standing.now.queries) refusal
     (subst (λ (cs : List Condition). AnswersDue {T = Unit {0}} (first_refusal cs) (Err refusal))
     (sym (one_refused store own c.requires.are c.requires.back stored at))
-    (subst (λ (es : List Edit). AnswersDue {T = Unit {0}} (first_refusal (edit_conditions store own.0 stored es)) (Err refusal)) c.as_slice.ensures.value
+    (subst (λ (es : List Edit). AnswersDue {T = Unit {0}} (first_refusal (edit_conditions store own.0 stored es)) (Err refusal)) c.as_slice.ensures
     (c.in_err-check.ensures.due stored at))))
 
 pub prepare_lists-requires-clause-fit : goal.prepare_lists-requires-clause-fit
@@ -64,7 +64,7 @@ returns-in_err-prepare_lists-clause-due c =
     rw (p.1, p.2) (λ stored at.
     behind_due (edits_conditions store stored own []) (list_conditions (rows_edited store (own ∷ [])) c.args.standing.now.queries) refusal
     (subst (λ (cs : List Condition). first_refusal cs ≡ None) (sym (one_refused store own c.requires.are c.requires.back stored at))
-    (subst (λ (es : List Edit). first_refusal (edit_conditions store own.0 stored es) ≡ None) c.as_slice.ensures.value (c.in_ok-check.ensures.due stored at)))
+    (subst (λ (es : List Edit). first_refusal (edit_conditions store own.0 stored es) ≡ None) c.as_slice.ensures (c.in_ok-check.ensures.due stored at)))
     (subst (λ (p : PlacedEdits). AnswersDue {T = Unit {0}} (first_refusal (list_conditions (rows_edited store (p ∷ [])) c.args.standing.now.queries))
     (Err refusal))
     c.as_change.ensures c.in_err-prepare_lists.ensures.due))
@@ -76,7 +76,7 @@ returns-clause-due c =
     λ stored at.
     due_behind (edits_conditions store stored own []) (list_conditions (rows_edited store (own ∷ [])) c.args.standing.now.queries)
     (subst (λ (cs : List Condition). first_refusal cs ≡ None) (sym (one_refused store own c.requires.are c.requires.back stored at))
-    (subst (λ (es : List Edit). first_refusal (edit_conditions store own.0 stored es) ≡ None) c.as_slice.ensures.value (c.in_ok-check.ensures.due stored at)))
+    (subst (λ (es : List Edit). first_refusal (edit_conditions store own.0 stored es) ≡ None) c.as_slice.ensures (c.in_ok-check.ensures.due stored at)))
     ∙ subst (λ (p : PlacedEdits). first_refusal (list_conditions (rows_edited store (p ∷ [])) c.args.standing.now.queries) ≡ None)
     c.as_change.ensures c.in_ok-prepare_lists.ensures.due
 

@@ -32,7 +32,7 @@ returns-in-Err-clause-due c =
     let ds = list_conditions (rows_edited store all) queries in
     subst (λ (r : Result Unit Refusal). AnswersDue {T = Unit {0}} (first_refusal (cs ++ ds)) r) (sym c.in-Err.ensures)
     (both_due c.remove_each.result c.prepare_removals-prepared.result cs ds (referred_due (leaves_orphans store all))
-    (c.removals_may_be_made.ensures stored at c.args.own.edits.items
+    (c.removals_may_be_made.ensures stored at c.args.own.edits
     (own_fit store c.args.own c.args.cascaded.items c.requires.may.are c.requires.may.back c.requires.several stored at)
     (own_removals store c.args.own c.args.cascaded.items c.requires.may.are c.requires.may.back c.requires.several) (leaves_orphans store all))
     c.remove_each.ensures.due
@@ -50,7 +50,7 @@ returns-clause-due c =
     let ds = list_conditions (rows_edited store all) queries in
     subst (λ (r : Result Unit Refusal). AnswersDue {T = Unit {0}} (first_refusal (cs ++ ds)) r) (sym c.in_default-and.ensures)
     (both_due c.remove_each.result c.prepare_removals-prepared.result cs ds (referred_due (leaves_orphans store all))
-    (c.removals_may_be_made.ensures stored at c.args.own.edits.items
+    (c.removals_may_be_made.ensures stored at c.args.own.edits
     (own_fit store c.args.own c.args.cascaded.items c.requires.may.are c.requires.may.back c.requires.several stored at)
     (own_removals store c.args.own c.args.cascaded.items c.requires.may.are c.requires.may.back c.requires.several) (leaves_orphans store all))
     c.remove_each.ensures.due

@@ -25,8 +25,8 @@ use Rattle.mm_txn.proofs.edits.own_edits.Goals as goal
 pub returns-in_ok-edits-in-Insert-clause-ok : goal.returns-in_ok-edits-in-Insert-clause-ok
 returns-in_ok-edits-in-Insert-clause-ok c = λ schema mutation are is.
     let binds = subst (λ (change : ChangeToRun). Binds schema mutation (bound_of change)) c.in-Insert.is is.binds in
-    let comes = c.into_vec.ensures in
-    insert_edits schema c.args.store.now.tables are mutation c.in-Insert.table c.in-Insert.tuples binds is.due c.in_ok-edits-in-Insert.edits.items
+    let comes = c.into_rows.ensures in
+    insert_edits schema c.args.store.now.tables are mutation c.in-Insert.table c.in-Insert.tuples binds is.due c.in_ok-edits-in-Insert.edits
     (rw (sym comes) c.in_ok-edits-in-Insert.ensures.pairs) c.in_ok-edits-in-Insert.ensures.standing (c.in_ok-edits-in-Insert.ensures.rows ∙ comes)
 
 -- ---- UPDATE
@@ -78,7 +78,7 @@ returns-in_ok-edits-in-Update-clause-ok c = λ schema mutation are is.
     let placed = update_place schema mutation c.in-Update.table c.in-Update.assignments.now c.in-Update.tests.now binds in
     let (stored, here) = some_at rs c.in-Update.table (place_within_rows schema rs are mutation c.in-Update.table placed) in
     let at = subst (λ (s : Tables). IsAt s c.in-Update.table stored) (sym c.view-view.ensures.store) here in
-    let edits = c.in_ok-edits-in-Update.edits.items in
+    let edits = c.in_ok-edits-in-Update.edits in
     let pairs = c.in_ok-edits-in-Update.ensures.pairs stored at in
     let owns = update_owns schema rs are mutation c.in-Update.table placed stored here c.in-Update.assignments.now c.in-Update.tests.now binds in
     let kept = λ (other : ℕ) (relation : StoredRows) (has : slice_get rs other ≡ Some relation).
@@ -108,6 +108,6 @@ returns-in_ok-edits-in-Delete-clause-ok c = λ schema mutation are is.
     let (stored, here) = some_at rs c.in-Delete.table (place_within_rows schema rs are mutation c.in-Delete.table placed) in
     let at = subst (λ (s : Tables). IsAt s c.in-Delete.table stored) (sym c.view-view-in-Delete.ensures.store) here in
     let fit = c.in_ok-edits-in-Delete.ensures.fit stored at in
-    stored_edits schema rs are mutation c.in-Delete.table placed stored here c.in_ok-edits-in-Delete.edits.items
+    stored_edits schema rs are mutation c.in-Delete.table placed stored here c.in_ok-edits-in-Delete.edits
     (removals_of (filter (meets c.in-Delete.tests.now) (rows_of stored))) (c.in_ok-edits-in-Delete.ensures.pairs stored at)
     (delete_owns schema rs are mutation c.in-Delete.table placed stored here c.in-Delete.tests.now binds) fit.standing fit.typed

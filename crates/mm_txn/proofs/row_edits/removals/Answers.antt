@@ -1,4 +1,4 @@
-use Rattle.std.proofs.Common.{◌≡◌, map, rules, ap, ◌∙◌, subst, sym}
+use Rattle.std.proofs.Common.{◌≡◌, List, map, ap, ◌∙◌, subst, sym}
 use Rattle.std.specs.Prelude.{IfOk}
 use Rattle.std.proofs.lemmas.Result.{IfOk-weaker}
 use Rattle.mm_partition.specs.Places.{slot_at}
@@ -6,6 +6,7 @@ use Rattle.mm_plan.specs.Finding.{meets}
 use Rattle.mm_relation.specs.Refs.{row_at}
 use Rattle.mm_relation.specs.RowLists.{edit_pairs}
 use Rattle.mm_relation.specs.declared.edits.Edit.TheVariants.{Gone}
+use Rattle.mm_value.specs.declared.row_ref.RowRef.{RowRef}
 use Rattle.mm_store.proofs.Shown.{table_seen}
 use Rattle.mm_store.specs.Tables.{AreFit}
 use Rattle.mm_txn.proofs.EditsMade.{fit-gone, pairs-removed}
@@ -14,14 +15,15 @@ use Rattle.mm_txn.proofs.row_edits.removals.Goals as goal
 pub returns : goal.returns
 returns c =
     let atoms = c.args.atoms.now in
-    let collected : IfOk c.collect.result (λ edits. edits.items ≡ map Gone c.in_ok-found.found.items) = search rules in
+    let made : IfOk c.gone_each.result (λ edits. edits ≡ map Gone c.in_ok-found.found.items) =
+    subst (λ (refs : List RowRef). IfOk c.gone_each.result (λ edits. edits ≡ map Gone refs)) c.as_slice.ensures c.gone_each.ensures in
     record {
-      pairs = IfOk-weaker c.collect.result (λ edits. edits.items ≡ map Gone c.in_ok-found.found.items) _
+      pairs = IfOk-weaker c.gone_each.result (λ edits. edits ≡ map Gone c.in_ok-found.found.items) _
           (λ edits is stored here.
           ap (edit_pairs (slot_at stored.places)) (is ∙ ap (map Gone) (c.in_ok-found.ensures.found stored here))
-          ∙ pairs-removed (slot_at stored.places) (meets atoms) stored.refs) collected;
-      fit = IfOk-weaker c.collect.result (λ edits. edits.items ≡ map Gone c.in_ok-found.found.items) _
+          ∙ pairs-removed (slot_at stored.places) (meets atoms) stored.refs) made;
+      fit = IfOk-weaker c.gone_each.result (λ edits. edits ≡ map Gone c.in_ok-found.found.items) _
           (λ edits is stored here.
           subst (AreFit stored) (sym (is ∙ ap (map Gone) (c.in_ok-found.ensures.found stored here)))
-          (fit-gone stored (table_seen c.args.view.now c.args.table stored here).kept (λ at. meets atoms (row_at (slot_at stored.places) at)))) collected;
+          (fit-gone stored (table_seen c.args.view.now c.args.table stored here).kept (λ at. meets atoms (row_at (slot_at stored.places) at)))) made;
     }

@@ -1,4 +1,4 @@
-use Rattle.std.proofs.Common.{◌≡◌, map, rules, ap, ◌∙◌, subst, sym}
+use Rattle.std.proofs.Common.{◌≡◌, List, map, ap, ◌∙◌, subst, sym}
 use Rattle.std.specs.List.{All, list_any}
 use Rattle.std.specs.Prelude.{IfOk}
 use Rattle.std.proofs.lemmas.Result.{IfOk-weaker}
@@ -7,6 +7,7 @@ use Rattle.mm_plan.specs.Finding.{among}
 use Rattle.mm_relation.specs.Before.{same_ref}
 use Rattle.mm_relation.specs.Edits.{new_rows}
 use Rattle.mm_relation.specs.declared.edits.Edit.TheVariants.{Gone}
+use Rattle.mm_value.specs.declared.row_ref.RowRef.{RowRef}
 use Rattle.mm_store.proofs.Shown.{table_seen}
 use Rattle.mm_store.specs.Tables.{AreFit}
 use Rattle.mm_txn.proofs.EditsMade.{fit-gone, new_rows-gone}
@@ -19,15 +20,16 @@ pub returns : goal.returns
 returns c =
     let refs = c.from_vec.result.items in
     let given : refs ≡ c.args.refs.items = c.from_vec.ensures.items in
-    let collected : IfOk c.collect.result (λ edits. edits.items ≡ map Gone c.in_ok-gone.gone.items) = search rules in
+    let made : IfOk c.gone_each.result (λ edits. edits ≡ map Gone c.in_ok-gone.gone.items) =
+    subst (λ (refs : List RowRef). IfOk c.gone_each.result (λ edits. edits ≡ map Gone refs)) c.as_slice.ensures c.gone_each.ensures in
     record {
-      items = IfOk-weaker c.collect.result (λ edits. edits.items ≡ map Gone c.in_ok-gone.gone.items) _
+      items = IfOk-weaker c.gone_each.result (λ edits. edits ≡ map Gone c.in_ok-gone.gone.items) _
           (λ edits is stored here.
-          is ∙ ap (map Gone) (c.in_ok-gone.ensures.found stored here ∙ ap (λ rs. among rs stored) given)) collected;
-      fit = IfOk-weaker c.collect.result (λ edits. edits.items ≡ map Gone c.in_ok-gone.gone.items) _
+          is ∙ ap (map Gone) (c.in_ok-gone.ensures.found stored here ∙ ap (λ rs. among rs stored) given)) made;
+      fit = IfOk-weaker c.gone_each.result (λ edits. edits ≡ map Gone c.in_ok-gone.gone.items) _
           (λ edits is stored here.
           subst (AreFit stored) (sym (is ∙ ap (map Gone) (c.in_ok-gone.ensures.found stored here)))
-          (fit-gone stored (table_seen c.args.view.now c.args.table stored here).kept (λ at. list_any (same_ref at) refs))) collected;
-      none_comes = IfOk-weaker c.collect.result (λ edits. edits.items ≡ map Gone c.in_ok-gone.gone.items) _
-          (λ edits is. ap new_rows is ∙ new_rows-gone c.in_ok-gone.gone.items) collected;
+          (fit-gone stored (table_seen c.args.view.now c.args.table stored here).kept (λ at. list_any (same_ref at) refs))) made;
+      none_comes = IfOk-weaker c.gone_each.result (λ edits. edits ≡ map Gone c.in_ok-gone.gone.items) _
+          (λ edits is. ap new_rows is ∙ new_rows-gone c.in_ok-gone.gone.items) made;
     }

@@ -51,25 +51,25 @@ loop-at-preserved c =
       same = c.row.ensures.same ∙ c.loop-at.invariant.same;
       made = λ stored here.
           let swaps = swap_of (slot_at stored.places) assignments in
-          c.in_ok-push.ensures.items
-          ∙ (ap (λ es. es ++ c.in_ok-swap.field-0 ∷ []) (c.loop-at.invariant.made stored here)
-          ∙ (ap (λ e. map swaps (take i refs) ++ e ∷ []) (c.in_ok-swap.ensures.ok ∙ sym (ap (λ row. Swap at (updated_row assignments row)) (is stored here)))
+          c.in_ok-push.ensures.ok
+          ∙ (ap (λ es. es ++ c.in_ok-edit.edit ∷ []) (c.loop-at.invariant.made stored here)
+          ∙ (ap (λ e. map swaps (take i refs) ++ e ∷ []) (c.in_ok-edit.ensures.ok ∙ sym (ap (λ row. Swap at (updated_row assignments row)) (is stored here)))
           ∙ (sym (map-append swaps (take i refs) (at ∷ [])) ∙ ap (map swaps) more)));
       in_range = λ stored here.
           subst (λ rs. list_any is_past_range (values_of (slot_at stored.places) assignments rs) ≡ false) more
           (none_more (slot_at stored.places) assignments (take i refs) at (viewed c.row.result) (is stored here) (c.loop-at.invariant.in_range stored here)
-          c.in_ok-swap.ensures.due);
+          c.in_ok-edit.ensures.due);
     }
 
-pub returns-in_err-swap-clause-due : goal.returns-in_err-swap-clause-due
-returns-in_err-swap-clause-due c = λ stored here.
+pub returns-in_err-edit-clause-due : goal.returns-in_err-edit-clause-due
+returns-in_err-edit-clause-due c = λ stored here.
     let refs = c.args.refs.now in
     let i = c.loop-at.at-index in
     let at : RowRef = get_or refs i none in
-    let p = err_from_is_err_and c.from_residual-in_err-swap.result c.from_residual-in_err-swap.ensures.1 in
+    let p = err_from_is_err_and c.from_residual-in_err-edit.result c.from_residual-in_err-edit.ensures.1 in
     let is = ap row_in (c.row.ensures.row stored (subst (λ (s : Tables). IsAt s c.args.table stored) (sym c.loop-at.invariant.same) here)) in
     rw (p.1, p.2)
-    (elim c.in_err-swap.ensures.due [
+    (elim c.in_err-edit.ensures.due [
       | inl due ↦ inl (one_due (slot_at stored.places) c.args.assignments.now refs (take i refs) _ at (viewed c.row.result) _ is
           (split_at refs i none c.loop-at-test.true) due)
       | inr memory ↦ inr memory

@@ -13,7 +13,7 @@ abbrev pub invariant-loop-at : goal.invariant-loop-at
 invariant-loop-at l = record {
   same : l.view.store ≡ l.fn.view.store;
   made : (stored : StoredRows) → IsAt l.fn.view.store l.table stored
-      → l.edits.items ≡ map (swap_of (slot_at stored.places) l.assignments) (take l.at-index l.refs);
+      → l.edits ≡ map (swap_of (slot_at stored.places) l.assignments) (take l.at-index l.refs);
   in_range : (stored : StoredRows) → IsAt l.fn.view.store l.table stored
       → list_any is_past_range (values_of (slot_at stored.places) l.assignments (take l.at-index l.refs)) ≡ false;
 }

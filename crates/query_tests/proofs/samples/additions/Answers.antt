@@ -7,8 +7,8 @@ use Rattle.store_tests.specs.SampleStore.{plain_types}
 use Rattle.query_tests.proofs.samples.additions.Goals as goal
 
 pub loop-earlier-preserved : goal.loop-earlier-preserved
-loop-earlier-preserved c = rw c.in_ok-push.ensures.items (record {
-  none = none_named c.loop-earlier.edits.items c.in_ok-row.row c.loop-earlier.invariant.none;
-  typed = typed_added plain_types c.loop-earlier.edits.items c.in_ok-row.row c.loop-earlier.invariant.typed
-      (ap (λ (row : List Value). map type_of row) c.in_ok-row.ensures);
+loop-earlier-preserved c = rw c.in_ok-push.ensures.ok (record {
+  none = none_named c.loop-earlier.edits c.in_ok-tuple.tuple c.loop-earlier.invariant.none;
+  typed = typed_added plain_types c.loop-earlier.edits c.in_ok-tuple.tuple c.loop-earlier.invariant.typed
+      (ap (λ (row : List Value). map type_of row) c.in_ok-tuple.ensures);
 })

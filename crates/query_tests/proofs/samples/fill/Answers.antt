@@ -15,23 +15,23 @@ returns-in_err-apply c = filled c.args.store.now c.apply.new.self c.args.table c
 pub add_index-requires-clause-there : goal.add_index-requires-clause-there
 add_index-requires-clause-there c =
     let sample = filled c.args.store.now c.apply.new.self c.args.table c.requires.there c.requires.sample
-    (λ (s : StoredRows). rows_with s c.in_ok-edits.edits.items) c.in_ok-apply.ensures.ok in
+    (λ (s : StoredRows). rows_with s c.in_ok-edits.edits) c.in_ok-apply.ensures.ok in
     subst (λ (n : ℕ). c.args.table < n) (sym sample.two) c.requires.there
 
 pub add_index-requires-clause-column : goal.add_index-requires-clause-column
 add_index-requires-clause-column c =
     let sample = filled c.args.store.now c.apply.new.self c.args.table c.requires.there c.requires.sample
-    (λ (s : StoredRows). rows_with s c.in_ok-edits.edits.items) c.in_ok-apply.ensures.ok in
+    (λ (s : StoredRows). rows_with s c.in_ok-edits.edits) c.in_ok-apply.ensures.ok in
     λ stored at. subst (λ (n : ℕ). 1 < n) (sym (two_at c.apply.new.self c.args.table sample stored at)) (omega arith)
 
 pub returns-in_err-add_index : goal.returns-in_err-add_index
 returns-in_err-add_index c =
     let sample = filled c.args.store.now c.apply.new.self c.args.table c.requires.there c.requires.sample
-    (λ (s : StoredRows). rows_with s c.in_ok-edits.edits.items) c.in_ok-apply.ensures.ok in
+    (λ (s : StoredRows). rows_with s c.in_ok-edits.edits) c.in_ok-apply.ensures.ok in
     unchanged c.apply.new.self c.add_index.new.self c.in_err-add_index.ensures.err sample
 
 pub returns : goal.returns
 returns c =
     let sample = filled c.args.store.now c.apply.new.self c.args.table c.requires.there c.requires.sample
-    (λ (s : StoredRows). rows_with s c.in_ok-edits.edits.items) c.in_ok-apply.ensures.ok in
+    (λ (s : StoredRows). rows_with s c.in_ok-edits.edits) c.in_ok-apply.ensures.ok in
     indexed c.apply.new.self c.add_index.new.self c.args.table 1 c.args.kind c.requires.there sample c.in_ok-add_index.ensures.ok

@@ -63,14 +63,14 @@ returns-clause-case c =
     let new = c.apply.new.self in
     let mid = c.prepare.new.standing in
     let left = c.apply_prepared.new.self in
-    let rows = rows_edited store c.args.table c.args.edits.items in
-    let same = kept store new c.args.table c.requires.there c.requires.case.plain (λ (s : StoredRows). rows_with s c.args.edits.items)
+    let rows = rows_edited store c.args.table c.args.edits in
+    let same = kept store new c.args.table c.requires.there c.requires.case.plain (λ (s : StoredRows). rows_with s c.args.edits)
     c.in_default.ensures.ok in
     case_still store new c.args.undo.now c.apply.new.undo lists left (c.apply_prepared.ensures.queries ∙ c.prepare.ensures.queries) c.requires.case
-    same.0 same.1 c.apply.ensures.fits rows (rows_made store new c.args.table c.requires.there c.args.edits.items c.in_default.ensures.ok)
-    (numbers_edited store c.args.table c.args.edits.items c.requires.case.plain c.requires.case.typed c.requires.fit)
+    same.0 same.1 c.apply.ensures.fits rows (rows_made store new c.args.table c.requires.there c.args.edits c.in_default.ensures.ok)
+    (numbers_edited store c.args.table c.args.edits c.requires.case.plain c.requires.case.typed c.requires.fit)
     (fit_made lists mid left c.apply_prepared.ensures.made rows
-    (subst (λ (es : List Edit). FitPrepared (rows_edited store c.args.table es) mid) c.as_slice-2.ensures.value c.in_ok-prepare.ensures.ok)
+    (subst (λ (es : List Edit). FitPrepared (rows_edited store c.args.table es) mid) c.as_slice-2.ensures c.in_ok-prepare.ensures.ok)
     c.apply_prepared.ensures.queries)
     c.apply_prepared.ensures.prepared
 

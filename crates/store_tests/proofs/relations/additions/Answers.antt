@@ -3,7 +3,7 @@ use Rattle.store_tests.specs.SampleRelation.{sample_types}
 use Rattle.store_tests.proofs.relations.additions.Goals as goal
 
 pub loop-key-preserved : goal.loop-key-preserved
-loop-key-preserved c = rw c.in_ok-push.ensures.items (record {
-  none = none_named c.loop-key.edits.items c.in_ok-row_of.field-0 c.loop-key.invariant.none;
-  typed = typed_added sample_types c.loop-key.edits.items c.in_ok-row_of.field-0 c.loop-key.invariant.typed c.in_ok-row_of.ensures;
+loop-key-preserved c = rw c.in_ok-push.ensures.ok (record {
+  none = none_named c.loop-key.edits c.in_ok-tuple_of.field-0 c.loop-key.invariant.none;
+  typed = typed_added sample_types c.loop-key.edits c.in_ok-tuple_of.field-0 c.loop-key.invariant.typed c.in_ok-tuple_of.ensures;
 })

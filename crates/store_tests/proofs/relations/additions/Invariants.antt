@@ -8,6 +8,6 @@ use Rattle.store_tests.proofs.relations.additions.Given as goal
 -- the edits so far name no rows, and their rows have the types of the table
 abbrev pub invariant-loop-key : goal.invariant-loop-key
 invariant-loop-key l = record {
-  none : olds l.edits.items ≡ [];
-  typed : AreTyped sample_types (new_rows l.edits.items);
+  none : olds l.edits ≡ [];
+  typed : AreTyped sample_types (new_rows l.edits);
 }

@@ -15,9 +15,9 @@ returns-in_err-apply-clause-plain c =
 pub returns-clause-count : goal.returns-clause-count
 returns-clause-count c =
     (kept c.args.store.now c.apply.new.self c.args.table c.requires.there c.requires.plain
-    (λ (s : StoredRows). rows_with s c.args.edits.items) c.in_ok-apply.ensures.ok).0
+    (λ (s : StoredRows). rows_with s c.args.edits) c.in_ok-apply.ensures.ok).0
 
 pub returns-clause-plain : goal.returns-clause-plain
 returns-clause-plain c =
     (kept c.args.store.now c.apply.new.self c.args.table c.requires.there c.requires.plain
-    (λ (s : StoredRows). rows_with s c.args.edits.items) c.in_ok-apply.ensures.ok).1
+    (λ (s : StoredRows). rows_with s c.args.edits) c.in_ok-apply.ensures.ok).1

@@ -8,13 +8,12 @@ returns-in_err-table c =
     let p = err_from_is_err_and c.from_residual.result c.from_residual.ensures.1 in
     rw (p.1, p.2) (insert_no_name c.args.reader.now _ (inl c.in_err-table.ensures))
 
-pub returns-in_err-read_list : goal.returns-in_err-read_list
-returns-in_err-read_list c =
-    let p = err_from_is_err_and c.from_residual-in_err-read_list.result c.from_residual-in_err-read_list.ensures.1 in
-    rw (p.1, p.2) (insert_no_tuples c.args.reader.now c.name.new.self c.in_ok-table.table _ c.in_ok-table.ensures c.in_err-read_list.ensures)
+pub returns-in_err-tuples : goal.returns-in_err-tuples
+returns-in_err-tuples c =
+    let p = err_from_is_err_and c.from_residual-in_err-tuples.result c.from_residual-in_err-tuples.ensures.1 in
+    rw (p.1, p.2) (insert_no_tuples c.args.reader.now c.name.new.self c.in_ok-table.table _ c.in_ok-table.ensures c.in_err-tuples.ensures)
 
 pub returns : goal.returns
 returns c =
-    insert_given c.args.reader.now c.name.new.self c.read_list.new.reader c.in_ok-table.table c.new-tuples.result.items c.read_list.new.items.items
-    c.new-tuples-2.result
-    c.in_ok-table.ensures c.new-tuples.ensures.items c.in_ok-read_list.ensures c.new-tuples-2.ensures
+    insert_given c.args.reader.now c.name.new.self c.read_items.new.reader c.in_ok-table.table c.in_ok-tuples.tuples c.new-tuples.result
+    c.in_ok-table.ensures c.in_ok-tuples.ensures c.new-tuples.ensures

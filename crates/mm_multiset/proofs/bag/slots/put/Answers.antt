@@ -1,6 +1,6 @@
 -- One slot has the row, and its count and its pair are there.
-use Rattle.std.proofs.Common.{ℕ, inl, inr, set, ap, ◌∙◌, arith}
-use Rattle.mm_partition.specs.Places.{Free, Live}
+use Rattle.std.proofs.Common.{◌≡◌, ℕ, inl, inr, set, ap, ◌∙◌, subst, arith}
+use Rattle.mm_partition.specs.Places.{ChangesOnly, Free, Live}
 use Rattle.mm_multiset.specs.Slots.{no_row}
 use Rattle.mm_multiset.proofs.Placing.{IsPut, entries_put, kept_put, turned_put}
 use Rattle.mm_multiset.proofs.SlotEntries.{Turns}
@@ -8,7 +8,9 @@ use Rattle.mm_multiset.proofs.bag.slots.put.Goals as goal
 use Rattle.mm_multiset.proofs.bag.slots.put.Goals.{After-insert, then-index-len, else-index-len}
 
 pub insert-requires-clause-small : goal.insert-requires-clause-small
-insert-requires-clause-small c = c.are_references_small.ensures c.place-at.result (c.args.row, c.place-at.ensures.placed.changed)
+insert-requires-clause-small c =
+    let given : c.as_mut_slice.result.now ≡ c.args.row = c.as_mut_slice.ensures.value ∙ c.into_values-values.ensures in
+    c.are_references_small.ensures c.place-at.result (c.args.row, c.place-at.ensures.placed.changed ∙ ap Live given)
 
 turned : (c : After-insert) → Turns c.place-at.result.slot c.args.rows.now.slots c.place-at.new.self.slots c.args.counts.now.items
     c.if-index-len.counts.items Free (Live c.args.row) no_row c.args.count
@@ -30,8 +32,11 @@ turned c =
     ]
     in
     let place = c.place-at.ensures in
+    let given : c.as_mut_slice.result.now ≡ c.args.row = c.as_mut_slice.ensures.value ∙ c.into_values-values.ensures in
+    let placed : ChangesOnly c.args.rows.now c.place-at.new.self c.place-at.result (Live c.args.row) =
+    subst (λ row. ChangesOnly c.args.rows.now c.place-at.new.self c.place-at.result (Live row)) given place.placed in
     turned_put c.args.rows.now c.place-at.new.self c.place-at.result c.args.row counts.items c.if-index-len.counts.items c.args.count
-    c.requires.kept.marked place.fresh place.placed place.extent place.within written
+    c.requires.kept.marked place.fresh placed place.extent place.within written
 
 pub returns-clause-kept : goal.returns-clause-kept
 returns-clause-kept c =

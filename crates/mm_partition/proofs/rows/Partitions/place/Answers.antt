@@ -20,8 +20,9 @@ invariant_of-self c =
     c.push_reserved.ensures.items (omega (arith, room, none.0)) (omega (arith, c.push_reserved.ensures.capacity)) (omega (arith, c.pop.ensures.capacity))
     c.push_each.ensures.fits
     (Storable-written c.self.inside.columns.items _ c.self.inside.states.items _ c.len-index.result _
-    (Written-pushed _ _ c.self.inside.states.items _ c.len-index.result state.Live c.args.row (omega arith) c.push_reserved.ensures.items
-    (c.push_each.ensures.here ∙ c.into_values-values.ensures) c.push_each.ensures.others) c.is_storable.ensures c.self.invariant.storable)
+    (Written-pushed _ _ c.self.inside.states.items _ c.len-index.result state.Live c.args.values.now (omega arith) c.push_reserved.ensures.items
+    c.push_each.ensures.here c.push_each.ensures.others)
+    c.requires.storable c.self.invariant.storable)
     c.self.invariant
 
 pub returns-in-None-clause-fresh : goal.returns-in-None-clause-fresh
@@ -36,9 +37,9 @@ pub returns-in-None-clause-placed : goal.returns-in-None-clause-placed
 returns-in-None-clause-placed c =
     let states : List State = c.self.inside.states.items in
     ChangesOnly-at _ c.self.inside.columns.items c.push_each.new.columns.items states c.push_reserved.new.self.items _ _ c.len-index.result
-    c.reference_to.result (Live c.args.row) c.self.view_is c.reference_to.ensures
-    (Written-pushed _ _ states _ c.len-index.result state.Live c.args.row (omega arith) c.push_reserved.ensures.items
-    (c.push_each.ensures.here ∙ c.into_values-values.ensures) c.push_each.ensures.others)
+    c.reference_to.result (Live c.args.values.now) c.self.view_is c.reference_to.ensures
+    (Written-pushed _ _ states _ c.len-index.result state.Live c.args.values.now (omega arith) c.push_reserved.ensures.items
+    c.push_each.ensures.here c.push_each.ensures.others)
 
 pub returns-in-None-clause-within : goal.returns-in-None-clause-within
 returns-in-None-clause-within c = omega (arith, c.reference_to.ensures, extent_is _ _ _ _ c.self.view_is)
@@ -78,8 +79,9 @@ invariant_of-self-in-Some c =
     IsStored-at states (set states i state.Live) _ _ _ _ _ _ _ (length-set states i state.Live) (IsFreeStack-given states _ i free)
     (c.swap_each.ensures.fits _ _ c.self.invariant.cells)
     (Storable-written c.self.inside.columns.items _ states _ i _
-    (Written-slot _ _ states i state.Live c.args.row (slice_get_within states i state.Free (last_is_free states _ _ free))
-    (c.swap_each.ensures.here ∙ c.into_values-values.ensures) c.swap_each.ensures.others) c.is_storable.ensures c.self.invariant.storable)
+    (Written-slot _ _ states i state.Live c.args.values.now (slice_get_within states i state.Free (last_is_free states _ _ free))
+    c.swap_each.ensures.here c.swap_each.ensures.others)
+    c.requires.storable c.self.invariant.storable)
     c.self.invariant in
     record {
       free_slots = stored.free_slots;
@@ -90,33 +92,33 @@ invariant_of-self-in-Some c =
       storable = stored.storable;
     }
 
-pub returns-clause-fresh : goal.returns-clause-fresh
-returns-clause-fresh c =
+pub returns-in-Some-clause-fresh : goal.returns-in-Some-clause-fresh
+returns-in-Some-clause-fresh c =
     let states : List State = c.self.inside.states.items in
     let i : ℕ = c.in-Some.index in
     let free : IsFreeStack states (c.pop.new.self.items ++ i ∷ []) = subst (IsFreeStack states) c.in-Some.ensures.items c.self.invariant.free_slots in
     free_at _ states _ _ c.reference_to-in-Some.result i c.self.view_is c.reference_to-in-Some.ensures
     (ap (λ s. content_if s (row_of c.self.inside.columns.items i)) (last_is_free states _ _ free))
 
-pub returns-clause-placed : goal.returns-clause-placed
-returns-clause-placed c =
+pub returns-in-Some-clause-placed : goal.returns-in-Some-clause-placed
+returns-in-Some-clause-placed c =
     let states : List State = c.self.inside.states.items in
     let i : ℕ = c.in-Some.index in
     let free : IsFreeStack states (c.pop.new.self.items ++ i ∷ []) = subst (IsFreeStack states) c.in-Some.ensures.items c.self.invariant.free_slots in
     ChangesOnly-at _ c.self.inside.columns.items c.swap_each.new.columns.items states (set states i state.Live) _ _ i c.reference_to-in-Some.result
-    (Live c.args.row) c.self.view_is c.reference_to-in-Some.ensures
-    (Written-slot _ _ states i state.Live c.args.row (slice_get_within states i state.Free (last_is_free states _ _ free))
-    (c.swap_each.ensures.here ∙ c.into_values-values.ensures) c.swap_each.ensures.others)
+    (Live c.args.values.now) c.self.view_is c.reference_to-in-Some.ensures
+    (Written-slot _ _ states i state.Live c.args.values.now (slice_get_within states i state.Free (last_is_free states _ _ free))
+    c.swap_each.ensures.here c.swap_each.ensures.others)
 
-pub returns-clause-within : goal.returns-clause-within
-returns-clause-within c =
+pub returns-in-Some-clause-within : goal.returns-in-Some-clause-within
+returns-in-Some-clause-within c =
     let states : List State = c.self.inside.states.items in
     let i : ℕ = c.in-Some.index in
     let free : IsFreeStack states (c.pop.new.self.items ++ i ∷ []) = subst (IsFreeStack states) c.in-Some.ensures.items c.self.invariant.free_slots in
     omega (arith, slice_get_within states i state.Free (last_is_free states _ _ free), c.reference_to-in-Some.ensures, extent_is _ _ _ _ c.self.view_is)
 
-pub returns-clause-extent : goal.returns-clause-extent
-returns-clause-extent c =
+pub returns-in-Some-clause-extent : goal.returns-in-Some-clause-extent
+returns-in-Some-clause-extent c =
     let states : List State = c.self.inside.states.items in
     let i : ℕ = c.in-Some.index in
     let free : IsFreeStack states (c.pop.new.self.items ++ i ∷ []) = subst (IsFreeStack states) c.in-Some.ensures.items c.self.invariant.free_slots in

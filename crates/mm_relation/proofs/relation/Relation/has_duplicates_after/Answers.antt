@@ -1,5 +1,5 @@
 -- The sorted new rows have duplicates, or one of them has the key of a row that stays.
-use Rattle.std.proofs.Common.{◌≡◌, true, false, ◌&&◌, map, vec_len, sym, ◌∙◌, subst, arith, rules, tests}
+use Rattle.std.proofs.Common.{◌≡◌, [], ◌∷◌, true, false, ◌&&◌, map, vec_len, sym, ap, ◌∙◌, subst, arith, rules, tests}
 use Rattle.std.specs.Prelude.{not}
 use Rattle.std.specs.List.{list_any}
 use Rattle.std.proofs.lemmas.Bool.{eqb-true}
@@ -9,14 +9,25 @@ use Rattle.mm_schema.specs.Rows.{has_duplicate_keys, same_in_column}
 use Rattle.mm_partition.specs.Places.{slot_at}
 use Rattle.mm_partition.specs.Views.{viewed}
 use Rattle.mm_relation.specs.Index.{InOrder}
-use Rattle.mm_relation.specs.Kept.{StoredRows, Stay}
+use Rattle.mm_relation.specs.Kept.{StoredRows, Stay, rows_after}
+use Rattle.mm_relation.specs.declared.edits.Edit.TheVariants.{Add}
 use Rattle.mm_relation.specs.KeyRows.{rows_that_free_keys, rows_with_new_keys}
 use Rattle.mm_relation.specs.Refs.{row_at}
-use Rattle.mm_relation.proofs.DuplicatesAfter.{olds_stand, no_duplicates_without_new, duplicates_by_new, duplicates_by_kept}
+use Rattle.mm_relation.proofs.DuplicatesAfter.{duplicates_of_one, olds_stand, no_duplicates_without_new, duplicates_by_new, duplicates_by_kept}
 use Rattle.mm_relation.proofs.relation.Relation.has_duplicates_after.Goals as goal
 
-pub returns-then-is_empty : goal.returns-then-is_empty
-returns-then-is_empty c kept stay =
+pub returns-in-Some-clause-ok : goal.returns-in-Some-clause-ok
+returns-in-Some-clause-ok c kept stay =
+    let v = c.args.self.now in
+    let ordered : InOrder v.key v.key (slot_at v.places) v.refs = subst (λ (v : StoredRows). InOrder v.key v.key (slot_at v.places) v.refs) c.self.view_is
+    c.self.invariant.by_key in
+    let one : c.args.edits.now ≡ Add c.in-Some.row.now ∷ [] = c.in-Some.ensures.lone in
+    c.has_key_of.ensures
+    ∙ (sym (duplicates_of_one v.key (slot_at v.places) v.refs c.in-Some.row.now kept (subst (λ edits. Stay v.refs edits kept) one stay) ordered)
+    ∙ ap (λ edits. has_duplicate_keys v.key (rows_after (slot_at v.places) edits kept)) (sym one))
+
+pub returns-then-is_empty-clause-ok : goal.returns-then-is_empty-clause-ok
+returns-then-is_empty-clause-ok c kept stay =
     let v = c.args.self.now in
     let fresh : map (λ r. r.now) c.in_ok-fresh.fresh.items ≡ rows_with_new_keys v.key (slot_at v.places) c.args.edits.now = subst
     (λ (v : StoredRows). map (λ r. r.now) c.in_ok-fresh.fresh.items ≡ rows_with_new_keys v.key (slot_at v.places) c.args.edits.now) c.self.view_is
@@ -27,8 +38,8 @@ returns-then-is_empty c kept stay =
     no_duplicates_without_new v.key (slot_at v.places) v.refs c.args.edits.now kept stay ordered c.in_ok-fresh.fresh.items
     (omega (arith, none, c.in_ok-fresh.fresh.ok.0)) fresh
 
-pub returns-then-has_equal_neighbours : goal.returns-then-has_equal_neighbours
-returns-then-has_equal_neighbours c kept stay =
+pub returns-then-has_equal_neighbours-clause-ok : goal.returns-then-has_equal_neighbours-clause-ok
+returns-then-has_equal_neighbours-clause-ok c kept stay =
     let v = c.args.self.now in
     let fresh : map (λ r. r.now) c.in_ok-fresh.fresh.items ≡ rows_with_new_keys v.key (slot_at v.places) c.args.edits.now = subst
     (λ (v : StoredRows). map (λ r. r.now) c.in_ok-fresh.fresh.items ≡ rows_with_new_keys v.key (slot_at v.places) c.args.edits.now) c.self.view_is
@@ -53,8 +64,8 @@ rows_that_free_keys-requires c =
     (sym c.self.view_is) c.requires.1 in
     olds_stand (slot_at c.self.inside.rows) c.self.inside.by_key.refs c.args.edits.now c.requires.0 stay c.self.invariant.held
 
-pub returns : goal.returns
-returns c kept stay =
+pub returns-clause-ok : goal.returns-clause-ok
+returns-clause-ok c kept stay =
     let v = c.args.self.now in
     let fresh : map (λ r. r.now) c.in_ok-fresh.fresh.items ≡ rows_with_new_keys v.key (slot_at v.places) c.args.edits.now = subst
     (λ (v : StoredRows). map (λ r. r.now) c.in_ok-fresh.fresh.items ≡ rows_with_new_keys v.key (slot_at v.places) c.args.edits.now) c.self.view_is

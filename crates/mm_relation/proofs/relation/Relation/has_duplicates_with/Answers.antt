@@ -14,9 +14,9 @@ pub returns-clause-duplicates : goal.returns-clause-duplicates
 returns-clause-duplicates c =
     let was = subst (λ (v : StoredRows). IsKept v.places.types v.key (slot_at v.places) v.refs v.indexes) c.self.view_is c.self.invariant in
     IfOk-weaker c.has_duplicates_after.result _ _ (λ duplicates each. duplicates_with c.args.self.now was c.args.edits.now c.requires duplicates each)
-    c.has_duplicates_after.ensures
+    c.has_duplicates_after.ensures.ok
 
 pub returns-clause-apart : goal.returns-clause-apart
 returns-clause-apart c =
     IfOk-weaker c.has_duplicates_after.result _ _ (λ duplicates each none. apart_with c.args.self.now c.args.edits.now duplicates each none)
-    c.has_duplicates_after.ensures
+    c.has_duplicates_after.ensures.ok

@@ -66,7 +66,7 @@ invariant_of-self-2 c =
 
 pub count_moved-moved-requires : goal.count_moved-moved-requires
 count_moved-moved-requires c =
-    subst (λ (v : StoredRows). All (HasRow (slot_at v.places)) (named edit_name Old c.args.edits.now)) (sym c.self.view_is) c.requires.live
+    subst (λ (v : StoredRows). All (HasRow (slot_at v.places)) (named edit_name Old c.args.edits.now)) (sym c.self.view_is) c.requires.standing.live
 
 pub count_room-requires-clause-moved : goal.count_room-requires-clause-moved
 count_room-requires-clause-moved c =

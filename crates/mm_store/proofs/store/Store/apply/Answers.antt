@@ -88,7 +88,7 @@ module _ (c : In_ok-needed) where
   was = some_at c.args.self.now.tables c.args.table c.requires.there
 
   is : (new : StoredRows) × Turns c.args.self.now c.args.table new c.edit.new.self
-      × IsEdited was.0 c.args.edits.items c.in_ok-undo_room.undo_room c.in_ok-needed.needed entries new
+      × IsEdited was.0 c.args.edits c.in_ok-undo_room.undo_room c.in_ok-needed.needed entries new
   is = c.in_ok-needed.ensures.ok was.0 was.1
 
   -- what the log's older commands need in the table

@@ -48,11 +48,11 @@ at_place c =
     there_inside c.self.inside.tables.items (map (λ (link : Link). link.reference) c.self.inside.links.items) (length c.self.inside.tables.items) c.args.table
     refl c.args.self.now c.self.view_is c.requires.there c.index_mut.result.now c.index_mut.ensures.value
 
-lawful_there : (c : After-index_mut) → AreLawful (view c) c.args.table c.index_mut.result.now c.args.edits.items
+lawful_there : (c : After-index_mut) → AreLawful (view c) c.args.table c.index_mut.result.now c.args.edits
 lawful_there c =
     told_of c.self.inside.tables.items (map (λ (link : Link). link.reference) c.self.inside.links.items) (length c.self.inside.tables.items) c.args.table
     refl c.args.self.now c.self.view_is c.requires.there c.index_mut.result.now c.index_mut.ensures.value
-    (λ v s. AreLawful v c.args.table s c.args.edits.items) c.requires.lawful
+    (λ v s. AreLawful v c.args.table s c.args.edits) c.requires.lawful
 
 pub apply-requires-clause-standing : goal.apply-requires-clause-standing
 apply-requires-clause-standing c = (lawful_there (goal.at.apply-requires-clause-standing c).After-index_mut).fit.standing
@@ -142,7 +142,7 @@ module _ (c : After-is_kept) where
   place = c.args.table
 
   abbrev edits : List Edit
-  edits = c.args.edits.items
+  edits = c.args.edits
 
   abbrev old : StoredRows
   old = c.index_mut.result.now
@@ -178,7 +178,7 @@ module _ (c : After-is_kept) where
         arith,
         c.in_ok-needed.ensures.extent,
         ap (λ (s : StoredRows). extent_of s.places) first,
-        ap (λ (es : List Edit). added_count es) c.as_slice.ensures.value,
+        ap (λ (es : List Edit). added_count es) c.as_slice.ensures,
         c.in_ok-extent.ensures,
       )
 

@@ -14,7 +14,7 @@ cascades-requires-clause-fit c =
     let mutation = c.requires.0 in
     let schema = c.self.inside.catalog in
     let bound = subst (λ (h : Holdings). IsBoundChange h.schema mutation (bound_of c.args.change)) (sym c.self.view_is) c.requires.1 in
-    own_fit schema c.self.inside.store c.self.invariant.kept.relations mutation c.in_ok-own.own.table c.in_ok-own.own.edits.items
+    own_fit schema c.self.inside.store c.self.invariant.kept.relations mutation c.in_ok-own.own.table c.in_ok-own.own.edits
     (c.in_ok-own.ensures.ok schema mutation c.self.invariant.kept.relations bound)
 
 pub cascades-requires-clause-removals : goal.cascades-requires-clause-removals
@@ -29,7 +29,7 @@ cascades-requires-clause-removals c =
           ∙ sym w.matches-is
       | in_default w ↦ other_bound schema mutation c.args.change bound.binds w.in_default.not-Delete ∙ sym w.matches-is
     ] in
-    own_removes schema c.self.inside.store c.self.invariant.kept.relations mutation c.in_ok-own.own.table c.in_ok-own.own.edits.items
+    own_removes schema c.self.inside.store c.self.invariant.kept.relations mutation c.in_ok-own.own.table c.in_ok-own.own.edits
     (c.in_ok-own.ensures.ok schema mutation c.self.invariant.kept.relations bound) (is ∙ c.if-cascades_rows.true)
 
 pub returns-clause-ok : goal.returns-clause-ok
@@ -52,11 +52,11 @@ returns-clause-ok c = λ mutation asked.
       | then-cascades_rows+in_ok-cascaded w ↦
           subst (λ (es : List PlacedEdits). AreEditsOf mutation schema store (placed own) es)
           (ap (λ cascaded. map placed cascaded.items) (sym w.cascaded-is))
-          (edits_with_others schema store are mutation own.table own.edits.items own_edits (is ∙ w.if-cascades_rows.true)
+          (edits_with_others schema store are mutation own.table own.edits own_edits (is ∙ w.if-cascades_rows.true)
           (map placed w.in_ok-cascaded.cascaded.items) w.in_ok-cascaded.ensures.are w.in_ok-cascaded.ensures.cascades)
       | else-cascades_rows w ↦
           subst (λ (es : List PlacedEdits). AreEditsOf mutation schema store (placed own) es)
           (ap (map placed) (sym (ap (λ cascaded. cascaded.items) w.cascaded-is ∙ w.new-cascaded.ensures.items)))
-          (edits_alone schema store are mutation own.table own.edits.items own_edits (is ∙ w.if-cascades_rows.false))
+          (edits_alone schema store are mutation own.table own.edits own_edits (is ∙ w.if-cascades_rows.false))
     ] in
     subst (λ (h : Holdings). AreEditsOf mutation h.schema h.store (placed own) (map placed c.if-cascades_rows.cascaded.items)) c.self.view_is all

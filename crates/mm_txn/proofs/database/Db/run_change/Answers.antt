@@ -180,7 +180,7 @@ returns-clause-count c = λ mutation is.
     let own = c.in_ok-edits.edits.own in
     let ok = c.in_ok-edits.ensures.ok mutation here in
     let saved = saved_rows c.self.inside.is_open c.self.inside.undo held.store c.self.inside.marks.items in
-    let counted : c.len-count.result ≡ length own.edits.items = omega (arith, c.len-count.ensures, own.edits.ok) in
+    let counted : length c.as_slice-count.result.now ≡ length own.edits = ap length c.as_slice-count.ensures in
     counted ∙ (edits_counted held.schema held.store c.is_at_rest.ensures.rest.kept.relations here.distinct mutation
     (placed own) (map placed c.in_ok-edits.edits.cascaded.items) ok
     ∙ (ap length (pairs_beside held.schema held.store.tables (queries_of held.lists.queries) saved mutation)

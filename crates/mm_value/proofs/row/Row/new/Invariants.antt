@@ -1,6 +1,6 @@
 use Rattle.std.specs.List.{AllWithin}
 use Rattle.mm_value.specs.Storable.{IsStorable}
-use Rattle.mm_value.proofs.tuple.Row.new.Given as goal
+use Rattle.mm_value.proofs.row.Row.new.Given as goal
 
 -- the values so far are ones that a program has
 abbrev pub invariant-loop-value : goal.invariant-loop-value

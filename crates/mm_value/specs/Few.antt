@@ -2,10 +2,10 @@
 use Rattle.std.specs.Prelude.{◌≡◌, List, [], ◌∷◌, length}
 use Rattle.std.specs.Option.{option_to_list}
 use Rattle.std.specs.Vec.Iter.{into_iter_items, into_iter_len}
-use Rattle.mm_query.specs.declared.few.Items.{Items}
-use Rattle.mm_query.specs.declared.few.Items.TheVariants as kept
-use Rattle.mm_query.specs.declared.few.Left.{Left}
-use Rattle.mm_query.specs.declared.few.Left.TheVariants as left
+use Rattle.mm_value.specs.declared.few.Items.{Items}
+use Rattle.mm_value.specs.declared.few.Items.TheVariants as kept
+use Rattle.mm_value.specs.declared.few.Left.{Left}
+use Rattle.mm_value.specs.declared.few.Left.TheVariants as left
 
 module _ {T : Type 0} where
   -- An only item, or those of a vector.

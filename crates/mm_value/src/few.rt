@@ -1,12 +1,14 @@
 //! Lists that have one item as a rule, which takes no block.
-ghost use Rattle.std.specs.Prelude.{◌≡◌, ◌∷◌, []};
+ghost use Rattle.std.specs.Prelude.{◌≡◌, ◌∷◌, ◌++◌, ◌≤◌, [], IfOk, IsOk, OnErr, OnOk};
 ghost use Rattle.std.specs.Iterator.{YieldsFirst, item_count};
 ghost use Rattle.std.specs.Mem.{FitsInMemory};
 
+use std::alloc::{AllocError, Global};
 use std::marker::Model;
-use std::{slice, vec};
+use std::{mem, slice, vec};
 
-/// Items, one after another, of which an only one lies in the value itself: the fields of a query, or the tests of a WHERE.
+/// Items, one after another, of which an only one lies in the value itself: the tests of a WHERE, the rows of an INSERT, or the edits of
+/// a table.
 #[derive(Debug, Drop)]
 pub struct Few<T> {
     items: Items<T>,
@@ -23,7 +25,7 @@ enum Items<T> {
 
 impl<T> Model for Few<T> {
     ghost use Rattle.std.specs.Prelude.{List};
-    ghost use Rattle.mm_query.specs.Few.{items_in};
+    ghost use Rattle.mm_value.specs.Few.{items_in};
 
     ghost Value = { List T };
 
@@ -61,6 +63,43 @@ impl<T> Few<T> {
     }
 }
 
+impl<T: Drop> Few<T> {
+    /// No items, and room for so many. `AllocError` where memory is refused for more than one.
+    pub fn with_capacity(alloc: Global, count: usize) -> Result<Few<T>, AllocError>
+        ensures ok { IfOk result (λ few. few ≡ []) }
+        ensures one { count ≤ 1 → IsOk result }
+    {
+        if count <= 1 {
+            return Ok(Few::from_vec(Vec::new(alloc)));
+        }
+        Ok(Few::from_vec(Vec::with_capacity(alloc, count)?))
+    }
+
+    /// Puts an item behind the others. `AllocError` where memory is refused, and then the list is as before.
+    pub fn push(&mut self, alloc: Global, item: T) -> Result<(), AllocError>
+        ensures ok { OnOk result (self.new ≡ self.old ++ item ∷ []) }
+        ensures err { OnErr result (self.new ≡ self.old) }
+        ensures first { self.old ≡ [] → IsOk result }
+    {
+        if let Items::Many(items) = &mut self.items {
+            if items.capacity() > 0 {
+                items.push(item)?;
+                return Ok(());
+            }
+            self.items = Items::One(item);
+            return Ok(());
+        }
+        let mut items = Vec::with_capacity(alloc, 4)?;
+        let Items::One(first) = mem::replace(&mut self.items, Items::Many(Vec::new(alloc))) else {
+            unreachable!()
+        };
+        items.push_reserved(first);
+        items.push_reserved(item);
+        self.items = Items::Many(items);
+        Ok(())
+    }
+}
+
 /// The items of a list by value, seen as the list of those that are left.
 #[derive(Drop)]
 pub struct FewIntoIter<T> {
@@ -78,7 +117,7 @@ enum Left<T> {
 
 impl<T> Model for FewIntoIter<T> {
     ghost use Rattle.std.specs.Prelude.{List};
-    ghost use Rattle.mm_query.specs.Few.{IsCounted, items_to_come};
+    ghost use Rattle.mm_value.specs.Few.{IsCounted, items_to_come};
 
     ghost Value = { List T };
 
