@@ -341,12 +341,12 @@ fn bind_change_growths(rt: HostRuntime) -> Result<(), Fail> {
 fn add_twice<'a>(
     rt: &(impl Abort + Print),
     lists: &mut PlainRows<'a>,
-    tuples: &'a RowList,
+    rows: &'a [Row],
 ) -> Result<(), Fail> {
     for _ in 0..2 {
-        if let Err(AllocError) = lists.add(tuples.as_slice()) {
+        if let Err(AllocError) = lists.add(rows) {
             println!(rt; "refused")?;
-            lists.add(tuples.as_slice())?;
+            lists.add(rows)?;
         }
     }
     Ok(())
@@ -383,11 +383,20 @@ fn expect_found(rt: &(impl Abort + AllocGlobal), found: &[Row]) {
 fn eval_over(
     rt: &(impl Abort + AllocGlobal + Print),
     bound: &BoundQuery,
-    tuples: &RowList,
+    rows: &[Row],
 ) -> Result<(), Fail> {
     let mut lists = PlainRows::new(rt.alloc());
-    add_twice(rt, &mut lists, tuples)?;
+    add_twice(rt, &mut lists, rows)?;
     eval_again(rt, bound, &lists)
+}
+
+/// Rows of the same values as tuples. `AllocError` where memory is refused.
+fn rows_of(alloc: Global, tuples: &RowList) -> Result<Vec<Row>, AllocError> {
+    let mut rows = Vec::new(alloc);
+    for tuple in tuples.as_slice() {
+        rows.push(Row::copy_of(alloc, tuple.values())?)?;
+    }
+    Ok(rows)
 }
 
 /// The same with the rows of an `INSERT`.
@@ -396,7 +405,10 @@ fn eval_over_tuples(
     bound: &BoundQuery,
     insert: &Command<'_>,
 ) -> Result<(), Fail> {
-    eval_over(rt, bound, inserted(insert)?)
+    match rows_of(rt.alloc(), inserted(insert)?) {
+        Ok(rows) => eval_over(rt, bound, rows.as_slice()),
+        Err(AllocError) => Ok(()),
+    }
 }
 
 /// The same with the rows of a line.
