@@ -1,9 +1,9 @@
 /*
  * mmdb in a program's own process.
  *
- * A program holds a database by a handle, a struct mmdb, and drives it by lines of the language (docs/LANGUAGE.md) and by prepared
- * statements, lines with holes. Each call is a step of the machine that docs/MODEL.md describes: it answers what that machine answers,
- * and a call that is refused changes nothing.
+ * A program opens a database through a handle, a struct mmdb. It drives the database with lines of the language (docs/LANGUAGE.md) and
+ * with prepared statements, which are lines with holes. docs/MODEL.md describes the machine whose replies each call returns. A call
+ * that fails changes nothing.
  *
  *     mmdb db = MMDB_CLOSED;
  *     if (mmdb_open(&db) == MMDB_DONE) {
@@ -12,18 +12,20 @@
  *     }
  *
  * Ownership. The program owns the handle and all memory that it passes. A call reads and writes that memory while it runs, and keeps no
- * pointer to it. What a handle leads to is mmdb's own, and is freed by mmdb_close.
+ * pointer to it. The database behind a handle belongs to mmdb, and mmdb_close frees it.
  *
- * Pointers. None is NULL, not even one to no bytes or no cells, and what is written by a call overlaps nothing else that is passed to
- * it. A length is a number of elements.
+ * Pointers. A pointer to an array may be NULL if the length is 0. All other pointers must not be NULL. What a call writes must not
+ * overlap anything else that is passed to it. A length is a number of elements.
  *
- * What mmdb cannot see, and what therefore may do anything: a handle that was not MMDB_CLOSED at first; a copy of an open handle that is
- * used once the other was closed, opened or moved on; a field of a handle that the program wrote; two calls at one handle at a time; and
- * a call from a signal handler, or from the child of a fork of a process with threads. Handles share nothing, so each thread may use
- * its own. A handle stays on the thread that opened it.
+ * Threads. Handles share nothing, so each thread may use its own. A handle may move from one thread to another: open it here, use it
+ * there and close it elsewhere, with one call at a time. The library has no thread-local state and no locks, and no call blocks.
  *
- * Memory. mmdb takes memory by malloc and realloc and frees it by free, which belong to one allocator. Where memory is refused a call
- * answers MMDB_MEMORY and changes nothing; none ends the process.
+ * Undefined behaviour: a handle that was not initialized with MMDB_CLOSED; a copy of an open handle that is used after the other one was
+ * used, closed or opened; a field of a handle that the program wrote; two calls with one handle at the same time; and a call from a
+ * signal handler, or from the child of a fork of a process with threads.
+ *
+ * Memory. mmdb allocates with malloc and realloc and frees with free. If an allocation fails, the call returns MMDB_MEMORY and changes
+ * nothing. No call ends the process.
  */
 #ifndef MMDB_H
 #define MMDB_H
@@ -36,13 +38,22 @@
 extern "C" {
 #endif
 
-/* A handle. The fields are mmdb's. It may be moved in memory between calls, and there is one of each: an open one is never copied. */
+/* The version of this header: major * 1000000 + minor * 1000 + patch. */
+#define MMDB_VERSION 1001000
+
+/*
+ * Returns the version of the library, in the form of MMDB_VERSION. A program works with each library of the same major version whose
+ * version is at least that of the header it was compiled with.
+ */
+uint32_t mmdb_version(void);
+
+/* A handle. Its fields belong to mmdb. A program may move a handle in memory between calls, but must not copy an open one. */
 typedef struct mmdb {
     void *block;
     bool is_open;
 } mmdb;
 
-/* What a handle is before it is opened, and after it is closed. */
+/* A handle before it is opened and after it is closed. */
 #ifdef __cplusplus
 #define MMDB_CLOSED mmdb()
 #else
@@ -55,13 +66,13 @@ enum {
     MMDB_STRING = 1
 };
 
-/* The most bytes of a text. */
+/* The maximum length of a text, in bytes. */
 enum { MMDB_TEXT_BYTES = 64 };
 
 /*
- * A value, in 80 bytes. Of kind MMDB_NUMBER it is the number; len and text say nothing. Of kind MMDB_STRING it is the first len bytes of
- * text, 0 to 64 of them without a line feed; number and the bytes behind them say nothing. A cell that is none of these is misuse where a
- * call reads it; no call writes one.
+ * A value, in 80 bytes. If kind is MMDB_NUMBER, the value is number, and len and text are ignored. If kind is MMDB_STRING, the value is
+ * the first len bytes of text: 0 to 64 bytes without a line feed; number and the other bytes are ignored. Passing any other cell is
+ * misuse. No call writes one.
  */
 typedef struct mmdb_cell {
     uint8_t kind;
@@ -70,12 +81,12 @@ typedef struct mmdb_cell {
     uint8_t text[MMDB_TEXT_BYTES];
 } mmdb_cell;
 
-/* The most bytes of a name. */
+/* The maximum length of a name, in bytes. */
 enum { MMDB_NAME_BYTES = 32 };
 
 /*
- * A column of a reply with rows: the kind of its cells, which is MMDB_NUMBER for INT and MMDB_STRING for TEXT; and its name, the first len
- * bytes of name, 1 to 32 of them. The bytes behind them are 0.
+ * A column of a result. type is the kind of its cells: MMDB_NUMBER for INT, MMDB_STRING for TEXT. The name is the first len bytes of
+ * name, 1 to 32 of them, and the other bytes are 0.
  */
 typedef struct mmdb_column {
     uint8_t type;
@@ -84,14 +95,14 @@ typedef struct mmdb_column {
 } mmdb_column;
 
 /*
- * What a call answers: its status. The numbers from 10 to 90 are the refusals of the language, "error 40 duplicate key" and so on. A
- * status from 10 on says that nothing changed, but for the reply that the handle keeps: that is the refusal. mmdb_prepare,
- * mmdb_parameters, mmdb_finalize, mmdb_text, mmdb_columns and mmdb_place leave the reply as it was, refused or not.
+ * The status that a call returns. The numbers from 10 to 90 are the refusals of the language, "error 40 duplicate key" and so on. After
+ * such a status nothing has changed, except that mmdb_execute, mmdb_run, mmdb_query, mmdb_run_many and mmdb_explain keep the refusal as
+ * the reply. All other calls leave the reply unchanged, whether they fail or not. mmdb_run_many says which of its runs stay done.
  */
 enum {
     MMDB_NOTHING = 0,                   /* the line was empty or a comment: there is no reply */
-    MMDB_DONE = 1,                      /* "ok": it is done */
-    MMDB_COUNT = 2,                     /* "ok N": it is done, and concerned the rows that mmdb_count tells */
+    MMDB_DONE = 1,                      /* "ok" */
+    MMDB_COUNT = 2,                     /* "ok N": mmdb_count returns N, the number of rows inserted, updated or deleted */
     MMDB_ROWS = 3,                      /* the reply has rows: mmdb_count, mmdb_read, mmdb_text */
     MMDB_TEXT = 4,                      /* the reply to EXPLAIN or TABLES: mmdb_text */
     MMDB_LINE_TOO_LONG = 10,
@@ -121,102 +132,168 @@ enum {
     MMDB_NOT_IN_TRANSACTION = 52,
     MMDB_NO_SUCH_SAVEPOINT = 53,
     MMDB_MEMORY = 90,
-    MMDB_MISUSE = 100                   /* the call was not made, and nothing changed, not even the reply that is kept */
+    MMDB_MISUSE = 100                   /* the call was not made, and nothing changed, not even the reply */
 };
 
 /*
- * Opens a handle that is closed: it leads to a database with nothing in it, without statements and without a reply.
- * MMDB_DONE; MMDB_MEMORY, and then it stays closed; MMDB_MISUSE where it is open, and then it stays as it is.
+ * Copies the words of a status into bytes: "duplicate key" for MMDB_DUPLICATE_KEY, "misuse" for MMDB_MISUSE. Copies at most room bytes
+ * and no terminating 0. Returns the full length, or 0 if the number is no status from 10 on.
+ */
+size_t mmdb_words(uint8_t status, uint8_t *bytes, size_t room);
+
+/*
+ * Opens a closed handle: it now leads to an empty database without statements and without a reply.
+ * Returns MMDB_DONE; MMDB_MEMORY, and the handle stays closed; or MMDB_MISUSE if the handle is open, and it stays as it is.
  */
 uint8_t mmdb_open(mmdb *db);
 
-/* Closes a handle and frees all that it led to: the tables, the statements, the reply. A handle that is closed stays so. */
+/* Closes a handle and frees its tables, statements and reply. A closed handle stays closed. */
 void mmdb_close(mmdb *db);
 
 /*
- * Answers a line of the language, without its line feed and carriage return, and keeps the reply. The status tells of the reply.
- * MMDB_MISUSE where the handle is closed.
+ * Executes a line of the language, without its line feed and carriage return, and keeps the reply. Returns the status of the reply, or
+ * MMDB_MISUSE if the handle is closed.
  */
 uint8_t mmdb_execute(mmdb *db, const uint8_t *line, size_t length);
 
 /*
- * Makes a line a statement: a line in which a ? stands where a literal may, for a value that comes with each run. Writes the number of
- * the statement, the least that no statement has, and MMDB_DONE is the status. A line without a hole may be a statement too.
- * What the line names is looked up when the statement is run, so it can be made before its tables.
- * A line that has no reading is refused: MMDB_LINE_TOO_LONG, MMDB_SYNTAX, MMDB_NUMBER_OUT_OF_RANGE, MMDB_TEXT_TOO_LONG, or MMDB_MEMORY.
- * MMDB_MISUSE where the handle is closed. After a refusal or misuse the number that is there stays. The reply that is kept stays.
+ * Prepares a statement: a line in which a ? may replace a literal. Each run passes a value for each ?, from left to right. A line without
+ * holes may be prepared too. Writes the number of the statement, the smallest one that is free.
+ * Names are looked up when the statement runs, so a statement can be prepared before its tables exist.
+ * Returns MMDB_DONE; MMDB_LINE_TOO_LONG, MMDB_SYNTAX, MMDB_NUMBER_OUT_OF_RANGE or MMDB_TEXT_TOO_LONG if the line cannot be read;
+ * MMDB_MEMORY; or MMDB_MISUSE if the handle is closed. If it fails, *statement is unchanged.
  */
 uint8_t mmdb_prepare(mmdb *db, const uint8_t *line, size_t length, size_t *statement);
 
 /*
- * Writes how many values a statement takes: one for each hole. MMDB_DONE; MMDB_MISUSE where no statement has the number or the handle is
- * closed, and then the count that is there stays.
+ * Writes the number of parameters of a statement. Returns MMDB_DONE; or MMDB_MISUSE if no statement has this number or the handle is
+ * closed, and *count is unchanged.
  */
 uint8_t mmdb_parameters(mmdb *db, size_t statement, size_t *count);
 
+/* The kinds of statements: one for each command, in groups of ten. */
+enum {
+    MMDB_KIND_NOTHING = 0,              /* an empty line or a comment */
+    MMDB_KIND_TABLE = 10,               /* 10 to 19: definitions, which change the catalog */
+    MMDB_KIND_DROP_TABLE = 11,
+    MMDB_KIND_INDEX = 12,
+    MMDB_KIND_DROP_INDEX = 13,
+    MMDB_KIND_WATCH = 14,
+    MMDB_KIND_UNWATCH = 15,
+    MMDB_KIND_INSERT = 20,              /* 20 to 29: changes of rows, with the status MMDB_COUNT */
+    MMDB_KIND_UPDATE = 21,
+    MMDB_KIND_DELETE = 22,
+    MMDB_KIND_SCAN = 30,                /* 30 to 39: questions with the status MMDB_ROWS */
+    MMDB_KIND_SCAN_INDEX = 31,
+    MMDB_KIND_SELECT = 32,
+    MMDB_KIND_SHOW = 33,
+    MMDB_KIND_EXPLAIN = 40,             /* 40 to 49: questions with the status MMDB_TEXT */
+    MMDB_KIND_TABLES = 41,
+    MMDB_KIND_BEGIN = 50,               /* 50 to 59: transactions and savepoints */
+    MMDB_KIND_COMMIT = 51,
+    MMDB_KIND_ROLLBACK = 52,
+    MMDB_KIND_SAVEPOINT = 53,
+    MMDB_KIND_ROLLBACK_TO = 54
+};
+
 /*
- * Runs a statement with a value for each hole, from left to right, and keeps the reply: that of the line with the values in its holes.
- * The status tells of the reply. MMDB_MISUSE where no statement has the number, where count is not the number of its holes, where a cell
- * is no value, or where the handle is closed. MMDB_MEMORY also where memory for the values is refused, which is asked for only if the
- * number and the count are right; then the reply that is kept stays.
+ * Writes the kind of a statement. Returns MMDB_DONE; or MMDB_MISUSE if no statement has this number or the handle is closed, and *kind is
+ * unchanged.
+ */
+uint8_t mmdb_statement_kind(mmdb *db, size_t statement, uint8_t *kind);
+
+/*
+ * Writes the columns of the rows that a statement returns, as mmdb_columns does for its line. Returns MMDB_DONE; MMDB_MEMORY; or
+ * MMDB_MISUSE if no statement has this number or the handle is closed. If it fails, columns and *count are unchanged.
+ */
+uint8_t mmdb_statement_columns(mmdb *db, size_t statement, mmdb_column *columns, size_t room, size_t *count);
+
+/*
+ * Runs a statement with a value for each hole, from left to right, and keeps the reply, which is that of the line with the values in its
+ * holes. Returns the status of the reply. Returns MMDB_MISUSE, and leaves the reply unchanged, if no statement has this number, count is
+ * not its number of parameters, a cell is not a value, or the handle is closed. Returns MMDB_MEMORY, and leaves the reply unchanged, if
+ * the values cannot be copied; this requires at least one value. So a prepared ROLLBACK in a transaction always succeeds.
  */
 uint8_t mmdb_run(mmdb *db, size_t statement, const mmdb_cell *values, size_t count);
 
 /*
- * mmdb_run, and behind it mmdb_read from the first row on. Writes to rows how many rows were read: 0 where the status is not MMDB_ROWS,
- * and then no cell is written.
+ * Calls mmdb_run, and then mmdb_read from the first row on. Writes the number of rows read to *rows: 0 if the status is not MMDB_ROWS, and
+ * then no cell is written.
  */
 uint8_t mmdb_query(mmdb *db, size_t statement, const mmdb_cell *values, size_t count, mmdb_cell *cells, size_t room, size_t *rows);
 
 /*
- * Runs a statement once for each row of values: the first width cells, the next width cells, and so on, count cells in all; the last row
- * has those that are left. The first run that is refused or misused is the last. Writes to runs how many were done before it. MMDB_DONE
- * where all were done; else the status of the run that was not, which changed nothing. Those before it stay done, so a program that wants
- * all or none begins a transaction first. The reply that is kept is that of the last run. MMDB_MISUSE, and no run, where width is 0 or
- * the handle is closed.
+ * Runs a statement once for each row of values: the first width cells, the next width cells, and so on, count cells in all. The last row
+ * has the cells that are left. Stops at the first run that fails. Writes the number of runs that succeeded to *runs. Returns MMDB_DONE if
+ * all runs succeeded, and otherwise the status of the run that failed, which changed nothing. The runs before it stay done, so a program
+ * that wants all or none begins a transaction first. The reply is that of the last run. The difference of mmdb_total_changes before and
+ * after is the number of rows that all runs changed. Returns MMDB_MISUSE, without a run, if width is 0 or the handle is closed.
  */
 uint8_t mmdb_run_many(mmdb *db, size_t statement, const mmdb_cell *values, size_t count, size_t width, size_t *runs);
 
 /*
- * Takes a statement away. A later statement may get its number. MMDB_DONE; MMDB_MISUSE where no statement has the number or the handle is
- * closed. The reply that is kept stays.
+ * Runs EXPLAIN with the query of a statement and a value for each hole, and keeps the reply, which is the plan. The statement is a SELECT
+ * or an EXPLAIN. Returns MMDB_TEXT, or the refusal of the EXPLAIN. Returns MMDB_MISUSE, and leaves the reply unchanged, if the statement
+ * is of another kind, and where mmdb_run does; and MMDB_MEMORY, as mmdb_run does, if the values cannot be copied.
+ */
+uint8_t mmdb_explain(mmdb *db, size_t statement, const mmdb_cell *values, size_t count);
+
+/*
+ * Deletes a statement. A later statement may get its number. Returns MMDB_DONE, or MMDB_MISUSE if no statement has this number or the
+ * handle is closed.
  */
 uint8_t mmdb_finalize(mmdb *db, size_t statement);
 
-/* How many rows the reply that is kept has (MMDB_ROWS) or tells of (MMDB_COUNT); 0 for any other, and where the handle is closed. */
+/*
+ * Returns the number of rows of the reply (MMDB_ROWS), or the number of rows that the command changed (MMDB_COUNT). Returns 0 for any
+ * other reply, and if the handle is closed.
+ */
 size_t mmdb_count(mmdb *db);
 
 /*
- * Reads rows of the reply that is kept, from first_row on, counted from 0, into cells: the values of one row from left to right, then
- * those of the next. It reads as many whole rows as there are and as the cells have room for, and answers how many. The cells behind them
- * stay. A cell is written so that it stands for its value; what the value does not need of it may stay. 0 where the handle is closed.
+ * Returns the number of rows that all calls since mmdb_open inserted, updated or deleted: the sum of the counts of their replies, modulo
+ * 2 to the power of 64. Changes that a rollback took back stay counted. Returns 0 if the handle is closed.
+ */
+uint64_t mmdb_total_changes(mmdb *db);
+
+/*
+ * Copies rows of the reply into cells, starting at first_row, counted from 0: the values of one row from left to right, then those of the
+ * next. Copies as many whole rows as there are and as fit. Returns the number of rows copied. The other cells are unchanged. A cell gets
+ * the fields that its value needs; the rest of it may be unchanged. Returns 0 if the handle is closed.
  */
 size_t mmdb_read(mmdb *db, size_t first_row, mmdb_cell *cells, size_t room);
 
 /*
- * Copies the text of the reply that is kept, as the program mmdb writes it, into bytes: as much as there is room for, with no byte 0
- * behind it. Writes its whole length, which is 0 where there is no reply, so a call with room 0 tells how much room a second call needs.
- * MMDB_DONE; MMDB_MEMORY or MMDB_MISUSE (the handle is closed), and then bytes and length stay.
+ * Copies the text of the reply, as the program mmdb writes it, into bytes: at most room bytes and no terminating 0. Writes the full length
+ * to *length, so a call with room 0 returns the room that a second call needs. The length is 0 if there is no reply.
+ * Returns MMDB_DONE; or MMDB_MEMORY or MMDB_MISUSE (the handle is closed), and bytes and *length are unchanged.
  */
 uint8_t mmdb_text(mmdb *db, uint8_t *bytes, size_t room, size_t *length);
 
 /*
- * Writes the columns of the rows that a line replies, by the tables as they are now: those of SELECT, SCAN, SCAN INDEX and SHOW, from
- * left to right. The line may have holes, and is only read. Other lines have no columns, and a name that nothing has brings none.
- * Writes as many columns as there is room for, and to count how many there are, so a call with room 0 tells how much room a second call
- * needs. MMDB_DONE; or the line is refused as by mmdb_prepare, or MMDB_MISUSE where the handle is closed, and then columns and count stay.
+ * Writes the columns of the rows that a line returns, from left to right, for the tables as they are now. SELECT, SCAN, SCAN INDEX and
+ * SHOW have columns. All other lines have none, and a name that does not exist has none. The line may have holes, and is not executed.
+ * Writes at most room columns, and the number of all columns to *count, so a call with room 0 returns the room that a second call needs.
+ * Returns MMDB_DONE; a refusal as mmdb_prepare does; or MMDB_MISUSE if the handle is closed. If it fails, columns and *count are unchanged.
  */
 uint8_t mmdb_columns(mmdb *db, const uint8_t *line, size_t length, mmdb_column *columns, size_t room, size_t *count);
 
 /*
- * Where in a line a person may look for what refused it, counted from 0: where reading stopped, or at a literal past its limit, or at a
- * name that nothing has. The status is what mmdb_execute, mmdb_prepare or mmdb_columns answered to the line. This is a hint. It is 0 where
- * there is no such place, where the status is no refusal, and where the handle is closed; it is length at most, the end of the line.
+ * Returns the byte offset in a line to show in an error message: where reading stopped, a literal past its limit, or a name that does not
+ * exist. status is what mmdb_execute, mmdb_prepare or mmdb_columns returned for this line. The offset is a hint, and at most length.
+ * Returns 0 if there is no such place, the status is no refusal, or the handle is closed.
  */
 size_t mmdb_place(mmdb *db, const uint8_t *line, size_t length, uint8_t status);
 
-/* Whether a transaction is open. false where the handle is closed. */
+/* Returns whether a transaction is open. Returns false if the handle is closed. */
 bool mmdb_in_transaction(mmdb *db);
+
+/*
+ * Releases the latest savepoint with this name, and all savepoints set after it. All rows stay as they are, and ROLLBACK TO an earlier
+ * savepoint still restores the rows of that savepoint. Allocates nothing. Returns MMDB_DONE, or the refusal of ROLLBACK TO with this name:
+ * MMDB_SYNTAX if the bytes are not a name, MMDB_NO_TRANSACTION, or MMDB_NO_SUCH_SAVEPOINT. Returns MMDB_MISUSE if the handle is closed.
+ */
+uint8_t mmdb_release(mmdb *db, const uint8_t *name, size_t length);
 
 #ifdef __cplusplus
 }
