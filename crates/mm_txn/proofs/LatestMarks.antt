@@ -1,6 +1,6 @@
 -- The latest savepoint of a name, among the marks and among what is saved.
-use Rattle.std.proofs.Common.{◌≡◌, ℕ, suc, zero, ◌<◌, ◌≤◌, Bool, true, false, ◌||◌, if◌then◌else◌, List, [], ◌∷◌, ◌++◌, Some, get_or, length, map, reverse}
-use Rattle.std.proofs.Common.{take, slice_get, refl, sym, ap, subst, ◌∙◌, arith}
+use Rattle.std.proofs.Common.{◌≡◌, ℕ, suc, zero, ◌<◌, ◌≤◌, Bool, true, false, ◌||◌, if◌then◌else◌, List, [], ◌∷◌, ◌++◌, Option, Some, IfSome, get_or}
+use Rattle.std.proofs.Common.{length, map, reverse, take, slice_get, refl, sym, ap, subst, ◌∙◌, arith}
 use mathlib.Core.List.{reverse-cons}
 use Rattle.std.specs.List.{AllByRecursion, list_any}
 use Rattle.std.proofs.lemmas.List.Elements.{recursion_from_All}
@@ -35,6 +35,16 @@ latest_is name (mark ∷ marks) zero within named behind = (
 latest_is name (mark ∷ marks) (suc place) within named behind =
     latest_is name marks place (omega (arith, within)) named (λ k d past lt. behind (suc k) d (omega (arith, past)) (omega (arith, lt)))
 
+-- What is found among a copy of the marks is found among them.
+pub found_latest : (name : List ℕ) (copied marks : List Mark) (found : Option ℕ) (place : ℕ) → copied ≡ marks → found ≡ Some place
+    → IfSome found (λ k. k < length copied) → IfSome found (λ k. (d : Mark) → same_name name (get_or copied k d).name ≡ true)
+    → IfSome found (λ p. (k : ℕ) (d : Mark) → p < k → k < length copied → same_name name (get_or copied k d).name ≡ false) → IsLatest name marks place
+found_latest name copied marks found place same is within named behind =
+    subst (λ (ms : List Mark). IsLatest name ms place) same
+    (latest_is name copied place (subst (λ (r : Option ℕ). IfSome r (λ k. k < length copied)) is within)
+    (subst (λ (r : Option ℕ). IfSome r (λ k. (d : Mark) → same_name name (get_or copied k d).name ≡ true)) is named)
+    (subst (λ (r : Option ℕ). IfSome r (λ p. (k : ℕ) (d : Mark) → p < k → k < length copied → same_name name (get_or copied k d).name ≡ false)) is behind))
+
 -- The latest mark of a name is there.
 pub latest_within : (name : List ℕ) (marks : List Mark) (place : ℕ) → IsLatest name marks place → place < length marks
 latest_within name [] place latest = absurd latest
@@ -42,7 +52,7 @@ latest_within name (mark ∷ marks) zero latest = omega arith
 latest_within name (mark ∷ marks) (suc place) latest = omega (arith, latest_within name marks place latest)
 
 -- Marks end at no less than where they begin.
-bounds : (c d : ℕ) (marks : List Mark) (C D : ℕ) → Ascend c d marks C D → (c ≤ C) × (d ≤ D)
+pub bounds : (c d : ℕ) (marks : List Mark) (C D : ℕ) → Ascend c d marks C D → (c ≤ C) × (d ≤ D)
 bounds c d [] C D ascend = ascend
 bounds c d (mark ∷ marks) C D ascend =
     let later = bounds mark.commands mark.changes marks C D ascend.2 in (omega (arith, ascend.0, later.0), omega (arith, ascend.1, later.1))
@@ -88,7 +98,7 @@ mark_within c d (m ∷ ms) C D zero mark there ascend =
 mark_within c d (m ∷ ms) C D (suc place) mark there ascend = mark_within m.commands m.changes ms C D place mark there ascend.2
 
 -- The last of these is that one.
-take_last : (marks : List Mark) (place : ℕ) (mark : Mark) → slice_get marks place ≡ Some mark → take (suc place) marks ≡ take place marks ++ mark ∷ []
+pub take_last : (marks : List Mark) (place : ℕ) (mark : Mark) → slice_get marks place ≡ Some mark → take (suc place) marks ≡ take place marks ++ mark ∷ []
 take_last [] place mark there = cc
 take_last (m ∷ ms) zero mark there = let same : m ≡ mark = cc in ap (λ n. n ∷ []) same
 take_last (m ∷ ms) (suc place) mark there = ap (λ ns. m ∷ ns) (take_last ms place mark there)

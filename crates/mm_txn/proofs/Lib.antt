@@ -23,6 +23,10 @@ mod RowsMade
 mod RowsPassing
 mod SavedRows
 mod LatestMarks
+mod LaterRollbacks
+mod ReachedReleases
+mod ReleaseLaws
+mod Releases
 mod Selecting
 mod RestKept
 mod Resting

@@ -7,6 +7,7 @@ ghost use Rattle.mm_query.specs.Resolving.{selected};
 ghost use Rattle.mm_query.specs.Standing.{listing as listing_of, shown_rows};
 ghost use Rattle.mm_query.specs.State.{first_state, rows_in};
 ghost use Rattle.mm_query.specs.declared.command.Command.TheVariants.{Define, Change, Scan, ScanIndex, Select, Explain, Show, Begin, Commit, Rollback, Savepoint, RollbackTo};
+ghost use Rattle.mm_txn.specs.Releasing.{after_release};
 
 mod ask;
 mod bound;
@@ -154,6 +155,23 @@ impl Db {
         let (commands, changes) = self.marks[place].lengths();
         self.contents.revert(&mut self.undo, commands, changes);
         self.marks.truncate(place + 1);
+        Ok(())
+    }
+
+    /// Releases the latest savepoint of a name and those set after it: they are forgotten, and all rows stay as they are. `ROLLBACK TO`
+    /// an earlier savepoint still restores the rows of that savepoint. Returns `NoTransaction` if no transaction is open, and
+    /// `NoSuchSavepoint` if the transaction has none of the name. Allocates nothing, and takes no time that grows with the rows.
+    pub fn release(&mut self, name: &Name) -> Result<(), Refusal>
+        ensures due { MatchResult result (λ _. first_refusal (conditions (RollbackTo name.now) self.old) ≡ None)
+            (λ refusal. first_refusal (conditions (RollbackTo name.now) self.old) ≡ Some refusal) }
+        ensures ok { OnOk result (self.new ≡ after_release name.now self.old) }
+        ensures err { OnErr result (self.new ≡ self.old) }
+    {
+        if !self.is_open {
+            return Err(Refusal::NoTransaction);
+        }
+        let place = latest(self.marks.as_slice(), name).ok_or(Refusal::NoSuchSavepoint)?;
+        self.marks.truncate(place);
         Ok(())
     }
 

@@ -15,6 +15,7 @@ mod edits;
 mod explain;
 mod index_place;
 mod listing;
+mod release_laws;
 mod request;
 mod row_edits;
 mod rows;
@@ -28,5 +29,10 @@ pub use bound::ChangeToRun;
 pub use database::Db;
 pub use mm_store::StoredRows;
 pub use mm_templist::ShownRows;
+pub use release_laws::{
+    a_released_name_means_the_earlier_savepoint, released_savepoints_leave_no_trace,
+    releases_keep_types_and_standing_queries, releases_lead_to_no_other_states,
+    rollbacks_after_a_release_restore_the_same_rows,
+};
 pub use request::{Change, Question, Request};
 pub use rows::{RowReader, Rows};

@@ -1,5 +1,5 @@
 -- The rows are those at the latest savepoint of the name, to which the transaction can go back still.
-use Rattle.std.proofs.Common.{◌≡◌, ℕ, suc, ◌+◌, ◌<◌, ◌≤◌, Bool, true, false, List, length, Option, Some, IfSome, take, get_or, slice_get, refl, sym, ap}
+use Rattle.std.proofs.Common.{◌≡◌, ℕ, suc, ◌+◌, ◌<◌, ◌≤◌, Bool, true, false, List, length, Option, Some, IfSome, take, slice_get, refl, sym, ap}
 use Rattle.std.proofs.Common.{subst, ◌∙◌, arith}
 use Rattle.std.specs.List.{All}
 use Rattle.std.proofs.lemmas.List.Elements.{recursion_from_All}
@@ -15,7 +15,7 @@ use Rattle.mm_query.specs.declared.command.Command.TheVariants.{RollbackTo}
 use Rattle.mm_store.specs.Marks.{rows_at_mark}
 use Rattle.mm_txn.specs.Saved.{AreSaved, IsConsistent, kept_state}
 use Rattle.mm_txn.specs.declared.savepoints.Mark.{Mark}
-use Rattle.mm_txn.proofs.LatestMarks.{IsLatest, latest_is, mark_within}
+use Rattle.mm_txn.proofs.LatestMarks.{IsLatest, found_latest, mark_within}
 use Rattle.mm_txn.proofs.OpenSteps.{back_at_mark, back_to_savepoint, saved_at}
 use Rattle.mm_txn.proofs.RollbackDue.{granted_due, refused_due}
 use Rattle.mm_txn.proofs.database.Db.rollback_to.Goals as goal
@@ -54,14 +54,8 @@ module _ (c : After-lengths-commands) where
 
   pub latest : IsLatest c.args.name.now marks place
   latest =
-      latest_is c.args.name.now marks place within
-      (subst (λ (ms : List Mark). (d : Mark) → same_name c.args.name.now (get_or ms place d).name ≡ true) c.as_slice.ensures.value
-      (subst (λ (r : Option ℕ). IfSome r (λ k. (d : Mark) → same_name c.args.name.now (get_or c.as_slice.result.now k d).name ≡ true))
-      c.in_ok-place.ensures.ok_part c.latest.ensures.named))
-      (subst (λ (ms : List Mark). (k : ℕ) (d : Mark) → place < k → k < length ms → same_name c.args.name.now (get_or ms k d).name ≡ false)
-      c.as_slice.ensures.value
-      (subst (λ (r : Option ℕ). IfSome r (λ p. (k : ℕ) (d : Mark) → p < k → k < length c.as_slice.result.now
-      → same_name c.args.name.now (get_or c.as_slice.result.now k d).name ≡ false)) c.in_ok-place.ensures.ok_part c.latest.ensures.latest))
+      found_latest c.args.name.now c.as_slice.result.now marks c.latest.result place c.as_slice.ensures.value c.in_ok-place.ensures.ok_part
+      c.latest.ensures.within c.latest.ensures.named c.latest.ensures.latest
 
   pub there : slice_get marks place ≡ Some mark
   there = slice_get_read marks (length marks) place mark refl within c.index.ensures
