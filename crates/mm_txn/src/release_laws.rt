@@ -31,28 +31,30 @@ pub fn released_savepoints_leave_no_trace()
     rollback_to_restores_the_rows_at_its_savepoint();
 }
 
-/// After a release, COMMIT and ROLLBACK reply and do what they reply and do without it. So does ROLLBACK TO a savepoint that was set
-/// before the released one, immediately or after any commands that leave the earlier savepoint. Each savepoint of another name was set
-/// before one that is set now.
+/// COMMIT and ROLLBACK have the same reply and lead to the same state with and without a release before them. So does ROLLBACK TO a
+/// savepoint that was set before the released one, immediately after the release or after any commands that leave the earlier
+/// savepoint. A savepoint of another name was set before one that is set now.
 pub fn rollbacks_after_a_release_restore_the_same_rows()
     ensures commit { (name : List ℕ) (state : State) → step Commit (after_release name state) ≡ step Commit state }
     ensures rollback { (name : List ℕ) (state : State) → step Rollback (after_release name state) ≡ step Rollback state }
     ensures before { (name earlier : List ℕ) (state : State) → lacks_savepoint earlier state ≡ false → same_name earlier name ≡ false
         → IsSetBefore earlier name (after_savepoint name state) }
     ensures due { (name earlier : List ℕ) (state : State) → IsSetBefore earlier name state
-        → first_refusal (conditions (RollbackTo earlier) (after_release name state)) ≡ first_refusal (conditions (RollbackTo earlier) state) }
+        → first_refusal (conditions (RollbackTo earlier) (after_release name state))
+        ≡ first_refusal (conditions (RollbackTo earlier) state) }
     ensures rollback_to { (name earlier : List ℕ) (state : State) → IsSetBefore earlier name state
         → first_refusal (conditions (RollbackTo earlier) state) ≡ None
         → step (RollbackTo earlier) (after_release name state) ≡ step (RollbackTo earlier) state }
     ensures later { (name earlier : List ℕ) (commands : List Command) (state : State) → IsSetBefore earlier name state
         → first_refusal (conditions (RollbackTo earlier) state) ≡ None → list_all (leaves_savepoint earlier) commands ≡ true
-        → after_all (commands ++ RollbackTo earlier ∷ []) (after_release name state) ≡ after_all (commands ++ RollbackTo earlier ∷ []) state }
+        → after_all (commands ++ RollbackTo earlier ∷ []) (after_release name state)
+        ≡ after_all (commands ++ RollbackTo earlier ∷ []) state }
 {
     transactions_do_what_commands_do();
     transactions_stand_alone();
 }
 
-/// After the release of the later of two savepoints of one name, ROLLBACK TO of that name goes back to the earlier one.
+/// After the release of the later of two savepoints of one name, ROLLBACK TO that name restores the rows of the earlier one, which stays.
 pub fn a_released_name_means_the_earlier_savepoint()
     ensures { (name : List ℕ) (before after : List Command) (state : State) → first_refusal (conditions (Savepoint name) state) ≡ None
         → list_all (leaves_savepoint name) before ≡ true
@@ -70,8 +72,8 @@ pub fn a_released_name_means_the_earlier_savepoint()
 pub fn releases_lead_to_no_other_states()
     ensures done { (name : List ℕ) (state : State) → first_refusal (conditions (RollbackTo name) state) ≡ None
         → after_call (Release name) state ≡ after_release name state }
-    ensures refused { (name : List ℕ) (refusal : Refusal) (state : State) → first_refusal (conditions (RollbackTo name) state) ≡ Some refusal
-        → after_call (Release name) state ≡ state }
+    ensures refused { (name : List ℕ) (refusal : Refusal) (state : State)
+        → first_refusal (conditions (RollbackTo name) state) ≡ Some refusal → after_call (Release name) state ≡ state }
     ensures reached { (calls : List Call) → (commands : List Command) × (after_calls calls first_state ≡ after_all commands first_state) }
 {}
 
