@@ -51,6 +51,8 @@ static uint8_t columns_of(mmdb *db, const char *line, mmdb_column *columns, size
   return mmdb_columns(db, (const uint8_t *)line, strlen(line), columns, room, count);
 }
 
+static uint8_t release(mmdb *db, const char *name) { return mmdb_release(db, (const uint8_t *)name, strlen(name)); }
+
 static size_t place_in(mmdb *db, const char *line, uint8_t status) { return mmdb_place(db, (const uint8_t *)line, strlen(line), status); }
 
 /* The number of a statement that must not be refused. */
@@ -157,6 +159,12 @@ static void a_closed_handle(void) {
   MUST(columns_of(&db, "SCAN t", &column, 1, &written) == MMDB_MISUSE && written == 77 && column.type == 77);
   MUST(place_in(&db, "SCAN", MMDB_SYNTAX) == 0);
   MUST(!mmdb_in_transaction(&db));
+  uint8_t kind = 77;
+  MUST(mmdb_statement_kind(&db, 0, &kind) == MMDB_MISUSE && kind == 77);
+  MUST(mmdb_statement_columns(&db, 0, &column, 1, &written) == MMDB_MISUSE && written == 77 && column.type == 77);
+  MUST(mmdb_explain(&db, 0, no_values, 0) == MMDB_MISUSE);
+  MUST(mmdb_total_changes(&db) == 0);
+  MUST(release(&db, "s") == MMDB_MISUSE);
   mmdb_close(&db);
   MUST(!db.is_open);
 }
@@ -233,6 +241,113 @@ static void two_threads(void) {
   for (int i = 0; i < 2; i++) MUST(pthread_create(&threads[i], NULL, one_thread, &are_right[i]) == 0);
   for (int i = 0; i < 2; i++) MUST(pthread_join(threads[i], NULL) == 0);
   MUST(are_right[0] && are_right[1]);
+}
+
+/* A database that is used by the thread that has just started. */
+struct shared {
+  mmdb db;
+  size_t insert, find;
+  bool is_right;
+};
+
+static void *open_it(void *argument) {
+  struct shared *shared = argument;
+  mmdb *db = &shared->db;
+  shared->is_right = mmdb_open(db) == MMDB_DONE && execute(db, "TABLE t (id INT KEY, s TEXT)") == MMDB_DONE;
+  shared->is_right &= prepare(db, "INSERT t (?, ?)", &shared->insert) == MMDB_DONE;
+  shared->is_right &= prepare(db, "SELECT a.s FROM t a WHERE a.id = ?", &shared->find) == MMDB_DONE;
+  return NULL;
+}
+
+static void *use_it(void *argument) {
+  struct shared *shared = argument;
+  mmdb *db = &shared->db;
+  shared->is_right &= execute(db, "BEGIN") == MMDB_DONE && execute(db, "SAVEPOINT s") == MMDB_DONE;
+  int64_t first = (int64_t)mmdb_total_changes(db);
+  for (int64_t i = first; shared->is_right && i < first + 100; i++) {
+    mmdb_cell values[] = {number(i), words("a text of more than sixteen bytes")}, cell;
+    size_t rows;
+    shared->is_right &= mmdb_run(db, shared->insert, values, 2) == MMDB_COUNT;
+    shared->is_right &= mmdb_query(db, shared->find, values, 1, &cell, 1, &rows) == MMDB_ROWS && rows == 1;
+  }
+  shared->is_right &= execute(db, "COMMIT") == MMDB_DONE && execute(db, "SCAN t") == MMDB_ROWS && mmdb_count(db) == (size_t)first + 100;
+  return NULL;
+}
+
+static void *close_it(void *argument) {
+  struct shared *shared = argument;
+  shared->is_right &= execute(&shared->db, "SCAN t") == MMDB_ROWS && mmdb_count(&shared->db) == 200;
+  mmdb_close(&shared->db);
+  return NULL;
+}
+
+/* A handle moves between threads: one opens it, others use it one after another, and another closes it. */
+static void a_handle_of_several_threads(void) {
+  struct shared shared = {.db = MMDB_CLOSED};
+  void *(*const parts[])(void *) = {open_it, use_it, use_it, close_it};
+  for (size_t i = 0; i < sizeof parts / sizeof *parts; i++) {
+    pthread_t thread;
+    MUST(pthread_create(&thread, NULL, parts[i], &shared) == 0 && pthread_join(thread, NULL) == 0);
+  }
+  MUST(shared.is_right && !shared.db.is_open);
+}
+
+/* What is known without a handle. */
+
+static void versions(void) {
+  MUST(mmdb_version() == MMDB_VERSION);
+  MUST(mmdb_version() == 1001000);
+}
+
+static const struct { uint8_t status; const char *words; } statuses_with_words[] = {
+  {MMDB_LINE_TOO_LONG, "line too long"},
+  {MMDB_SYNTAX, "syntax"},
+  {MMDB_NUMBER_OUT_OF_RANGE, "number out of range"},
+  {MMDB_TEXT_TOO_LONG, "text too long"},
+  {MMDB_NO_SUCH_TABLE, "no such table"},
+  {MMDB_NO_SUCH_COLUMN, "no such column"},
+  {MMDB_NO_SUCH_INDEX, "no such index"},
+  {MMDB_NO_SUCH_STANDING_QUERY, "no such standing query"},
+  {MMDB_NAME_TAKEN, "name taken"},
+  {MMDB_ALIAS_TAKEN, "alias taken"},
+  {MMDB_NO_SUCH_ALIAS, "no such alias"},
+  {MMDB_TYPE_MISMATCH, "type mismatch"},
+  {MMDB_WRONG_NUMBER_OF_VALUES, "wrong number of values"},
+  {MMDB_ARITHMETIC_OUT_OF_RANGE, "arithmetic out of range"},
+  {MMDB_DUPLICATE_KEY, "duplicate key"},
+  {MMDB_NO_TARGET_ROW, "no target row"},
+  {MMDB_ROW_IS_REFERENCED, "row is referenced"},
+  {MMDB_IN_USE, "in use"},
+  {MMDB_TABLE_FULL, "table full"},
+  {MMDB_RESULT_TOO_LARGE, "result too large"},
+  {MMDB_STANDING_LIST_TOO_LARGE, "standing list too large"},
+  {MMDB_TOO_MANY, "too many"},
+  {MMDB_TRANSACTION_OPEN, "transaction open"},
+  {MMDB_NO_TRANSACTION, "no transaction"},
+  {MMDB_NOT_IN_TRANSACTION, "not in a transaction"},
+  {MMDB_NO_SUCH_SAVEPOINT, "no such savepoint"},
+  {MMDB_MEMORY, "memory"},
+  {MMDB_MISUSE, "misuse"},
+};
+
+static const char *words_of(unsigned status) {
+  for (size_t i = 0; i < sizeof statuses_with_words / sizeof *statuses_with_words; i++)
+    if (statuses_with_words[i].status == status) return statuses_with_words[i].words;
+  return "";
+}
+
+/* All 256 numbers, each into every room: the words up to there, no byte past them, and the whole length. */
+static void words_of_statuses(void) {
+  for (unsigned status = 0; status < 256; status++) {
+    const char *wanted = words_of(status);
+    size_t length = strlen(wanted);
+    for (size_t room = 0; room <= length + 1; room++) {
+      uint8_t got[40];
+      memset(got, '#', sizeof got);
+      size_t written = room < length ? room : length;
+      MUST(mmdb_words((uint8_t)status, got, room) == length && !memcmp(got, wanted, written) && got[written] == '#');
+    }
+  }
 }
 
 /* Replies. */
@@ -454,6 +569,41 @@ static void columns_of_the_catalog(void) {
   mmdb_close(&db);
 }
 
+/* The columns of a statement are those of its line, also after the catalog changed. */
+static void columns_of_statements(void) {
+  enum { COUNT = sizeof lines_with_columns / sizeof *lines_with_columns };
+  mmdb db = opened_with_rows();
+  size_t statements[COUNT];
+  for (size_t i = 0; i < COUNT; i++) statements[i] = prepared(&db, lines_with_columns[i].line);
+  for (int round = 0; round < 2; round++) {
+    for (size_t i = 0; i < COUNT; i++) {
+      mmdb_column columns[8], wanted[8];
+      memset(columns, '#', sizeof columns), memset(wanted, '#', sizeof wanted);
+      size_t count = SIZE_MAX, wanted_count = SIZE_MAX - 1;
+      struct picture before = picture_of(&db);
+      check(mmdb_statement_columns(&db, statements[i], columns, 8, &count) == MMDB_DONE, lines_with_columns[i].line, __LINE__);
+      check(columns_of(&db, lines_with_columns[i].line, wanted, 8, &wanted_count) == MMDB_DONE, lines_with_columns[i].line, __LINE__);
+      check(count == wanted_count && !memcmp(columns, wanted, sizeof columns) && stays(&db, &before), lines_with_columns[i].line, __LINE__);
+    }
+    if (round == 0) MUST(is_done(&db, "INDEX i ON t (k) TREE") && is_done(&db, "WATCH w SELECT a.s, a.id FROM t a"));
+  }
+  mmdb_column columns[5];
+  size_t count;
+  for (size_t room = 0; room <= 4; room++) {
+    memset(columns, '#', sizeof columns);
+    size_t written = room < 3 ? room : 3;
+    MUST(mmdb_statement_columns(&db, statements[0], columns, room, &count) == MMDB_DONE && count == 3);
+    MUST(columns[written].type == '#' && columns[written].name[0] == '#' && (written < 1 || is_column(&columns[0], MMDB_NUMBER, "id")));
+  }
+  columns[0].type = 77, count = 77;
+  MUST(mmdb_finalize(&db, statements[0]) == MMDB_DONE);
+  struct picture before = picture_of(&db);
+  MUST(mmdb_statement_columns(&db, statements[0], columns, 5, &count) == MMDB_MISUSE && count == 77 && columns[0].type == 77);
+  MUST(mmdb_statement_columns(&db, COUNT, columns, 5, &count) == MMDB_MISUSE && count == 77 && columns[0].type == 77);
+  MUST(mmdb_statement_columns(&db, SIZE_MAX, columns, 5, &count) == MMDB_MISUSE && count == 77 && columns[0].type == 77 && stays(&db, &before));
+  mmdb_close(&db);
+}
+
 /* Lines that are refused, and where in them the reason stands. */
 static const struct { uint8_t status; const char *line; size_t place; } lines_with_places[] = {
   {MMDB_SYNTAX, "SCAN", 4},
@@ -569,6 +719,181 @@ static void lines_that_can_be_prepared(void) {
   size_t nothing = prepared(&db, "-- a comment");
   MUST(runs(&db, nothing, no_values, 0, MMDB_NOTHING, ""));
   mmdb_close(&db);
+}
+
+/* A line of each kind. */
+static const struct { const char *line; uint8_t kind; } lines_with_kinds[] = {
+  {"", MMDB_KIND_NOTHING},
+  {"-- SCAN t", MMDB_KIND_NOTHING},
+  {"TABLE v (id INT KEY)", MMDB_KIND_TABLE},
+  {"DROP TABLE v", MMDB_KIND_DROP_TABLE},
+  {"INDEX i ON t (k) TREE", MMDB_KIND_INDEX},
+  {"DROP INDEX i", MMDB_KIND_DROP_INDEX},
+  {"WATCH w SELECT a.k FROM t a", MMDB_KIND_WATCH},
+  {"UNWATCH w", MMDB_KIND_UNWATCH},
+  {"INSERT t (?, 1, 'a')", MMDB_KIND_INSERT},
+  {"UPDATE t SET k = ?", MMDB_KIND_UPDATE},
+  {"DELETE t", MMDB_KIND_DELETE},
+  {"SCAN t", MMDB_KIND_SCAN},
+  {"SCAN INDEX i", MMDB_KIND_SCAN_INDEX},
+  {"SELECT a.k FROM t a WHERE a.k = ?", MMDB_KIND_SELECT},
+  {"SHOW w", MMDB_KIND_SHOW},
+  {"EXPLAIN SELECT a.k FROM t a", MMDB_KIND_EXPLAIN},
+  {"TABLES", MMDB_KIND_TABLES},
+  {"BEGIN", MMDB_KIND_BEGIN},
+  {"COMMIT", MMDB_KIND_COMMIT},
+  {"ROLLBACK", MMDB_KIND_ROLLBACK},
+  {"SAVEPOINT s", MMDB_KIND_SAVEPOINT},
+  {"ROLLBACK TO s", MMDB_KIND_ROLLBACK_TO},
+};
+
+static void kinds_of_statements(void) {
+  enum { COUNT = sizeof lines_with_kinds / sizeof *lines_with_kinds };
+  mmdb db = opened_with_rows();
+  size_t statements[COUNT];
+  struct picture before = picture_of(&db);
+  for (size_t i = 0; i < COUNT; i++) {
+    uint8_t kind = 77;
+    statements[i] = prepared(&db, lines_with_kinds[i].line);
+    check(mmdb_statement_kind(&db, statements[i], &kind) == MMDB_DONE && kind == lines_with_kinds[i].kind, lines_with_kinds[i].line, __LINE__);
+  }
+  MUST(stays(&db, &before));
+  uint8_t kind = 77;
+  MUST(mmdb_finalize(&db, statements[2]) == MMDB_DONE);
+  MUST(mmdb_statement_kind(&db, statements[2], &kind) == MMDB_MISUSE && mmdb_statement_kind(&db, COUNT, &kind) == MMDB_MISUSE);
+  MUST(mmdb_statement_kind(&db, SIZE_MAX, &kind) == MMDB_MISUSE && kind == 77);
+  MUST(prepared(&db, "BEGIN") == statements[2] && mmdb_statement_kind(&db, statements[2], &kind) == MMDB_DONE && kind == MMDB_KIND_BEGIN);
+  mmdb_close(&db);
+}
+
+/* Whether EXPLAIN with the query of a statement has a status and a reply. */
+static bool explains(mmdb *db, size_t statement, const mmdb_cell *values, size_t count, uint8_t status, const char *text) {
+  return mmdb_explain(db, statement, values, count) == status && last_reply_is(db, text);
+}
+
+static void explained_statements(void) {
+  mmdb db = opened_with_rows();
+  MUST(is_done(&db, "INDEX i ON t (k) TREE"));
+  size_t select = prepared(&db, "SELECT a.s FROM t a WHERE a.k = ?"), explain = prepared(&db, "EXPLAIN SELECT a.s FROM t a WHERE a.id = ?");
+  size_t plain = prepared(&db, "SELECT a.id FROM t a, t b WHERE a.id = b.k - ?"), nowhere = prepared(&db, "SELECT a.k FROM nope a");
+  size_t without = prepared(&db, "EXPLAIN SELECT a.k FROM t a");
+  mmdb_cell five = number(5), text = words("x"), least = number(INT64_MIN);
+  uint64_t changes = mmdb_total_changes(&db);
+  for (int i = 0; i < 2; i++) {
+    MUST(explains(&db, select, &five, 1, MMDB_TEXT, "a tree i =\nsteps 1\n"));
+    MUST(runs(&db, select, &five, 1, MMDB_ROWS, "('a')\nrows 1\n"));
+    MUST(explains(&db, explain, &five, 1, MMDB_TEXT, "a tree #key =\nsteps 1\n"));
+    MUST(explains(&db, without, no_values, 0, MMDB_TEXT, "a scan\nsteps 1\n"));
+    MUST(explains(&db, select, &text, 1, MMDB_TYPE_MISMATCH, "error 30 type mismatch\n"));
+    MUST(explains(&db, plain, &least, 1, MMDB_NUMBER_OUT_OF_RANGE, "error 12 number out of range\n"));
+    MUST(explains(&db, plain, &text, 1, MMDB_SYNTAX, "error 11 syntax\n"));
+    MUST(explains(&db, nowhere, no_values, 0, MMDB_NO_SUCH_TABLE, "error 20 no such table\n"));
+    MUST(mmdb_explain(&db, plain, &five, 1) == MMDB_TEXT);
+  }
+  MUST(is_done(&db, "DROP INDEX i") && explains(&db, select, &five, 1, MMDB_TEXT, "a scan\nsteps 1\n"));
+  MUST(mmdb_total_changes(&db) == changes);
+  mmdb_close(&db);
+}
+
+/* The plan of a statement is the reply to EXPLAIN with its line, for each line that has a query. */
+static void explained_as_their_lines(void) {
+  static const char *const queries[] = {
+    "SELECT a.k FROM t a",
+    "SELECT DISTINCT a.k, b.s FROM t a, t b WHERE a.id = b.k AND a.s < 'm' ORDER 1",
+    "SELECT a.k FROM t a WHERE a.k > -3",
+    "SELECT a.k FROM t a, u b WHERE a.k = b.id",
+    "SELECT a.nope FROM t a",
+    "SELECT a.k FROM t a, t a",
+  };
+  mmdb db = opened_with_rows();
+  for (size_t i = 0; i < sizeof queries / sizeof *queries; i++) {
+    char line[200], wanted[ROOM];
+    snprintf(line, sizeof line, "EXPLAIN %s", queries[i]);
+    uint8_t status = execute(&db, line);
+    size_t length = text_of_reply(&db, (uint8_t *)wanted, ROOM - 1);
+    wanted[length] = 0;
+    check(explains(&db, prepared(&db, queries[i]), no_values, 0, status, wanted), queries[i], __LINE__);
+    check(explains(&db, prepared(&db, line), no_values, 0, status, wanted), line, __LINE__);
+  }
+  mmdb_close(&db);
+}
+
+/* Whether mmdb_explain with these values is a misuse, and all stays as it was. */
+static bool is_unexplained(mmdb *db, size_t statement, const mmdb_cell *values, size_t count, const struct picture *before) {
+  return mmdb_explain(db, statement, values, count) == MMDB_MISUSE && stays(db, before);
+}
+
+static void misused_explains(void) {
+  mmdb db = opened_with_rows();
+  size_t select = prepared(&db, "SELECT a.s FROM t a WHERE a.k = ? AND a.s = ?"), gone = prepared(&db, "SELECT a.s FROM t a");
+  MUST(mmdb_finalize(&db, gone) == MMDB_DONE);
+  mmdb_cell values[] = {number(5), words("a"), number(1)};
+  struct picture before = picture_of(&db);
+  for (size_t i = 0; i < sizeof lines_with_kinds / sizeof *lines_with_kinds; i++) {
+    size_t statement = prepared(&db, lines_with_kinds[i].line), count;
+    bool has_plan = lines_with_kinds[i].kind == MMDB_KIND_SELECT || lines_with_kinds[i].kind == MMDB_KIND_EXPLAIN;
+    MUST(mmdb_parameters(&db, statement, &count) == MMDB_DONE);
+    check(has_plan || is_unexplained(&db, statement, values, count, &before), lines_with_kinds[i].line, __LINE__);
+    MUST(mmdb_finalize(&db, statement) == MMDB_DONE);
+  }
+  MUST(is_unexplained(&db, gone, values, 0, &before) && is_unexplained(&db, SIZE_MAX, values, 0, &before));
+  MUST(is_unexplained(&db, select, values, 0, &before) && is_unexplained(&db, select, values, 1, &before) && is_unexplained(&db, select, values, 3, &before));
+  values[1].kind = 2;
+  MUST(is_unexplained(&db, select, values, 2, &before));
+  values[1] = words("a\n");
+  MUST(is_unexplained(&db, select, values, 2, &before));
+  values[1] = words("a"), values[1].len = MMDB_TEXT_BYTES + 1;
+  MUST(is_unexplained(&db, select, values, 2, &before));
+  values[1] = words("a");
+  MUST(mmdb_explain(&db, select, values, 2) == MMDB_TEXT);
+  mmdb_close(&db);
+}
+
+/* Each reply "ok N" adds its N, and nothing else changes the sum: no refusal, question, rollback or plan. */
+static void counted_changes(void) {
+  mmdb db = opened();
+  size_t done;
+  MUST(mmdb_total_changes(&db) == 0 && is_done(&db, "TABLE t (id INT KEY, k INT)") && mmdb_total_changes(&db) == 0);
+  size_t insert = prepared(&db, "INSERT t (?, ?)"), change = prepared(&db, "UPDATE t SET k = ?");
+  mmdb_cell rows[] = {number(1), number(10), number(2), number(20), number(1), number(30)};
+  MUST(mmdb_run_many(&db, insert, rows, 6, 2, &done) == MMDB_DUPLICATE_KEY && done == 2 && mmdb_total_changes(&db) == 2);
+  MUST(runs(&db, change, rows, 1, MMDB_COUNT, "ok 2\n") && mmdb_total_changes(&db) == 4);
+  MUST(answers(&db, "INSERT t (3, 1), (4, 1), (5, 1)", MMDB_COUNT, "ok 3\n") && mmdb_total_changes(&db) == 7);
+  MUST(answers(&db, "DELETE t WHERE k > 100", MMDB_COUNT, "ok 0\n") && mmdb_total_changes(&db) == 7);
+  MUST(execute(&db, "SCAN t") == MMDB_ROWS && execute(&db, "INSERT t (3, 1)") == MMDB_DUPLICATE_KEY && execute(&db, "TABLES") == MMDB_TEXT);
+  MUST(mmdb_run(&db, insert, rows, 1) == MMDB_MISUSE && execute(&db, "nothing") == MMDB_SYNTAX && execute(&db, "") == MMDB_NOTHING);
+  MUST(mmdb_total_changes(&db) == 7 && is_done(&db, "BEGIN") && answers(&db, "DELETE t", MMDB_COUNT, "ok 5\n") && mmdb_total_changes(&db) == 12);
+  MUST(is_done(&db, "ROLLBACK") && mmdb_total_changes(&db) == 12 && execute(&db, "SCAN t") == MMDB_ROWS && mmdb_count(&db) == 5);
+  mmdb_close(&db);
+  MUST(mmdb_total_changes(&db) == 0 && mmdb_open(&db) == MMDB_DONE && mmdb_total_changes(&db) == 0);
+  mmdb_close(&db);
+}
+
+/* Arrays of no elements are NULL, in each call that takes one. */
+static void arrays_that_are_null(void) {
+  mmdb db = opened_with_rows();
+  size_t statement = 77, count, rows, done;
+  MUST(mmdb_execute(&db, NULL, 0) == MMDB_NOTHING && last_reply_is(&db, ""));
+  MUST(mmdb_prepare(&db, NULL, 0, &statement) == MMDB_DONE && statement == 0);
+  MUST(mmdb_run(&db, statement, NULL, 0) == MMDB_NOTHING);
+  MUST(mmdb_columns(&db, NULL, 0, NULL, 0, &count) == MMDB_DONE && count == 0);
+  MUST(columns_of(&db, "SCAN t", NULL, 0, &count) == MMDB_DONE && count == 3);
+  MUST(mmdb_place(&db, NULL, 0, MMDB_SYNTAX) == 0);
+  size_t scan = prepared(&db, "SCAN t"), explain = prepared(&db, "SELECT a.k FROM t a");
+  MUST(mmdb_run(&db, scan, NULL, 0) == MMDB_ROWS && mmdb_count(&db) == 2);
+  MUST(mmdb_query(&db, scan, NULL, 0, NULL, 0, &rows) == MMDB_ROWS && rows == 0);
+  MUST(mmdb_run_many(&db, scan, NULL, 0, 1, &done) == MMDB_DONE && done == 0);
+  MUST(mmdb_statement_columns(&db, scan, NULL, 0, &count) == MMDB_DONE && count == 3);
+  MUST(mmdb_explain(&db, explain, NULL, 0) == MMDB_TEXT);
+  MUST(mmdb_explain(&db, scan, NULL, 0) == MMDB_MISUSE);
+  MUST(mmdb_read(&db, 0, NULL, 0) == 0);
+  MUST(mmdb_text(&db, NULL, 0, &count) == MMDB_DONE && count == strlen("a scan\nsteps 1\n"));
+  MUST(mmdb_words(MMDB_SYNTAX, NULL, 0) == strlen("syntax"));
+  MUST(mmdb_release(&db, NULL, 0) == MMDB_SYNTAX);
+  size_t insert = prepared(&db, "INSERT t (?, 1, 'x')");
+  MUST(mmdb_run(&db, insert, NULL, 0) == MMDB_MISUSE && mmdb_explain(&db, insert, NULL, 0) == MMDB_MISUSE);
+  mmdb_close(&db);
+  MUST(mmdb_execute(&db, NULL, 0) == MMDB_MISUSE && mmdb_run(&db, 0, NULL, 0) == MMDB_MISUSE && mmdb_read(&db, 0, NULL, 0) == 0);
 }
 
 /* Whether a call by run, query and run_many with these values is a misuse, and all stays as it was. */
@@ -803,6 +1128,69 @@ static void transactions(void) {
   mmdb_close(&db);
 }
 
+/* A released savepoint is forgotten with those after it. The rows stay, and ROLLBACK TO an earlier savepoint restores the rows of that one. */
+static void released_savepoints(void) {
+  mmdb db = opened_with_rows();
+  struct picture before = picture_of(&db);
+  MUST(release(&db, "s") == MMDB_NO_TRANSACTION && stays(&db, &before));
+  MUST(is_done(&db, "BEGIN") && is_done(&db, "SAVEPOINT one") && answers(&db, "DELETE t WHERE id = 1", MMDB_COUNT, "ok 1\n"));
+  MUST(is_done(&db, "SAVEPOINT two") && answers(&db, "INSERT t (3, 3, 'c')", MMDB_COUNT, "ok 1\n") && is_done(&db, "SAVEPOINT three"));
+  struct picture with_three = picture_of(&db);
+  uint64_t changes = mmdb_total_changes(&db);
+  MUST(release(&db, "nope") == MMDB_NO_SUCH_SAVEPOINT && stays(&db, &with_three));
+  MUST(release(&db, "two") == MMDB_DONE && stays(&db, &with_three) && mmdb_total_changes(&db) == changes);
+  MUST(release(&db, "two") == MMDB_NO_SUCH_SAVEPOINT && release(&db, "three") == MMDB_NO_SUCH_SAVEPOINT && stays(&db, &with_three));
+  MUST(answers(&db, "ROLLBACK TO three", MMDB_NO_SUCH_SAVEPOINT, "error 53 no such savepoint\n"));
+  before.in_transaction = true;
+  MUST(is_done(&db, "ROLLBACK TO one") && is_as_before(&db, &before));
+  MUST(release(&db, "one") == MMDB_DONE && release(&db, "one") == MMDB_NO_SUCH_SAVEPOINT);
+  before.in_transaction = false;
+  MUST(is_done(&db, "COMMIT") && is_as_before(&db, &before) && release(&db, "one") == MMDB_NO_TRANSACTION);
+  mmdb_close(&db);
+}
+
+/* Two savepoints of one name: the later one is released first. */
+static void released_savepoints_of_one_name(void) {
+  mmdb db = opened_with_rows();
+  struct picture before = picture_of(&db);
+  before.in_transaction = true;
+  MUST(is_done(&db, "BEGIN") && is_done(&db, "SAVEPOINT s") && answers(&db, "UPDATE t SET k = 1", MMDB_COUNT, "ok 2\n"));
+  struct picture changed = picture_of(&db);
+  MUST(is_done(&db, "SAVEPOINT s") && answers(&db, "DELETE t", MMDB_COUNT, "ok 2\n"));
+  MUST(is_done(&db, "ROLLBACK TO s") && is_as_before(&db, &changed) && answers(&db, "DELETE t", MMDB_COUNT, "ok 2\n"));
+  MUST(release(&db, "s") == MMDB_DONE && is_done(&db, "ROLLBACK TO s") && is_as_before(&db, &before));
+  MUST(release(&db, "s") == MMDB_DONE && release(&db, "s") == MMDB_NO_SUCH_SAVEPOINT && is_done(&db, "ROLLBACK"));
+  mmdb_close(&db);
+}
+
+/* A program that sets a savepoint for each item and releases it never has more than one, however many items there are. */
+static void a_savepoint_for_each_item(void) {
+  mmdb db = opened_with_rows();
+  MUST(is_done(&db, "BEGIN"));
+  size_t save = prepared(&db, "SAVEPOINT item"), back = prepared(&db, "ROLLBACK TO item"), insert = prepared(&db, "INSERT t (?, 0, '')");
+  for (int64_t i = 0; i < 1000; i++) {
+    mmdb_cell id = number(100 + i);
+    MUST(mmdb_run(&db, save, no_values, 0) == MMDB_DONE && mmdb_run(&db, insert, &id, 1) == MMDB_COUNT);
+    if (i % 3 == 0) MUST(mmdb_run(&db, back, no_values, 0) == MMDB_DONE);
+    MUST(release(&db, "item") == MMDB_DONE);
+  }
+  MUST(is_done(&db, "COMMIT") && execute(&db, "SCAN t") == MMDB_ROWS && mmdb_count(&db) == 2 + 666);
+  mmdb_close(&db);
+}
+
+/* Bytes that are no name are refused before anything else. */
+static void names_of_savepoints(void) {
+  static const char *const names[] = {"", "S", "s s", "1s", "_s", "s?", "'s'", "s\n", "a234567890123456789012345678_0123"};
+  mmdb db = opened_with_rows();
+  for (int round = 0; round < 2; round++) {
+    struct picture before = picture_of(&db);
+    for (size_t i = 0; i < sizeof names / sizeof *names; i++) check(release(&db, names[i]) == MMDB_SYNTAX && stays(&db, &before), names[i], __LINE__);
+    if (round == 0) MUST(is_done(&db, "BEGIN"));
+  }
+  MUST(is_done(&db, "SAVEPOINT a234567890123456789012345678_012") && release(&db, "a234567890123456789012345678_012") == MMDB_DONE);
+  mmdb_close(&db);
+}
+
 /* Runs and reads in one call. */
 static void queries(void) {
   mmdb db = opened_with_rows();
@@ -910,11 +1298,15 @@ static void many_calls(void) {
 
 static const struct { const char *name; void (*run)(void); } tests[] = {
   TEST(a_closed_handle), TEST(opened_twice_and_closed_twice), TEST(closed_in_the_middle), TEST(two_databases), TEST(two_threads),
+  TEST(a_handle_of_several_threads), TEST(versions), TEST(words_of_statuses),
   TEST(each_kind_of_reply), TEST(each_refusal), TEST(lines_of_the_greatest_length), TEST(a_reply_as_text), TEST(rows_in_pieces),
-  TEST(columns_of_lines), TEST(columns_in_their_room), TEST(columns_of_the_catalog), TEST(places_in_lines),
-  TEST(numbers_of_statements), TEST(a_number_used_again), TEST(lines_that_can_be_prepared), TEST(misused_values), TEST(bytes_behind_a_value),
+  TEST(columns_of_lines), TEST(columns_in_their_room), TEST(columns_of_the_catalog), TEST(columns_of_statements), TEST(places_in_lines),
+  TEST(numbers_of_statements), TEST(a_number_used_again), TEST(lines_that_can_be_prepared), TEST(kinds_of_statements),
+  TEST(explained_statements), TEST(explained_as_their_lines), TEST(misused_explains), TEST(counted_changes), TEST(arrays_that_are_null),
+  TEST(misused_values), TEST(bytes_behind_a_value),
   TEST(texts), TEST(numbers), TEST(values_of_the_wrong_type), TEST(shifts),
   TEST(changes_of_the_catalog), TEST(other_tables), TEST(standing_queries), TEST(transactions),
+  TEST(released_savepoints), TEST(released_savepoints_of_one_name), TEST(a_savepoint_for_each_item), TEST(names_of_savepoints),
   TEST(queries), TEST(runs_of_many), TEST(runs_of_many_with_a_misuse),
   TEST(a_full_table), TEST(many_calls),
 };

@@ -3,7 +3,9 @@ mod ColumnTypes
 pub mod DueSteps
 pub mod FormLemmas
 mod FoundColumns
+pub mod KindLemmas
 pub mod LineReadings
+pub mod PlanReadings
 mod ReachedStates
 pub mod ReadyStatements
 mod ShownColumns

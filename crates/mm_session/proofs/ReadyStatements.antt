@@ -23,8 +23,9 @@ use Rattle.mm_statement.specs.Filling.{IsFilling}
 use Rattle.mm_statement.specs.Holes.{HolePlaces, hole_count, hole_places}
 use Rattle.mm_session.proofs.Catalogs.{leads_keep}
 use Rattle.mm_session.proofs.FormLemmas.{again_keeps, forms_with, runs_again}
+use Rattle.mm_session.proofs.KindLemmas.{kind_defines}
 use Rattle.mm_session.proofs.LineReadings.{defines_alike}
-use Rattle.mm_session.specs.Session.{AnswersLine, Finalizes, SessionState, TakesNumber, outcome_in}
+use Rattle.mm_session.specs.Session.{AnswersLine, Finalizes, SessionState, TakesNumber, changes_after, outcome_in}
 use Rattle.mm_session.specs.Statements.{Runs, line_at}
 use Rattle.mm_session.specs.declared.bound_form.BoundForm.{BoundForm}
 use Rattle.mm_session.specs.declared.misuse.Misuse.{Misuse}
@@ -32,7 +33,7 @@ use Rattle.mm_session.specs.declared.misuse.Misuse.TheVariants.{NoSuchStatement}
 use Rattle.mm_session.specs.declared.statement.Statement.{Statement}
 use Rattle.mm_session.specs.steps.Forms.{HasForm, IsBoundForm, IsFormOf, IsReady, IsReadyStatement, Reruns}
 use Rattle.mm_session.specs.steps.Places.{PutsStatement, forgotten, line_in}
-use Rattle.mm_session.specs.steps.Readings.{FillsLine, is_definition}
+use Rattle.mm_session.specs.steps.Readings.{FillsLine, is_definition, is_of_catalog}
 
 -- ---- one statement
 
@@ -58,17 +59,18 @@ module _ (schema : Schema) (statement : Statement) (values : List Value) (filled
     command = ready.command;
     read = ready.read;
     holes = ready.holes;
-    definition = ready.definition;
+    kind = ready.kind;
     bound = subst (λ (c : Command). IfSome kept (IsFormOf after (holes_of statement.line.items) c)) same
         (forms_with after (holes_of statement.line.items) values fills.command filled kept count is_filled.0 is_filled.1 bound);
   }
 
   -- A run of what is no change of the catalog leaves it as it is.
-  pub run_keeps : (before : State) (outcome : Outcome) → statement.is_definition ≡ false → MayLeadTo (Ok filled) before outcome
+  pub run_keeps : (before : State) (outcome : Outcome) → is_of_catalog statement.kind ≡ false → MayLeadTo (Ok filled) before outcome
       → outcome.state.schema ≡ before.schema
   run_keeps before outcome other leads =
       leads_keep filled before outcome
-      (defines_alike fills.command filled is_filled.0.same ∙ (ap is_definition same ∙ (sym ready.definition ∙ other))) leads
+      (defines_alike fills.command filled is_filled.0.same ∙ (ap is_definition same
+      ∙ (sym (kind_defines ready.command) ∙ (ap is_of_catalog (sym ready.kind) ∙ other)))) leads
 
 -- A bound form that a ready statement keeps can be run again, ..
 module _ (before : State) (statement : Statement) (ready : IsReadyStatement before.schema statement) where
@@ -96,7 +98,7 @@ module _ (before : State) (statement : Statement) (ready : IsReadyStatement befo
       command = ready.command;
       read = ready.read;
       holes = ready.holes;
-      definition = ready.definition;
+      kind = ready.kind;
       bound = subst (λ (schema : Schema). IsFormOf schema (holes_of statement.line.items) ready.command bound) (sym rerun_keeps)
           (subst (λ (h : List Bool). IsFormOf before.schema h ready.command bound) flags again.form);
     }
@@ -105,7 +107,7 @@ module _ (before : State) (statement : Statement) (ready : IsReadyStatement befo
 unbound_ready : (schema after : Schema) (slot : Option Statement) → IsReady schema slot → IsReady after (forgotten slot)
 unbound_ready schema after None ready = tt
 unbound_ready schema after (Some statement) ready =
-    record { command = ready.command; read = ready.read; holes = ready.holes; definition = ready.definition; bound = tt }
+    record { command = ready.command; read = ready.read; holes = ready.holes; kind = ready.kind; bound = tt }
 
 -- ---- all statements
 
@@ -186,44 +188,59 @@ lines_beside slots number slot d same = map-set_same line_in slots number slot d
 -- ---- sessions
 
 -- What took a statement away, or found none.
-pub finalized : (number : ℕ) (state : State) (reply : Option Reply) (old new : List (Option Statement)) (result : Result (Unit {0}) Misuse)
+pub finalized : (number : ℕ) (state : State) (reply : Option Reply) (changes : ℕ) (old new : List (Option Statement)) (result : Result (Unit {0}) Misuse)
     → OnOk result (new ≡ set old number None) → OnOk result ((line : List ℕ) × (line_at number (map line_in old) ≡ Some line))
     → IfErr result (λ misuse. (misuse ≡ NoSuchStatement) × (line_at number (map line_in old) ≡ None)) → OnErr result (new ≡ old)
-    → Finalizes number (record { state = state; lines = map line_in old; reply = reply })
-    (record { state = state; lines = map line_in new; reply = reply }) result
-finalized number state reply old new (Ok done) gone stands misused kept =
-    record { line = stands.0; stands = stands.1; lines = ap (map line_in) gone ∙ map-set line_in old number None; state = refl; reply = refl }
-finalized number state reply old new (Err misuse) gone stands misused kept =
-    (ap (λ (slots : List (Option Statement)). record { state = state; lines = map line_in slots; reply = reply }) kept, misused.0, misused.1)
+    → Finalizes number (record { state = state; lines = map line_in old; reply = reply; changes = changes })
+    (record { state = state; lines = map line_in new; reply = reply; changes = changes }) result
+finalized number state reply changes old new (Ok done) gone stands misused kept = record {
+  line = stands.0;
+  stands = stands.1;
+  lines = ap (map line_in) gone ∙ map-set line_in old number None;
+  state = refl;
+  reply = refl;
+  changes = refl;
+}
+finalized number state reply changes old new (Err misuse) gone stands misused kept = (
+  ap (λ (slots : List (Option Statement)). record { state = state; lines = map line_in slots; reply = reply; changes = changes }) kept,
+  misused.0,
+  misused.1,
+)
 
 refused_memory : (line : List ℕ) (state : State) → IsTrue (takes_memory line) → answer true line state ≡ refused_outcome Memory state
 refused_memory line state takes = ap (λ b. cond b (refused_outcome Memory state) (outcome_of (reading line) state)) takes
 
 -- A line is answered by what its command leads to, ..
 pub answers_command : (line : List ℕ) (command : Command) (old new : SessionState) → reading line ≡ Ok command
-    → MayLeadTo (Ok command) old.state (outcome_in new) → new.lines ≡ old.lines → AnswersLine line old new
-answers_command line command old new read leads lines =
+    → MayLeadTo (Ok command) old.state (outcome_in new) → new.lines ≡ old.lines → new.changes ≡ changes_after new.reply old.changes
+    → AnswersLine line old new
+answers_command line command old new read leads lines changes =
     ⊎_elim
     (λ (is : outcome_in new ≡ step command old.state).
-    record { choice = false; outcome = is ∙ ap (λ r. outcome_of r old.state) (sym read); lines = lines })
+    record { choice = false; outcome = is ∙ ap (λ r. outcome_of r old.state) (sym read); lines = lines; changes = changes })
     (λ (h : (outcome_in new ≡ refused_outcome Memory old.state) × IsTrue (command_takes_memory command)).
     record {
       choice = true;
       outcome = h.0 ∙ sym (refused_memory line old.state (ap reading_takes_memory read ∙ h.1));
       lines = lines;
+      changes = changes;
     })
     leads
 
 -- .. or by its refusal.
 pub answers_refused : (line : List ℕ) (refusal : Refusal) (old new : SessionState) → Reads line (Err refusal)
-    → outcome_in new ≡ refused_outcome refusal old.state → new.lines ≡ old.lines → AnswersLine line old new
-answers_refused line refusal old new reads is lines =
+    → outcome_in new ≡ refused_outcome refusal old.state → new.lines ≡ old.lines → new.changes ≡ old.changes → AnswersLine line old new
+answers_refused line refusal old new reads is lines same =
+    let changes : new.changes ≡ changes_after new.reply old.changes =
+    same ∙ sym (ap (λ (o : Outcome). changes_after o.reply old.changes) is) in
     ⊎_elim
-    (λ (h : reading line ≡ Err refusal). record { choice = false; outcome = is ∙ ap (λ r. outcome_of r old.state) (sym h); lines = lines })
+    (λ (h : reading line ≡ Err refusal).
+    record { choice = false; outcome = is ∙ ap (λ r. outcome_of r old.state) (sym h); lines = lines; changes = changes })
     (λ (h : (refusal ≡ Memory) × IsTrue (takes_memory line)).
     record {
       choice = true;
       outcome = is ∙ (ap (λ (r : Refusal). refused_outcome r old.state) h.0 ∙ sym (refused_memory line old.state h.1));
       lines = lines;
+      changes = changes;
     })
     reads

@@ -1,4 +1,5 @@
 pub mod Columns
+pub mod Kinds
 pub mod Replies
 pub mod Session
 pub mod Statements

@@ -1,5 +1,5 @@
--- A session: a database, the lines of its prepared statements, and the reply to its last call.
-use Rattle.std.specs.Prelude.{◌≡◌, ◌⊎◌, ◌++◌, ◌∷◌, ℕ, Bool, List, [], Option, Some, None, Result, Ok, Err, length, slice_get, slice_set}
+-- A session: a database, the lines of its prepared statements, the reply to its last call, and a count of changed rows.
+use Rattle.std.specs.Prelude.{◌≡◌, ◌⊎◌, ◌+◌, ◌%◌, ◌^◌, ◌<◌, ◌++◌, ◌∷◌, ℕ, Bool, List, [], Option, Some, None, Result, Ok, Err, length, slice_get, slice_set}
 use Rattle.mm_value.specs.declared.refusal.Refusal.{Refusal}
 use Rattle.mm_value.specs.declared.refusal.Refusal.TheVariants.{Memory}
 use Rattle.mm_value.specs.declared.values.Value.{Value}
@@ -7,28 +7,40 @@ use Rattle.mm_query.specs.Machine.{Outcome}
 use Rattle.mm_query.specs.State.{State}
 use Rattle.mm_query.specs.declared.command.Command.{Command}
 use Rattle.mm_query.specs.declared.reply.Reply.{Reply}
+use Rattle.mm_query.specs.declared.reply.Reply.TheVariants.{Count}
 use Rattle.mm_lang.specs.Answering.{answer}
 use Rattle.mm_lang.specs.Templates.{template_of}
-use Rattle.mm_session.specs.Statements.{IsMisused, RunsFound, line_at}
+use Rattle.mm_session.specs.Statements.{ExplainsFound, IsMisused, IsUnexplained, RunsFound, line_at}
 use Rattle.mm_session.specs.declared.misuse.Misuse.{Misuse}
 use Rattle.mm_session.specs.declared.misuse.Misuse.TheVariants.{NoSuchStatement}
 
--- The state of the database; at each statement's number the line that it was made from, and None where there is none any more; and
--- the reply to the last call, if it had one.
+-- The state of the database; at each statement's number the line that it was made from, or None if there is no statement any more;
+-- the reply to the last call, if it had one; and how many rows all calls changed, modulo 2^64.
 pub record SessionState : Type 0 where
   pub state : State
   pub lines : List (Option (List ℕ))
   pub reply : Option Reply
+  pub changes : ℕ
 
 -- What a session's last call came to.
 abbrev pub outcome_in : SessionState → Outcome
 outcome_in session = record { reply = session.reply; state = session.state }
+
+-- The count of changed rows after a call with this reply: only a reply that counts rows adds to the count before.
+abbrev pub changes_after : Option Reply → ℕ → ℕ
+changes_after (Some (Count rows)) before = (before + rows) % 2 ^ 64
+changes_after reply before = before
 
 -- A line was answered, memory refused to it or not. The statements stay.
 pub record AnswersLine (line : List ℕ) (old new : SessionState) : Type 0 where
   pub choice : Bool
   pub outcome : outcome_in new ≡ answer choice line old.state
   pub lines : new.lines ≡ old.lines
+  pub changes : new.changes ≡ changes_after new.reply old.changes
+
+-- Each number below this one has a statement.
+abbrev pub AreTaken : ℕ → List (Option (List ℕ)) → Type 0
+AreTaken number lines = (k : ℕ) → k < number → (line : List ℕ) × (line_at k lines ≡ Some line)
 
 -- A line stands at a number that no statement had: behind the others, or in place of one that is gone.
 abbrev pub TakesNumber : List ℕ → ℕ → List (Option (List ℕ)) → List (Option (List ℕ)) → Type 0
@@ -36,13 +48,15 @@ TakesNumber line number old new =
     ((number ≡ length old) × (new ≡ old ++ Some line ∷ []))
     ⊎ ((slice_get old number ≡ Some None) × (new ≡ slice_set old number (Some line)))
 
--- A line, which has a reading with holes, was made a statement.
+-- A line, which has a reading with holes, was made a statement with the least number that was free.
 pub record AddsStatement (line : List ℕ) (number : ℕ) (old new : SessionState) : Type 0 where
   pub command : Command
   pub read : template_of line ≡ Ok command
   pub lines : TakesNumber line number old.lines new.lines
+  pub least : AreTaken number old.lines
   pub state : new.state ≡ old.state
   pub reply : new.reply ≡ old.reply
+  pub changes : new.changes ≡ old.changes
 
 -- A line was made a statement, or refused as its reading is or by want of memory; then nothing changes.
 abbrev pub IsPrepared : List ℕ → SessionState → SessionState → Result ℕ Refusal → Type 0
@@ -53,11 +67,23 @@ IsPrepared line old new (Err refusal) = (new ≡ old) × ((template_of line ≡ 
 pub record RunsAt (number : ℕ) (values : List Value) (old new : SessionState) : Type 0 where
   pub runs : RunsFound (line_at number old.lines) values old.state (outcome_in new)
   pub lines : new.lines ≡ old.lines
+  pub changes : new.changes ≡ changes_after new.reply old.changes
 
 -- A statement was run with values. Where there is none of the number, or it takes more or fewer values, nothing changes.
 abbrev pub RunsStatement : ℕ → List Value → SessionState → SessionState → Result (Unit {0}) Misuse → Type 0
 RunsStatement number values old new (Ok done) = RunsAt number values old new
 RunsStatement number values old new (Err misuse) = (new ≡ old) × IsMisused (line_at number old.lines) (length values) misuse
+
+-- The query of a statement was explained with values. The statements stay, and no row changed.
+pub record ExplainsAt (number : ℕ) (values : List Value) (old new : SessionState) : Type 0 where
+  pub explains : ExplainsFound (line_at number old.lines) values old.state (outcome_in new)
+  pub lines : new.lines ≡ old.lines
+  pub changes : new.changes ≡ old.changes
+
+-- The query of a statement was explained with values. Where that is a misuse, nothing changes.
+abbrev pub ExplainsStatement : ℕ → List Value → SessionState → SessionState → Result (Unit {0}) Misuse → Type 0
+ExplainsStatement number values old new (Ok done) = ExplainsAt number values old new
+ExplainsStatement number values old new (Err misuse) = (new ≡ old) × IsUnexplained (line_at number old.lines) (length values) misuse
 
 -- A statement was taken away.
 pub record TakesAway (number : ℕ) (old new : SessionState) : Type 0 where
@@ -66,6 +92,7 @@ pub record TakesAway (number : ℕ) (old new : SessionState) : Type 0 where
   pub lines : new.lines ≡ slice_set old.lines number None
   pub state : new.state ≡ old.state
   pub reply : new.reply ≡ old.reply
+  pub changes : new.changes ≡ old.changes
 
 -- A statement was taken away. Where there is none of the number, nothing changes.
 abbrev pub Finalizes : ℕ → SessionState → SessionState → Result (Unit {0}) Misuse → Type 0

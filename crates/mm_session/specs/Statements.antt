@@ -7,13 +7,21 @@ use Rattle.mm_value.specs.declared.values.Value.{Value}
 use Rattle.mm_query.specs.Machine.{Outcome, refused_outcome}
 use Rattle.mm_query.specs.State.{State}
 use Rattle.mm_query.specs.declared.command.Command.{Command}
+use Rattle.mm_query.specs.declared.command.Command.TheVariants.{Explain}
+use Rattle.mm_query.specs.declared.query.Query.{Query}
+use Rattle.mm_schema.specs.declared.column.Column.{Column}
 use Rattle.mm_lang.specs.Answering.{outcome_of}
 use Rattle.mm_lang.specs.Reading.{command_takes_memory}
 use Rattle.mm_lang.specs.Templates.{holes_of, template_of}
 use Rattle.mm_statement.specs.Filling.{IsFilling}
 use Rattle.mm_statement.specs.Holes.{hole_count}
+use Rattle.mm_session.specs.Columns.{AreColumnsOf}
+use Rattle.mm_session.specs.Kinds.{kind_of, query_of}
+use Rattle.mm_session.specs.declared.misuse.ColumnsError.{ColumnsError}
+use Rattle.mm_session.specs.declared.misuse.ColumnsError.TheVariants as columns
 use Rattle.mm_session.specs.declared.misuse.Misuse.{Misuse}
-use Rattle.mm_session.specs.declared.misuse.Misuse.TheVariants.{NoSuchStatement, WrongNumberOfValues}
+use Rattle.mm_session.specs.declared.misuse.Misuse.TheVariants.{NoPlan, NoSuchStatement, WrongNumberOfValues}
+use Rattle.mm_session.specs.declared.statement_kind.StatementKind.{StatementKind}
 
 -- The line at a number, if there is a statement.
 abbrev pub line_found : Option (Option (List ℕ)) → Option (List ℕ)
@@ -26,6 +34,20 @@ line_at number lines = line_found (slice_get lines number)
 -- How many values the statement at a number takes.
 abbrev pub parameters_at : ℕ → List (Option (List ℕ)) → Option ℕ
 parameters_at number lines = option_map (λ line. hole_count (holes_of line)) (line_at number lines)
+
+-- The kind of a statement is that of the command that its line reads as. Without a statement there is no kind.
+abbrev pub IsKindOf : Option (List ℕ) → Option StatementKind → Type 0
+IsKindOf None kind = kind ≡ None
+IsKindOf (Some line) kind = (command : Command) × (template_of line ≡ Ok command) × (kind ≡ Some (kind_of command))
+
+-- These are the columns of the rows that a statement replies.
+abbrev pub AreColumnsFound : Option (List ℕ) → State → List Column → Type 0
+AreColumnsFound found state columns = (line : List ℕ) × (found ≡ Some line) × AreColumnsOf line state columns
+
+-- Why no columns of a statement were found: there is no statement, or memory was refused.
+abbrev pub LacksColumns : Option (List ℕ) → ColumnsError → Type 0
+LacksColumns found columns.NoSuchStatement = found ≡ None
+LacksColumns found columns.Memory = (line : List ℕ) × (found ≡ Some line)
 
 -- The outcome is what a filling of the command leads to: its step, or its refusal.
 abbrev pub LeadsFilled : List ℕ → List Value → Command → State → Outcome → Type 0
@@ -46,7 +68,33 @@ pub record RunsFound (found : Option (List ℕ)) (values : List Value) (before :
   pub count : length values ≡ hole_count (holes_of line)
   pub runs : Runs line values before outcome
 
+-- What explaining a statement's query may lead to: what EXPLAIN with the query and the values in its holes leads to, or want of memory.
+pub record Explains (line : List ℕ) (values : List Value) (before : State) (outcome : Outcome) : Type 0 where
+  pub command : Command
+  pub query : Query
+  pub read : template_of line ≡ Ok command
+  pub asks : query_of command ≡ Some query
+  pub leads : LeadsFilled line values (Explain query) before outcome ⊎ (outcome ≡ refused_outcome Memory before)
+
+-- The same of a statement that was found, with as many values as its line has holes.
+pub record ExplainsFound (found : Option (List ℕ)) (values : List Value) (before : State) (outcome : Outcome) : Type 0 where
+  pub line : List ℕ
+  pub is : found ≡ Some line
+  pub count : length values ≡ hole_count (holes_of line)
+  pub explains : Explains line values before outcome
+
 -- No statement was found, or it takes more or fewer values.
 abbrev pub IsMisused : Option (List ℕ) → ℕ → Misuse → Type 0
 IsMisused found count NoSuchStatement = found ≡ None
 IsMisused found count WrongNumberOfValues = (line : List ℕ) × (found ≡ Some line) × (count ≢ hole_count (holes_of line))
+IsMisused found count NoPlan = ⊥
+
+-- The line reads as a command without a query.
+abbrev pub LacksPlan : List ℕ → Type 0
+LacksPlan line = (command : Command) × (template_of line ≡ Ok command) × (query_of command ≡ None)
+
+-- No statement was found, it has no query, or it takes more or fewer values.
+abbrev pub IsUnexplained : Option (List ℕ) → ℕ → Misuse → Type 0
+IsUnexplained found count NoPlan = (line : List ℕ) × (found ≡ Some line) × LacksPlan line
+IsUnexplained found count NoSuchStatement = IsMisused found count NoSuchStatement
+IsUnexplained found count WrongNumberOfValues = IsMisused found count WrongNumberOfValues

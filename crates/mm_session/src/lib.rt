@@ -1,7 +1,7 @@
 //! Sessions: a program that keeps its tables in its own process drives them by lines and by prepared statements. Each call is a step of
 //! the machine of row lists.
 //!
-//! A call that may take memory is handed the allocator; no other call takes any.
+//! A call that may allocate takes the allocator as a parameter. No other call allocates.
 #![tactic(auto)]
 
 mod bound_form;
@@ -16,11 +16,13 @@ mod responding;
 mod session;
 mod slots;
 mod statement;
+mod statement_kind;
 
 pub use columns_law::{
     columns_have_the_names_of_fields, rows_have_the_types_of_columns,
     standing_queries_keep_their_columns,
 };
-pub use misuse::Misuse;
+pub use misuse::{ColumnsError, Misuse};
 pub use replies::LastReply;
 pub use session::Session;
+pub use statement_kind::StatementKind;

@@ -2,12 +2,15 @@
 ghost use Rattle.std.specs.Prelude.{◌≡◌, ◌≤◌, ◌⊎◌, [], Err, IfErr, IfOk, None, Ok, is_some, length, map};
 
 use crate::columns::columns_of_line;
-use crate::misuse::Misuse;
+use crate::misuse::{ColumnsError, Misuse};
 use crate::refused_place::place_of_refusal;
-use crate::replies::{Kept, LastReply, keep, lend};
+use crate::replies::{Kept, LastReply, count_changes, keep, lend};
 use crate::responding::{is_definition, respond};
-use crate::slots::{add, forget_bound_forms, parameters, remove, run_at};
+use crate::slots::{
+    add, columns_at, explain_at, forget_bound_forms, kind, parameters, remove, run_at,
+};
 use crate::statement::Statement;
+use crate::statement_kind::StatementKind;
 use mm_lang::parse;
 use mm_query::{Command, Reply, RowBuffer};
 use mm_schema::Column;
@@ -16,15 +19,18 @@ use mm_value::{Refusal, Value};
 use std::alloc::Global;
 use std::marker::Model;
 
-/// A database, its prepared statements, and the reply to the last call. Each call is a step of the machine of row lists.
+/// A database, its prepared statements, the reply to the last call, and a count of changed rows. Each call is a step of the machine of
+/// row lists.
 #[derive(Drop)]
 pub struct Session {
     database: Db,
-    /// The statements by their numbers, with `None` where one was taken away.
+    /// The statements by their numbers, with `None` where one was deleted.
     statements: Vec<Option<Statement>>,
-    /// The rows of the last reply, if it has any. Their blocks are used again.
+    /// The rows of the last reply, if it has any. The buffer's allocations are reused.
     rows: RowBuffer,
     reply: Kept,
+    /// How many rows all calls changed, modulo 2^64.
+    changes: u64,
 }
 
 impl Model for Session {
@@ -37,7 +43,7 @@ impl Model for Session {
 
     ghost Value = { SessionState };
 
-    ghost view = { λ s. record { state = s.database; lines = map line_in s.statements.items; reply = reply_kept s.rows s.reply } };
+    ghost view = { λ s. record { state = s.database; lines = map line_in s.statements.items; reply = reply_kept s.rows s.reply; changes = s.changes } };
 
     ghost invariant = { λ s. All (IsReady s.database.schema) s.statements.items };
 }
@@ -49,22 +55,23 @@ impl Session {
     ghost use Rattle.mm_session.specs.Columns.{AreColumnsOf};
     ghost use Rattle.mm_session.specs.Replies.{reply_lent};
     ghost use Rattle.mm_value.specs.declared.refusal.Refusal.TheVariants.{Memory};
-    ghost use Rattle.mm_session.specs.Session.{AnswersLine, Finalizes, IsPrepared, RunsStatement, outcome_in};
-    ghost use Rattle.mm_session.specs.Statements.{parameters_at};
+    ghost use Rattle.mm_session.specs.Session.{AnswersLine, ExplainsStatement, Finalizes, IsPrepared, RunsStatement, changes_after, outcome_in};
+    ghost use Rattle.mm_session.specs.Statements.{AreColumnsFound, IsKindOf, LacksColumns, line_at, parameters_at};
 
-    /// A session with nothing in its database and no statements, which had no reply yet. It takes no memory.
+    /// Returns a session with an empty database, no statements and no reply. Allocates nothing.
     pub fn new(alloc: Global) -> Session
-        ensures { result ≡ record { state = first_state; lines = []; reply = None } }
+        ensures { result ≡ record { state = first_state; lines = []; reply = None; changes = 0 } }
     {
         Session {
             database: Db::new(alloc),
             statements: Vec::new(alloc),
             rows: RowBuffer::new(alloc),
             reply: Kept::Nothing,
+            changes: 0,
         }
     }
 
-    /// Reads a line, without its line feed and carriage return, as [`mm_lang::parse`] does, does what it says, and keeps the reply.
+    /// Executes a line, without its line feed and carriage return, and stores the reply. The line is read as [`mm_lang::parse`] does.
     pub fn execute(&mut self, alloc: Global, line: &[u8])
         ensures { AnswersLine line.now self.old self.new }
     {
@@ -74,20 +81,22 @@ impl Session {
         }
     }
 
-    /// Does what a command asks, and keeps the reply. A change of the catalog makes the statements forget their bound forms.
+    /// Executes a command, and stores the reply. Drops the bound forms of all statements if the catalog may have changed.
     fn answer(&mut self, alloc: Global, command: Command<'_>)
         ensures leads { MayLeadTo (Ok command.entry) self.old.state (outcome_in self.new) }
         ensures lines { self.new.lines ≡ self.old.lines }
+        ensures changes { self.new.changes ≡ changes_after self.new.reply self.old.changes }
     {
         let is_definition = is_definition(&command);
         self.reply = respond(alloc, &mut self.database, &mut self.rows, command);
+        count_changes(&mut self.changes, &self.reply);
         if is_definition {
             forget_bound_forms(&mut self.statements);
         }
     }
 
-    /// Makes a line, which is read as [`mm_lang::prepare`] does, a statement, and tells its number: that of one that was taken away, or
-    /// the next one. The refusals are those of [`mm_lang::prepare`]. The reply to the last call stays.
+    /// Prepares a line, which is read as [`mm_lang::prepare`] does, and returns the number of the statement: the least one that is free.
+    /// Fails as [`mm_lang::prepare`] does, and with `Memory` if an allocation fails. The reply to the last call stays.
     pub fn prepare(&mut self, alloc: Global, line: &[u8]) -> Result<usize, Refusal>
         ensures { IsPrepared line.now self.old self.new result }
     {
@@ -96,15 +105,35 @@ impl Session {
         Ok(number)
     }
 
-    /// How many values the statement of a number takes, or `None` where there is none.
+    /// Returns the number of values that a statement takes, or `None` if no statement has the number.
     pub fn parameters(&self, statement: usize) -> Option<usize>
         ensures { result ≡ parameters_at statement self.now.lines }
     {
         parameters(&self.statements, statement)
     }
 
-    /// Runs the statement of a number, with a value for each of its holes in written order, and keeps the reply. `NoSuchStatement`
-    /// where none has the number; `WrongNumberOfValues` where it takes more or fewer values.
+    /// Returns the kind of a statement, or `None` if no statement has the number.
+    pub fn kind(&self, statement: usize) -> Option<StatementKind>
+        ensures { IsKindOf (line_at statement self.now.lines) result }
+    {
+        kind(&self.statements, statement)
+    }
+
+    /// Returns the columns of the rows that a statement replies, in the catalog as it is now; none if it replies no rows. Fails with
+    /// `NoSuchStatement` if no statement has the number, and with `Memory` if an allocation fails. Reads the statement's line again.
+    pub fn statement_columns(
+        &self,
+        alloc: Global,
+        statement: usize,
+    ) -> Result<Vec<&Column>, ColumnsError>
+        ensures ok { IfOk result (λ found. AreColumnsFound (line_at statement self.now.lines) self.now.state (map (λ column. column.now) found.items)) }
+        ensures err { IfErr result (LacksColumns (line_at statement self.now.lines)) }
+    {
+        columns_at(alloc, &self.database, &self.statements, statement)
+    }
+
+    /// Runs a statement with a value for each hole, from left to right, and stores the reply. Fails with `NoSuchStatement` if no statement
+    /// has the number, and with `WrongNumberOfValues` if the statement takes more or fewer values; nothing changes then.
     pub fn run(&mut self, alloc: Global, statement: usize, values: &[Value]) -> Result<(), Misuse>
         ensures { RunsStatement statement values.now self.old self.new result }
     {
@@ -116,25 +145,55 @@ impl Session {
             statement,
             values,
         )?;
+        count_changes(&mut self.changes, &self.reply);
         Ok(())
     }
 
-    /// Takes the statement of a number away. `NoSuchStatement` where none has the number. The reply to the last call stays.
+    /// Runs EXPLAIN with the query of a SELECT or an EXPLAIN and a value for each hole, and stores the reply. Fails with `NoSuchStatement` if
+    /// no statement has the number, with `NoPlan` if the statement is of another kind, and with `WrongNumberOfValues` if it takes more or
+    /// fewer values; nothing changes then. Reads the statement's line again.
+    pub fn explain(
+        &mut self,
+        alloc: Global,
+        statement: usize,
+        values: &[Value],
+    ) -> Result<(), Misuse>
+        ensures { ExplainsStatement statement values.now self.old self.new result }
+    {
+        self.reply = explain_at(
+            alloc,
+            &mut self.database,
+            &mut self.rows,
+            &self.statements,
+            statement,
+            values,
+        )?;
+        Ok(())
+    }
+
+    /// Deletes a statement. Fails with `NoSuchStatement` if no statement has the number. The reply to the last call stays.
     pub fn finalize(&mut self, statement: usize) -> Result<(), Misuse>
         ensures { Finalizes statement self.old self.new result }
     {
         remove(&mut self.statements, statement)
     }
 
-    /// The reply to the last call.
+    /// Returns the reply to the last call.
     pub fn reply(&self) -> LastReply<'_>
         ensures { reply_lent result ≡ self.now.reply }
     {
         lend(&self.rows, &self.reply)
     }
 
-    /// The columns of the rows that a line replies, which may have holes, by the catalog as it is; none where it replies no rows. The
-    /// refusals are those of [`mm_lang::prepare`].
+    /// Returns the number of rows that all calls inserted, updated or deleted: the sum of the counts of their replies, modulo 2^64.
+    pub fn total_changes(&self) -> u64
+        ensures { result ≡ self.now.changes }
+    {
+        self.changes
+    }
+
+    /// Returns the columns of the rows that a line replies, in the catalog as it is now; none if the line replies no rows. The line may have
+    /// holes. Fails as [`mm_lang::prepare`] does, and with `Memory` if an allocation fails.
     pub fn columns(&self, alloc: Global, line: &[u8]) -> Result<Vec<&Column>, Refusal>
         ensures ok { IfOk result (λ found. AreColumnsOf line.now self.now.state (map (λ column. column.now) found.items)) }
         ensures err { IfErr result (λ refusal. (template_of line.now ≡ Err refusal) ⊎ (refusal ≡ Memory)) }
@@ -142,15 +201,15 @@ impl Session {
         columns_of_line(alloc, &self.database, line)
     }
 
-    /// Where in a line a person may look for what a refusal of it is about: the byte at which reading stopped, a literal past its limit,
-    /// or a name that nothing has; else 0. It is a hint, of which no more is promised than that it lies within the line.
+    /// Returns the byte offset in a line to show in the message of a refusal: where reading stopped, a literal past its limit, or a name that
+    /// does not exist; else 0. The offset is a hint, and at most the length of the line.
     pub fn place_of_refusal(&self, alloc: Global, line: &[u8], refusal: Refusal) -> usize
         ensures { result ≤ length line.now }
     {
         place_of_refusal(alloc, self.database.catalog(), line, refusal)
     }
 
-    /// Whether a transaction is open.
+    /// Returns whether a transaction is open.
     pub fn is_in_transaction(&self) -> bool
         ensures { result ≡ is_some self.now.state.saved }
     {

@@ -1,28 +1,34 @@
 //! Prepared statements by their numbers.
 ghost use Rattle.std.specs.List.{All, position};
-ghost use Rattle.std.specs.Prelude.{◌≡◌, IfErr, IfOk, List, None, OnErr, OnOk, Some, false, is_none, length, map, slice_set, ℕ};
+ghost use Rattle.std.specs.Option.{IfNone};
+ghost use Rattle.std.specs.Prelude.{◌≡◌, ◌<◌, IfErr, IfOk, IfSome, List, None, OnErr, OnOk, Some, false, is_none, length, map, slice_set, ℕ};
 ghost use Rattle.mm_schema.specs.Schema.{Schema};
-ghost use Rattle.mm_session.specs.Statements.{IsMisused, RunsFound, line_at, parameters_at};
+ghost use Rattle.mm_session.specs.Session.{AreTaken};
+ghost use Rattle.mm_session.specs.Statements.{AreColumnsFound, ExplainsFound, IsKindOf, IsMisused, IsUnexplained, LacksColumns, RunsFound, line_at, parameters_at};
 ghost use Rattle.mm_session.specs.declared.misuse.Misuse.TheVariants.{NoSuchStatement};
-ghost use Rattle.mm_session.specs.steps.Forms.{IsReady};
+ghost use Rattle.mm_session.specs.steps.Forms.{IsReady, IsReadyStatement};
 ghost use Rattle.mm_session.specs.steps.Kept.{outcome_kept};
 ghost use Rattle.mm_session.specs.steps.Places.{PutsStatement, forgotten, line_in};
 
-use crate::misuse::Misuse;
+use crate::columns::columns_of_line;
+use crate::misuse::{ColumnsError, Misuse};
 use crate::replies::Kept;
 use crate::statement::Statement;
+use crate::statement_kind::StatementKind;
 use mm_query::RowBuffer;
+use mm_schema::Column;
 use mm_txn::Db;
 use mm_value::Value;
 use std::alloc::{AllocError, Global};
 
-/// Puts a statement in place of one that was taken away, or behind the others, and tells its number. `AllocError` where memory is
-/// refused, and then nothing changes.
+/// Stores a statement with the least free number, and returns the number. Fails with `AllocError` if an allocation fails, and changes
+/// nothing then.
 pub(crate) fn add(
     statements: &mut Vec<Option<Statement>>,
     statement: Statement,
 ) -> Result<usize, AllocError>
     ensures ok { IfOk result (λ number. PutsStatement statement number statements.old.items statements.new.items) }
+    ensures least { IfOk result (λ number. AreTaken number (map line_in statements.old.items)) }
     ensures err { OnErr result (statements.new.items ≡ statements.old.items) }
 {
     match first_free(statements) {
@@ -38,15 +44,14 @@ pub(crate) fn add(
     }
 }
 
-/// The first number whose statement was taken away.
+/// Returns the first number whose statement was deleted.
 fn first_free(statements: &[Option<Statement>]) -> Option<usize>
     ensures { result ≡ position is_none statements.now }
 {
     statements.iter().position(|slot| slot.is_none())
 }
 
-/// Runs the statement of a number with values, and tells the reply. A change of the catalog makes all statements forget their bound
-/// forms.
+/// Runs the statement with a number, and returns the reply. Drops the bound forms of all statements if the catalog may have changed.
 pub(crate) fn run_at(
     alloc: Global,
     database: &mut Db,
@@ -77,11 +82,11 @@ pub(crate) fn run_at(
     Ok(reply)
 }
 
-/// What a run of a statement came to.
+/// What a run of a statement returned.
 #[derive(Drop)]
 struct Ran {
     reply: Kept,
-    /// Whether it was a change of the catalog.
+    /// Whether the command was a change of the catalog.
     is_definition: bool,
 }
 
@@ -108,7 +113,7 @@ fn run_slot(
     if statement.holes.count() != values.len() {
         return Err(Misuse::WrongNumberOfValues);
     }
-    let is_definition = statement.is_definition;
+    let is_definition = statement.kind.is_of_catalog();
     let reply = statement.run(alloc, database, rows, values);
     Ok(Ran {
         reply,
@@ -116,7 +121,19 @@ fn run_slot(
     })
 }
 
-/// How many values the statement of a number takes, if there is one.
+/// Returns the statement with a number, if there is one.
+fn statement_at(statements: &[Option<Statement>], number: usize) -> Option<&Statement>
+    ensures line { IfSome result (λ found. line_at number (map line_in statements.now) ≡ Some found.now.line.items) }
+    ensures ready { IfSome result (λ found. (schema : Schema) → All (IsReady schema) statements.now → IsReadyStatement schema found.now) }
+    ensures none { IfNone result (line_at number (map line_in statements.now) ≡ None) }
+{
+    match statements.get(number)? {
+        Some(statement) => Some(statement),
+        None => None,
+    }
+}
+
+/// Returns the number of values that the statement with a number takes, if there is one.
 pub(crate) fn parameters(statements: &[Option<Statement>], number: usize) -> Option<usize>
     requires { (schema : Schema) × All (IsReady schema) statements.now }
     ensures { result ≡ parameters_at number (map line_in statements.now) }
@@ -127,7 +144,68 @@ pub(crate) fn parameters(statements: &[Option<Statement>], number: usize) -> Opt
     }
 }
 
-/// Takes the statement of a number away. `NoSuchStatement` where none has the number.
+/// Returns the kind of the statement with a number, if there is one.
+pub(crate) fn kind(statements: &[Option<Statement>], number: usize) -> Option<StatementKind>
+    requires { (schema : Schema) × All (IsReady schema) statements.now }
+    ensures { IsKindOf (line_at number (map line_in statements.now)) result }
+{
+    match statement_at(statements, number) {
+        Some(statement) => Some(statement.kind),
+        None => None,
+    }
+}
+
+/// Returns the columns of the rows that the statement with a number replies, in the catalog as it is now. Reads the line again.
+pub(crate) fn columns_at<'c>(
+    alloc: Global,
+    database: &'c Db,
+    statements: &[Option<Statement>],
+    number: usize,
+) -> Result<Vec<&'c Column>, ColumnsError>
+    requires { (schema : Schema) × All (IsReady schema) statements.now }
+    ensures ok { IfOk result (λ found. AreColumnsFound (line_at number (map line_in statements.now)) database.now
+        (map (λ column. column.now) found.items)) }
+    ensures err { IfErr result (LacksColumns (line_at number (map line_in statements.now))) }
+{
+    let Some(statement) = statement_at(statements, number) else {
+        return Err(ColumnsError::NoSuchStatement);
+    };
+    match columns_of_line(alloc, database, statement.line.as_slice()) {
+        Ok(columns) => Ok(columns),
+        Err(_) => Err(ColumnsError::Memory),
+    }
+}
+
+/// Returns the reply to EXPLAIN with the query of the statement with a number and the values in its holes. Fails with `NoSuchStatement`,
+/// `NoPlan` or `WrongNumberOfValues`.
+pub(crate) fn explain_at(
+    alloc: Global,
+    database: &mut Db,
+    rows: &mut RowBuffer,
+    statements: &[Option<Statement>],
+    number: usize,
+    values: &[Value],
+) -> Result<Kept, Misuse>
+    requires { All (IsReady database.old.schema) statements.now }
+    ensures ok { IfOk result (λ reply. ExplainsFound (line_at number (map line_in statements.now)) values.now database.old
+        (outcome_kept rows.new reply database.new)) }
+    ensures schema { database.new.schema ≡ database.old.schema }
+    ensures err { IfErr result (IsUnexplained (line_at number (map line_in statements.now)) (length values.now)) }
+    ensures kept { OnErr result ((database.new ≡ database.old) × (rows.new ≡ rows.old)) }
+{
+    let Some(statement) = statement_at(statements, number) else {
+        return Err(Misuse::NoSuchStatement);
+    };
+    if !statement.kind.has_plan() {
+        return Err(Misuse::NoPlan);
+    }
+    if statement.holes.count() != values.len() {
+        return Err(Misuse::WrongNumberOfValues);
+    }
+    Ok(statement.explain(alloc, database, rows, values))
+}
+
+/// Deletes the statement with a number. Fails with `NoSuchStatement` if there is none.
 pub(crate) fn remove(statements: &mut Vec<Option<Statement>>, number: usize) -> Result<(), Misuse>
     ensures ok { OnOk result (statements.new.items ≡ slice_set statements.old.items number None) }
     ensures stands { OnOk result ((line : List ℕ) × (line_at number (map line_in statements.old.items) ≡ Some line)) }
@@ -144,7 +222,7 @@ pub(crate) fn remove(statements: &mut Vec<Option<Statement>>, number: usize) -> 
     Ok(())
 }
 
-/// Makes all statements forget their bound forms.
+/// Drops the bound forms of all statements.
 pub(crate) fn forget_bound_forms(statements: &mut Vec<Option<Statement>>)
     ensures { statements.new.items ≡ map forgotten statements.old.items }
 {
@@ -153,7 +231,7 @@ pub(crate) fn forget_bound_forms(statements: &mut Vec<Option<Statement>>)
     }
 }
 
-/// Makes a statement forget its bound form, if there is one.
+/// Drops the bound form of a statement, if there is one.
 fn forget_bound_form(slot: &mut Option<Statement>)
     ensures { slot.new ≡ forgotten slot.old }
 {

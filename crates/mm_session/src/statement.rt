@@ -1,17 +1,20 @@
 //! Prepared statements.
-ghost use Rattle.std.specs.Prelude.{◌≡◌, IfSome, None, false, length};
+ghost use Rattle.std.specs.Prelude.{◌≡◌, IfSome, None, false, length, true};
 ghost use Rattle.std.specs.Option.{IfNone};
 ghost use Rattle.mm_lang.specs.Templates.{holes_of};
 ghost use Rattle.mm_statement.specs.Holes.{hole_count};
-ghost use Rattle.mm_session.specs.Statements.{Runs};
+ghost use Rattle.mm_session.specs.Statements.{Explains, Runs};
 ghost use Rattle.mm_session.specs.steps.Forms.{IsReadyStatement, ReadsStatement};
 ghost use Rattle.mm_session.specs.steps.Kept.{outcome_kept};
+ghost use Rattle.mm_session.specs.Kinds.{has_plan};
+ghost use Rattle.mm_session.specs.steps.Readings.{is_of_catalog};
 
 use crate::bound_form::{BoundForm, bind_and_run};
-use crate::reading::read_filled;
+use crate::reading::{read_explain, read_filled};
 use crate::replies::Kept;
 use crate::rerun::rerun;
-use crate::responding::is_definition;
+use crate::responding::respond;
+use crate::statement_kind::StatementKind;
 use mm_lang::{Template, prepare};
 use mm_query::{Reply, RowBuffer};
 use mm_statement::Holes;
@@ -19,38 +22,38 @@ use mm_txn::Db;
 use mm_value::{Refusal, Value};
 use std::alloc::Global;
 
-/// A line that was read once, so that it can be run with values.
+/// A line that was read once, to be run with values.
 #[derive(Drop)]
 pub(crate) struct Statement {
     /// The line.
     pub(crate) line: Vec<u8>,
     /// Where its holes are.
     pub(crate) holes: Holes,
-    /// Whether it changes the catalog.
-    pub(crate) is_definition: bool,
-    /// The bound form that the last run left, while the catalog stays.
+    /// The kind of its command.
+    pub(crate) kind: StatementKind,
+    /// The bound form of the last run, until the catalog changes.
     pub(crate) bound: Option<BoundForm>,
 }
 
 impl Statement {
-    /// The statement of a line. The refusals are those of [`prepare`].
+    /// Returns the statement of a line. The refusals are those of [`prepare`].
     pub(crate) fn read(alloc: Global, line: &[u8]) -> Result<Statement, Refusal>
         ensures { ReadsStatement line.now result }
     {
         let copy = Vec::from_slice(alloc, line)?;
         let Template { command, holes } = prepare(alloc, line)?;
-        let is_definition = is_definition(&command);
+        let kind = StatementKind::of(&command);
         let holes = Holes::of(alloc, &command, holes);
         drop(command);
         Ok(Statement {
             line: copy,
             holes: holes?,
-            is_definition,
+            kind,
             bound: None,
         })
     }
 
-    /// Runs the statement with as many values as it has holes, and tells the reply: by its bound form, or else by its line.
+    /// Runs the statement with a value for each hole, and returns the reply. Uses the bound form if there is one, and otherwise the line.
     pub(crate) fn run(
         &mut self,
         alloc: Global,
@@ -63,8 +66,8 @@ impl Statement {
         ensures runs { Runs self.old.line.items values.now database.old (outcome_kept rows.new result database.new) }
         ensures ready { IsReadyStatement database.new.schema self.new }
         ensures line { self.new.line ≡ self.old.line }
-        ensures definition { self.new.is_definition ≡ self.old.is_definition }
-        ensures schema { self.old.is_definition ≡ false → database.new.schema ≡ database.old.schema }
+        ensures kind { self.new.kind ≡ self.old.kind }
+        ensures schema { is_of_catalog self.old.kind ≡ false → database.new.schema ≡ database.old.schema }
     {
         match self.rerun(alloc, database, rows, values) {
             Some(reply) => reply,
@@ -72,8 +75,8 @@ impl Statement {
         }
     }
 
-    /// Runs the bound form that is kept, if there is one, with new values, and tells the reply. `None` where it does not serve: then nothing
-    /// was done, and it is forgotten.
+    /// Runs the bound form with new values, and returns the reply. Returns `None` if there is no bound form, or if it does not fit the
+    /// values; the database is then unchanged, and the bound form is dropped.
     fn rerun(
         &mut self,
         alloc: Global,
@@ -86,7 +89,7 @@ impl Statement {
         ensures runs { IfSome result (λ reply. Runs self.old.line.items values.now database.old (outcome_kept rows.new reply database.new)) }
         ensures ready { IsReadyStatement database.new.schema self.new }
         ensures line { self.new.line ≡ self.old.line }
-        ensures definition { self.new.is_definition ≡ self.old.is_definition }
+        ensures kind { self.new.kind ≡ self.old.kind }
         ensures schema { database.new.schema ≡ database.old.schema }
         ensures kept { IfNone result (database.new ≡ database.old) }
     {
@@ -102,7 +105,7 @@ impl Statement {
         }
     }
 
-    /// Runs the statement by its line, which is read again, and keeps the bound form of its command.
+    /// Reads the line again, runs its command, and stores the bound form.
     fn run_line(
         &mut self,
         alloc: Global,
@@ -115,12 +118,32 @@ impl Statement {
         ensures runs { Runs self.old.line.items values.now database.old (outcome_kept rows.new result database.new) }
         ensures ready { IsReadyStatement database.new.schema self.new }
         ensures line { self.new.line ≡ self.old.line }
-        ensures definition { self.new.is_definition ≡ self.old.is_definition }
-        ensures schema { self.old.is_definition ≡ false → database.new.schema ≡ database.old.schema }
+        ensures kind { self.new.kind ≡ self.old.kind }
+        ensures schema { is_of_catalog self.old.kind ≡ false → database.new.schema ≡ database.old.schema }
     {
         let line = self.line.as_slice();
         match read_filled(alloc, line, self.holes.count(), values) {
             Ok(command) => bind_and_run(alloc, database, rows, command, &mut self.bound),
+            Err(refusal) => Kept::Other(Reply::Refused(refusal)),
+        }
+    }
+
+    /// Returns the reply to EXPLAIN with the statement's query and the values in its holes. Reads the line again.
+    pub(crate) fn explain(
+        &self,
+        alloc: Global,
+        database: &mut Db,
+        rows: &mut RowBuffer,
+        values: &[Value],
+    ) -> Kept
+        requires ready { IsReadyStatement database.old.schema self.now }
+        requires plan { has_plan self.now.kind ≡ true }
+        requires values { length values.now ≡ hole_count (holes_of self.now.line.items) }
+        ensures explains { Explains self.now.line.items values.now database.old (outcome_kept rows.new result database.new) }
+        ensures schema { database.new.schema ≡ database.old.schema }
+    {
+        match read_explain(alloc, self.line.as_slice(), values) {
+            Ok(command) => respond(alloc, database, rows, command),
             Err(refusal) => Kept::Other(Reply::Refused(refusal)),
         }
     }

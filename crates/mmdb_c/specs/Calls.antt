@@ -1,23 +1,28 @@
 -- What the calls do to a session.
-use Rattle.std.specs.Prelude.{◌≡◌, ◌≢◌, ◌⊎◌, ℕ, zero, suc, Bool, ◌≤◌, ◌<◌, List, [], ◌++◌, Option, Some, None, Result, Err, drop, length, map, take}
+use Rattle.std.specs.Prelude.{◌≡◌, ◌≢◌, ◌⊎◌, ℕ, zero, suc, Bool, ◌+◌, ◌≤◌, ◌<◌, List, [], ◌++◌, Option, Some, None, Result, Ok, Err, codes, drop, length, map, take}
 use Rattle.std.specs.Result.{result_ok}
 use Rattle.std.specs.Option.{option_map_or}
-use Rattle.mm_value.specs.Refusals.{refusal_number}
+use Rattle.mm_value.specs.Refusals.{refusal_number, refusal_text}
 use Rattle.mm_value.specs.declared.refusal.Refusal.{Refusal}
 use Rattle.mm_value.specs.declared.refusal.Refusal.TheVariants.{Memory}
 use Rattle.mm_value.specs.declared.values.Value.{Value}
 use Rattle.mm_query.specs.State.{has_transaction}
+use Rattle.mm_query.specs.declared.command.Command.{Command}
+use Rattle.mm_query.specs.declared.query.Query.{Query}
 use Rattle.mm_lang.specs.ReplyText.{text_of}
 use Rattle.mm_lang.specs.Templates.{template_of}
 use Rattle.mm_schema.specs.declared.column.Column.{Column}
 use Rattle.mm_session.specs.Columns.{AreColumnsOf}
-use Rattle.mm_session.specs.Session.{SessionState, AnswersLine, IsPrepared, RunsAt, TakesAway}
-use Rattle.mm_session.specs.Statements.{line_at, parameters_at}
+use Rattle.mm_session.specs.Kinds.{query_of}
+use Rattle.mm_session.specs.Session.{SessionState, AnswersLine, ExplainsAt, IsPrepared, RunsAt, TakesAway}
+use Rattle.mm_session.specs.Statements.{AreColumnsFound, IsKindOf, LacksPlan, line_at, parameters_at}
+use Rattle.mm_session.specs.declared.statement_kind.StatementKind.{StatementKind}
 use Rattle.mmdb_c.specs.Cells.{StandFor}
 use Rattle.mmdb_c.specs.Columns.{column_cell}
+use Rattle.mmdb_c.specs.Kinds.{kind_number}
 use Rattle.mmdb_c.specs.Replies.{ReadsRows, count_of, rows_of}
 use Rattle.mmdb_c.specs.Sessions.{new_session}
-use Rattle.mmdb_c.specs.Statuses.{done, has_rows, first_refusal_number, misuse, status_of, status_prepared}
+use Rattle.mmdb_c.specs.Statuses.{done, has_rows, first_refusal_number, misuse, status_of, status_of_result}
 use Rattle.mmdb_c.specs.declared.cell.Cell.{Cell}
 use Rattle.mmdb_c.specs.declared.column.ColumnCell.{ColumnCell}
 
@@ -28,6 +33,28 @@ OnOpen Does Closed None (Some new) = ⊥
 OnOpen Does Closed (Some old) None = ⊥
 OnOpen Does Closed (Some old) (Some new) = Does old new
 
+-- Bytes were copied as far as there was room. The bytes behind them stay.
+abbrev pub CopiesFront : List ℕ → List ℕ → List ℕ → Type 0
+CopiesFront bytes old new = new ≡ take (length old) bytes ++ drop (length bytes) old
+
+-- No refusal has this number.
+abbrev pub IsNoRefusal : ℕ → Type 0
+IsNoRefusal number = (refusal : Refusal) → refusal_number refusal ≢ number
+
+-- These are the words of a status: those of the refusal with this number, "misuse", or none for any other number.
+abbrev pub AreWordsOf : ℕ → List ℕ → Type 0
+AreWordsOf status words =
+    ((refusal : Refusal) × (refusal_number refusal ≡ status) × (words ≡ refusal_text refusal))
+    ⊎ ((status ≡ misuse) × (words ≡ codes "misuse"))
+    ⊎ (IsNoRefusal status × (status ≢ misuse) × (words ≡ []))
+
+-- The words of a status were copied as far as there was room, and it is told how long they are.
+pub record TellsWords (status : ℕ) (old new : List ℕ) (count : ℕ) : Type 0 where
+  pub words : List ℕ
+  pub are : AreWordsOf status words
+  pub copied : CopiesFront words old new
+  pub count_is : count ≡ length words
+
 -- A line was answered, and the status tells of the reply.
 pub record Executes (line : List ℕ) (status : ℕ) (old new : SessionState) : Type 0 where
   pub answers : AnswersLine line old new
@@ -36,6 +63,10 @@ pub record Executes (line : List ℕ) (status : ℕ) (old new : SessionState) : 
 -- It is told whether a transaction is open.
 abbrev pub InTransaction : Bool → SessionState → SessionState → Type 0
 InTransaction open_now old new = (new ≡ old) × (open_now ≡ has_transaction old.state)
+
+-- It is told how many rows all calls changed.
+abbrev pub TellsChanges : ℕ → SessionState → SessionState → Type 0
+TellsChanges changes old new = (new ≡ old) × (changes ≡ old.changes)
 
 -- The number that is told of a statement that was made; where none was, it is as before.
 abbrev pub number_told : Result ℕ Refusal → ℕ → ℕ
@@ -46,13 +77,19 @@ pub record Prepares (line : List ℕ) (number_old number_new status : ℕ) (old 
   pub result : Result ℕ Refusal
   pub prepared : IsPrepared line old new result
   pub number_is : number_new ≡ number_told result number_old
-  pub status_is : status ≡ status_prepared result
+  pub status_is : status ≡ status_of_result result
 
 -- It is told how many values a statement takes. Where there is no such statement, that is misuse.
 abbrev pub TellsParameters : ℕ → ℕ → ℕ → ℕ → SessionState → SessionState → Type 0
 TellsParameters number count_old count_new status old new =
     (new ≡ old) × (((parameters_at number old.lines ≡ Some count_new) × (status ≡ done))
     ⊎ ((parameters_at number old.lines ≡ None) × (count_new ≡ count_old) × (status ≡ misuse)))
+
+-- The number of a statement's kind is told. Where there is no such statement, that is misuse.
+abbrev pub TellsKind : ℕ → ℕ → ℕ → ℕ → SessionState → SessionState → Type 0
+TellsKind number kind_old kind_new status old new =
+    (new ≡ old) × (((kind : StatementKind) × IsKindOf (line_at number old.lines) (Some kind) × (kind_new ≡ kind_number kind) × (status ≡ done))
+    ⊎ ((line_at number old.lines ≡ None) × (kind_new ≡ kind_old) × (status ≡ misuse)))
 
 -- A statement was run with the values that cells stand for, and the status tells of the reply.
 pub record RunsValues (number : ℕ) (cells : List Cell) (status : ℕ) (old new : SessionState) : Type 0 where
@@ -65,15 +102,53 @@ pub record RunsValues (number : ℕ) (cells : List Cell) (status : ℕ) (old new
 abbrev pub IsMisuseOf : ℕ → List Cell → SessionState → Type 0
 IsMisuseOf number cells old = (parameters_at number old.lines ≢ Some (length cells)) ⊎ ((values : List Value) → StandFor cells values → ⊥)
 
--- A statement was not run with cells, and nothing changes: that is misuse, or memory was refused to the values that the statement takes.
+-- A cell, and each before it, stands for a value.
+abbrev pub StandUpTo : ℕ → List Cell → Type 0
+StandUpTo place cells = (place < length cells) × ((values : List Value) × StandFor (take (place + 1) cells) values)
+
+-- Memory was refused to the value of a cell: the cells up to there stand for values, as many as the statement takes.
+abbrev pub RefusesMemory : ℕ → List Cell → ℕ → SessionState → Type 0
+RefusesMemory number cells status old =
+    (status ≡ refusal_number Memory) × (parameters_at number old.lines ≡ Some (length cells)) × ((place : ℕ) × StandUpTo place cells)
+
+-- A statement was not run with cells, and nothing changes: that is misuse, or memory was refused to a value.
 abbrev pub RefusesCells : ℕ → List Cell → ℕ → SessionState → Type 0
-RefusesCells number cells status old =
-    ((status ≡ misuse) × IsMisuseOf number cells old)
-    ⊎ ((status ≡ refusal_number Memory) × (parameters_at number old.lines ≡ Some (length cells)))
+RefusesCells number cells status old = ((status ≡ misuse) × IsMisuseOf number cells old) ⊎ RefusesMemory number cells status old
 
 -- A statement was run with cells, or was not.
 abbrev pub RunsCells : ℕ → List Cell → ℕ → SessionState → SessionState → Type 0
 RunsCells number cells status old new = RunsValues number cells status old new ⊎ ((new ≡ old) × RefusesCells number cells status old)
+
+-- The query of a statement was explained with the values that cells stand for, and the status tells of the reply.
+pub record ExplainsValues (number : ℕ) (cells : List Cell) (status : ℕ) (old new : SessionState) : Type 0 where
+  pub values : List Value
+  pub stand : StandFor cells values
+  pub explains : ExplainsAt number values old new
+  pub status_is : status ≡ status_of new.reply
+
+-- The statement of a number has no query.
+abbrev pub LacksPlanAt : ℕ → SessionState → Type 0
+LacksPlanAt number old = (line : List ℕ) × (line_at number old.lines ≡ Some line) × LacksPlan line
+
+-- The statement of a number has a query.
+pub record HasPlanAt (number : ℕ) (old : SessionState) : Type 0 where
+  pub line : List ℕ
+  pub is : line_at number old.lines ≡ Some line
+  pub command : Command
+  pub read : template_of line ≡ Ok command
+  pub query : Query
+  pub asks : query_of command ≡ Some query
+
+-- The query of a statement was not explained, and nothing changes: that is misuse, or memory was refused to a value.
+abbrev pub RefusesPlan : ℕ → List Cell → ℕ → SessionState → Type 0
+RefusesPlan number cells status old =
+    ((status ≡ misuse) × (IsMisuseOf number cells old ⊎ LacksPlanAt number old))
+    ⊎ (RefusesMemory number cells status old × HasPlanAt number old)
+
+-- The query of a statement was explained with cells, or was not.
+abbrev pub ExplainsCells : ℕ → List Cell → ℕ → SessionState → SessionState → Type 0
+ExplainsCells number cells status old new =
+    ExplainsValues number cells status old new ⊎ ((new ≡ old) × RefusesPlan number cells status old)
 
 -- A statement was taken away. Where there is none of the number, that is misuse.
 abbrev pub TakesStatement : ℕ → ℕ → SessionState → SessionState → Type 0
@@ -97,8 +172,7 @@ Reads first out_old out_new rows old new = (new ≡ old) × ReadsRows (rows_of o
 -- The text of the reply was copied as far as there was room, and its whole length is told. Where memory for it is refused, nothing is.
 abbrev pub TellsText : List ℕ → List ℕ → ℕ → ℕ → ℕ → SessionState → SessionState → Type 0
 TellsText old_out new_out length_old length_new status old new =
-    (new ≡ old) × (((status ≡ done) × (length_new ≡ length (text_of old.reply))
-    × (new_out ≡ take (length old_out) (text_of old.reply) ++ drop (length (text_of old.reply)) old_out))
+    (new ≡ old) × (((status ≡ done) × (length_new ≡ length (text_of old.reply)) × CopiesFront (text_of old.reply) old_out new_out)
     ⊎ ((status ≡ refusal_number Memory) × (length_new ≡ length_old) × (new_out ≡ old_out)))
 
 -- The columns were written as far as there was room, and it is told how many they are.
@@ -113,11 +187,23 @@ TellsColumns line out_old out_new count_old count_new status old new =
     ⊎ ((refusal : Refusal) × ((template_of line ≡ Err refusal) ⊎ (refusal ≡ Memory)) × (status ≡ refusal_number refusal)
     × (out_new ≡ out_old) × (count_new ≡ count_old)))
 
+-- The status of a statement whose columns are not told: misuse where there is no such statement, else want of memory.
+abbrev pub status_untold : Option (List ℕ) → ℕ
+status_untold None = misuse
+status_untold (Some line) = refusal_number Memory
+
+-- The columns of the rows that a statement replies are told, or nothing is.
+abbrev pub TellsStatementColumns : ℕ → List ColumnCell → List ColumnCell → ℕ → ℕ → ℕ → SessionState → SessionState → Type 0
+TellsStatementColumns number out_old out_new count_old count_new status old new =
+    (new ≡ old) × (((columns : List Column) × AreColumnsFound (line_at number old.lines) old.state columns
+    × WritesColumns columns out_old out_new count_new × (status ≡ done))
+    ⊎ ((status ≡ status_untold (line_at number old.lines)) × (out_new ≡ out_old) × (count_new ≡ count_old)))
+
 -- A place within a line is told, or 0 where no refusal has the number.
 pub record FindsPlace (line : List ℕ) (number place : ℕ) (old new : SessionState) : Type 0 where
   pub same : new ≡ old
   pub within : place ≤ length line
-  pub none : ((refusal : Refusal) → refusal_number refusal ≢ number) → place ≡ 0
+  pub none : IsNoRefusal number → place ≡ 0
 
 -- A statement was run, and then rows of its reply were read from the first on; where the reply has none, no cell changes.
 pub record Queries (number : ℕ) (cells : List Cell) (out_old out_new : List Cell) (rows status : ℕ) (old new : SessionState) : Type 0 where

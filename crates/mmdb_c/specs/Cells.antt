@@ -1,5 +1,5 @@
 -- What the cells of C stand for.
-use Rattle.std.specs.Prelude.{◌≡◌, List, [], ◌∷◌, length, take}
+use Rattle.std.specs.Prelude.{◌≡◌, ◌<◌, List, [], ◌∷◌, length, take}
 use Rattle.mm_value.specs.Text.{IsText}
 use Rattle.mm_value.specs.declared.values.Value.{Value}
 use Rattle.mm_value.specs.declared.values.Value.TheVariants.{Int, Text}
@@ -10,7 +10,12 @@ abbrev pub StandsFor : Cell → Value → Type 0
 StandsFor cell (Int number) = (cell.kind ≡ 0) × (cell.number ≡ number)
 StandsFor cell (Text text) = (cell.kind ≡ 1) × (cell.len ≡ length text) × (take (length text) cell.text ≡ text) × IsText text
 
--- So does each of the cells for the value at its place, and there are as many values.
+-- A value that is copied to a block of its own: a text of more than 16 bytes.
+abbrev pub NeedsMemory : Value → Type 0
+NeedsMemory (Int number) = ⊥
+NeedsMemory (Text text) = 16 < length text
+
+-- Each of the cells stands for the value at its place, and there are as many values.
 abbrev pub StandFor : List Cell → List Value → Type 0
 StandFor [] [] = Unit {0}
 StandFor [] (value ∷ values) = ⊥

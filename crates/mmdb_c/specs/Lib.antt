@@ -1,9 +1,12 @@
 pub mod Calls
 pub mod Cells
 pub mod Columns
+pub mod HeaderNumbers
+pub mod Kinds
 pub mod Lent
 pub mod Owning
 pub mod Replies
 pub mod Sessions
 pub mod Statuses
+pub mod Versions
 pub mod steps

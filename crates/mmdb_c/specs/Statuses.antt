@@ -31,7 +31,7 @@ status_of (Some (Steps steps)) = 4
 status_of (Some (Listing listing)) = 4
 status_of (Some (Refused refusal)) = refusal_number refusal
 
--- The status that tells whether a line was made a statement.
-abbrev pub status_prepared : Result ℕ Refusal → ℕ
-status_prepared (Ok number) = done
-status_prepared (Err refusal) = refusal_number refusal
+-- The status of a call that was done, or refused.
+abbrev pub status_of_result : {T : Type 0} → Result T Refusal → ℕ
+status_of_result (Ok value) = done
+status_of_result (Err refusal) = refusal_number refusal

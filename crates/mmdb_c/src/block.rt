@@ -1,10 +1,10 @@
-//! A value in a block, between a box and a handle.
+//! A value on the heap, between a box and a handle.
 ghost use Rattle.std.specs.Prelude.{◌≡◌};
 
 use std::alloc::Allocator;
 use std::marker::Model;
 
-/// Owns a value in a block of its own, as a `Box` does, with the pointer in sight of this crate.
+/// Owns a value on the heap, as a `Box` does, with a pointer that this crate can read.
 pub(crate) struct Block<T, A: Allocator> {
     pub(crate) at: *mut T,
     pub(crate) alloc: A,
@@ -18,7 +18,7 @@ impl<T, A: Allocator> Model for Block<T, A> {
 }
 
 impl<T: Drop, A: Allocator> Block<T, A> {
-    /// Takes a box apart.
+    /// Returns the block of a box.
     pub(crate) fn from_box(boxed: Box<T, A>) -> Block<T, A>
         ensures { result.value ≡ boxed.value }
     {
@@ -26,7 +26,7 @@ impl<T: Drop, A: Allocator> Block<T, A> {
         Block { at, alloc }
     }
 
-    /// Makes a box of it again.
+    /// Returns the block as a box.
     pub(crate) fn into_box(self) -> Box<T, A>
         ensures { result.value ≡ self.value }
     {

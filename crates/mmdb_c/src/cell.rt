@@ -1,7 +1,8 @@
 //! Values as C has them.
-ghost use Rattle.std.specs.Prelude.{◌≡◌, IfOk, IsErrOf, List, OnOk};
+ghost use Rattle.std.specs.Prelude.{◌≡◌, IfOk, IsErrOf, List, OnOk, ℕ};
 ghost use Rattle.mm_value.specs.declared.values.Value.{Value};
-ghost use Rattle.mmdb_c.specs.Cells.{StandFor, StandsFor};
+ghost use Rattle.mmdb_c.specs.Calls.{StandUpTo};
+ghost use Rattle.mmdb_c.specs.Cells.{NeedsMemory, StandFor, StandsFor};
 
 use mm_value::{MAX_TEXT_BYTES, Refusal, Text, Value};
 use std::alloc::{AllocError, Global};
@@ -12,7 +13,7 @@ pub(crate) const NUMBER_KIND: u8 = 0;
 /// The kind of a cell with a text.
 pub(crate) const TEXT_KIND: u8 = 1;
 
-/// A value as C has it: a number, or a text of some bytes.
+/// A value as C has it: a number, or the first bytes of a text.
 #[repr(C)]
 #[derive(Clone, Copy)]
 pub struct Cell {
@@ -25,11 +26,11 @@ pub struct Cell {
 /// Why cells were not read.
 #[derive(Debug, Drop, Error)]
 pub(crate) enum CellError {
-    /// A cell stands for no value.
-    #[error("a cell stands for no value")]
+    /// A cell is not a value.
+    #[error("a cell is not a value")]
     NoValue,
-    /// Memory was refused.
-    #[error("memory was refused")]
+    /// An allocation failed.
+    #[error("an allocation failed")]
     Memory,
 }
 
@@ -44,11 +45,12 @@ impl From<AllocError> for CellError {
 }
 
 impl Cell {
-    /// The value that the cell stands for. `NoValue` where its kind is another, or its text is longer than it can be or has a line feed;
-    /// `Memory` only for a text of more than 16 bytes.
+    /// Returns the value of the cell. Fails with `NoValue` if the kind is neither of the two, or the text is too long or has a line feed, and
+    /// with `Memory` only for a text of more than 16 bytes.
     fn value(&self, alloc: Global) -> Result<Value, CellError>
         ensures ok { IfOk result (λ value. StandsFor self.now value) }
         ensures none { IsErrOf result CellError.NoValue → (value : Value) → StandsFor self.now value → ⊥ }
+        ensures memory { IsErrOf result CellError.Memory → (value : Value) × StandsFor self.now value × NeedsMemory value }
     {
         match self.kind {
             NUMBER_KIND => Ok(Value::Int(self.number)),
@@ -57,11 +59,12 @@ impl Cell {
         }
     }
 
-    /// The text that a cell with a text stands for.
+    /// Returns the text of a cell of the kind of texts.
     fn text_value(&self, alloc: Global) -> Result<Value, CellError>
         requires { self.now.kind ≡ 1 }
         ensures ok { IfOk result (λ value. StandsFor self.now value) }
         ensures none { IsErrOf result CellError.NoValue → (value : Value) → StandsFor self.now value → ⊥ }
+        ensures memory { IsErrOf result CellError.Memory → (value : Value) × StandsFor self.now value × NeedsMemory value }
     {
         let len = usize::from(self.len);
         if len > MAX_TEXT_BYTES {
@@ -74,7 +77,7 @@ impl Cell {
         }
     }
 
-    /// Has the cell stand for a value. What the value does not need of it stays.
+    /// Stores a value in the cell. The fields that the value does not need are unchanged.
     pub(crate) fn set(&mut self, value: &Value)
         ensures { StandsFor self.new value.now }
     {
@@ -93,8 +96,8 @@ impl Cell {
     }
 }
 
-/// Reads the values that cells stand for, in place of those that are there. `NoValue` where a cell stands for none; `Memory` where
-/// memory is refused. After an error some of the values may stand there.
+/// Replaces the values of a buffer by those of cells. Fails with `NoValue` if a cell is not a value, and with `Memory` if an allocation for
+/// the value of a cell fails; that cell and those before it are values then. After an error the buffer has the values so far.
 pub(crate) fn read_cells(
     alloc: Global,
     cells: &[Cell],
@@ -102,11 +105,11 @@ pub(crate) fn read_cells(
 ) -> Result<(), CellError>
     ensures ok { OnOk result (StandFor cells.now values.new.items) }
     ensures none { IsErrOf result CellError.NoValue → (values : List Value) → StandFor cells.now values → ⊥ }
+    ensures memory { IsErrOf result CellError.Memory → (place : ℕ) × StandUpTo place cells.now }
 {
     values.clear();
-    values.reserve(cells.len())?;
     for cell in cells {
-        values.push_reserved(cell.value(alloc)?);
+        values.push(cell.value(alloc)?)?;
     }
     Ok(())
 }

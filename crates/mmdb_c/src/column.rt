@@ -6,7 +6,7 @@ use crate::cell::{NUMBER_KIND, TEXT_KIND};
 use mm_schema::Column;
 use mm_value::ColType;
 
-/// A column as C has it: the kind of the cells of its values, and its name with bytes 0 behind it.
+/// A column as C has it: the kind of its cells, and its name, padded with 0.
 #[repr(C)]
 #[derive(Clone, Copy)]
 pub struct ColumnCell {
@@ -16,7 +16,7 @@ pub struct ColumnCell {
 }
 
 impl ColumnCell {
-    /// What stands for a column.
+    /// Returns the cell of a column.
     fn of(column: &Column) -> ColumnCell
         ensures { result ≡ column_cell column.now }
     {
@@ -31,7 +31,7 @@ impl ColumnCell {
     }
 }
 
-/// The kind of the cells of a column's values.
+/// Returns the kind of the cells of a type.
 fn kind_of(col_type: ColType) -> u8
     ensures { result ≡ kind_of col_type }
 {
@@ -41,7 +41,7 @@ fn kind_of(col_type: ColType) -> u8
     }
 }
 
-/// Writes columns, as many as there is room for.
+/// Writes as many columns as fit.
 pub(crate) fn set_columns(cells: &mut [ColumnCell], columns: &[&Column])
     ensures { cells.new ≡ map (λ column. column_cell column.now) (take (length cells.old) columns.now) ++ drop (length columns.now) cells.old }
 {

@@ -1,4 +1,4 @@
-//! What C holds of a database.
+//! The handle that C holds.
 ghost use Rattle.std.specs.Prelude.{◌≡◌, Some, None, true, false};
 ghost use Rattle.mm_session.specs.Session.{SessionState};
 ghost use Rattle.std.specs.declared.alloc.Global.{Global};
@@ -9,7 +9,7 @@ use std::alloc::Global;
 use std::marker::Model;
 use std::ptr::null_mut;
 
-/// What C holds.
+/// A handle: a pointer to a session, and whether there is one.
 #[repr(C)]
 #[derive(Drop)]
 pub struct Handle {
@@ -30,7 +30,7 @@ impl Handle {
     ghost use Rattle.std.specs.Borrow.{sem};
     ghost use Rattle.mmdb_c.specs.Lent.{handle_follows, held};
 
-    /// Closed.
+    /// Returns a closed handle.
     pub(crate) fn closed(alloc: Global) -> Handle
         ensures { held result ≡ None }
     {
@@ -40,14 +40,14 @@ impl Handle {
         }
     }
 
-    /// Whether it is open.
+    /// Returns whether the handle is open.
     pub(crate) fn is_open(&mut self) -> bool
         ensures { (result ≡ self.old.is_open) × (self.new ≡ self.old) }
     {
         self.is_open
     }
 
-    /// What it leads to.
+    /// Returns the session of an open handle.
     pub(crate) fn as_mut(&mut self) -> &mut Library
         requires { self.old.is_open ≡ true }
         ensures* writes_back { sem 𝓛 (handle_follows self.entry result) }
@@ -57,7 +57,7 @@ impl Handle {
         unsafe { &mut *at }
     }
 
-    /// An open handle that leads to the block.
+    /// Returns an open handle that owns the block.
     pub(crate) fn of(block: Block<Library, Global>) -> Handle
         ensures { held result ≡ Some block.value }
     {
@@ -68,7 +68,7 @@ impl Handle {
         }
     }
 
-    /// The block that it led to.
+    /// Returns the block that an open handle owns.
     pub(crate) fn into_block(self, alloc: Global) -> Block<Library, Global>
         requires { self.is_open ≡ true }
         ensures { result.value ≡ self.value }

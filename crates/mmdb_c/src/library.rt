@@ -1,21 +1,24 @@
 //! What a handle leads to.
-ghost use Rattle.std.specs.Prelude.{◌≡◌, ◌++◌, drop, length, take};
-ghost use Rattle.mmdb_c.specs.Calls.{Counts, Executes, FindsPlace, InTransaction, Prepares, Queries, Reads, RunsCells, RunsRows};
-ghost use Rattle.mmdb_c.specs.Calls.{TakesStatement, TellsColumns, TellsParameters, TellsText};
-ghost use Rattle.mmdb_c.specs.steps.Running.{RunsWith};
+ghost use Rattle.std.specs.Prelude.{◌≡◌, List, Some, false, true, ℕ};
+ghost use Rattle.mmdb_c.specs.Calls.{Counts, Executes, ExplainsCells, FindsPlace, HasPlanAt, InTransaction, Prepares, Queries, Reads, RunsCells, RunsRows};
+ghost use Rattle.mmdb_c.specs.Calls.{TakesStatement, TellsChanges, TellsColumns, TellsKind, TellsParameters, TellsStatementColumns, TellsText};
+ghost use Rattle.mm_session.specs.Statements.{LacksPlan, line_at};
+ghost use Rattle.mmdb_c.specs.steps.Running.{ExplainsWith, RunsWith};
 ghost use Rattle.mmdb_c.specs.Sessions.{new_session};
 
 use crate::cell::{Cell, CellError, read_cells};
 use crate::column::{ColumnCell, set_columns};
+use crate::copying::copy_front;
+use crate::kind::kind_number;
 use crate::replies::{count_of, read_rows, write_text};
 use crate::status::{DONE, FIRST_REFUSAL, MISUSE, ROWS, refusal_of, status_of};
-use mm_session::Session;
+use mm_session::{ColumnsError, Session};
 use mm_value::{Refusal, Value, Watched};
 use std::alloc::Global;
 use std::marker::Model;
 use std::mem::replace;
 
-/// A session, seen as its state, and room that the calls use again: for the values of a statement and for the text of a reply.
+/// A session, seen as its state, and two buffers that calls reuse: for the values of a run and for the text of a reply.
 #[derive(Drop)]
 pub(crate) struct Library {
     session: Session,
@@ -32,7 +35,7 @@ impl Model for Library {
 }
 
 impl Library {
-    /// A new session. It takes no memory.
+    /// Returns a new session. Allocates nothing.
     pub(crate) fn new(alloc: Global) -> Library
         ensures { result ≡ new_session }
     {
@@ -43,7 +46,7 @@ impl Library {
         }
     }
 
-    /// Answers a line.
+    /// Executes a line, and returns the status of the reply.
     pub(crate) fn execute(&mut self, alloc: Global, line: &[u8]) -> u8
         ensures { Executes line.now result self.old self.new }
     {
@@ -51,7 +54,7 @@ impl Library {
         status_of(&self.session.reply())
     }
 
-    /// Makes a line a statement, and tells its number.
+    /// Prepares a line, writes the number of the statement, and returns a status.
     pub(crate) fn prepare(&mut self, alloc: Global, line: &[u8], number: &mut usize) -> u8
         ensures { Prepares line.now number.old number.new result self.old self.new }
     {
@@ -64,7 +67,7 @@ impl Library {
         }
     }
 
-    /// Tells how many values a statement takes.
+    /// Writes the number of values that a statement takes, and returns a status.
     pub(crate) fn parameters(&mut self, number: usize, count: &mut usize) -> u8
         ensures { TellsParameters number count.old count.new result self.old self.new }
     {
@@ -77,7 +80,20 @@ impl Library {
         }
     }
 
-    /// Runs a statement with the values that cells stand for.
+    /// Writes the number of a statement's kind, and returns a status.
+    pub(crate) fn kind(&mut self, number: usize, kind: &mut u8) -> u8
+        ensures { TellsKind number kind.old kind.new result self.old self.new }
+    {
+        match self.session.kind(number) {
+            Some(found) => {
+                *kind = kind_number(found);
+                DONE
+            }
+            None => MISUSE,
+        }
+    }
+
+    /// Runs a statement with the values of cells, and returns the status of the reply.
     pub(crate) fn run(&mut self, alloc: Global, number: usize, cells: &[Cell]) -> u8
         ensures { RunsCells number cells.now result self.old self.new }
     {
@@ -91,7 +107,7 @@ impl Library {
         }
     }
 
-    /// Runs a statement with the values that cells stand for, and reads the first rows of its reply.
+    /// Runs a statement with the values of cells, and reads rows of the reply from the first one on.
     pub(crate) fn query(
         &mut self,
         alloc: Global,
@@ -110,7 +126,7 @@ impl Library {
         status
     }
 
-    /// Runs a statement with each row of cells, and tells how many runs were done.
+    /// Runs a statement with each row of cells up to the first run that fails, and counts the runs that succeeded.
     pub(crate) fn run_many(
         &mut self,
         alloc: Global,
@@ -138,7 +154,24 @@ impl Library {
         DONE
     }
 
-    /// Takes a statement away.
+    /// Explains the query of a statement with the values of cells, and returns the status of the reply.
+    pub(crate) fn explain(&mut self, alloc: Global, number: usize, cells: &[Cell]) -> u8
+        ensures { ExplainsCells number cells.now result self.old self.new }
+    {
+        if self.session.parameters(number) != Some(cells.len()) {
+            return MISUSE;
+        }
+        if !has_plan(&self.session, number) {
+            return MISUSE;
+        }
+        match read_cells(alloc, cells, &mut self.values) {
+            Ok(()) => explain_values(alloc, &mut self.session, number, self.values.as_slice()),
+            Err(CellError::NoValue) => MISUSE,
+            Err(CellError::Memory) => Refusal::Memory.number(),
+        }
+    }
+
+    /// Deletes a statement, and returns a status.
     pub(crate) fn finalize(&mut self, number: usize) -> u8
         ensures { TakesStatement number result self.old self.new }
     {
@@ -148,21 +181,21 @@ impl Library {
         }
     }
 
-    /// How many rows the reply to the last call has or tells of.
+    /// Returns the number of rows that the reply has or counts.
     pub(crate) fn count(&mut self) -> usize
         ensures { Counts result self.old self.new }
     {
         count_of(&self.session.reply())
     }
 
-    /// Reads rows of the reply to the last call.
+    /// Copies rows of the reply into cells, and returns how many.
     pub(crate) fn read(&mut self, first: usize, cells: &mut [Cell]) -> usize
         ensures { Reads first cells.old cells.new result self.old self.new }
     {
         read_rows(&self.session.reply(), first, cells)
     }
 
-    /// Copies the text of the reply to the last call, as far as there is room, and tells its whole length.
+    /// Copies as many bytes of the reply's text as fit, writes its full length, and returns a status.
     pub(crate) fn text(&mut self, alloc: Global, out: &mut [u8], length: &mut usize) -> u8
         ensures { TellsText out.old out.new length.old length.new result self.old self.new }
     {
@@ -181,7 +214,7 @@ impl Library {
         }
     }
 
-    /// Writes the columns of the rows that a line replies, as many as there is room for, and tells how many they are.
+    /// Writes as many columns of the rows that a line replies as fit, writes the number of all of them, and returns a status.
     pub(crate) fn columns(
         &mut self,
         alloc: Global,
@@ -200,7 +233,27 @@ impl Library {
         DONE
     }
 
-    /// Where in a line a person may look for what the refusal of a number is about.
+    /// Writes as many columns of the rows that a statement replies as fit, writes the number of all of them, and returns a status.
+    pub(crate) fn statement_columns(
+        &mut self,
+        alloc: Global,
+        number: usize,
+        cells: &mut [ColumnCell],
+        count: &mut usize,
+    ) -> u8
+        ensures { TellsStatementColumns number cells.old cells.new count.old count.new result self.old self.new }
+    {
+        let columns = match self.session.statement_columns(alloc, number) {
+            Ok(columns) => columns,
+            Err(ColumnsError::NoSuchStatement) => return MISUSE,
+            Err(ColumnsError::Memory) => return Refusal::Memory.number(),
+        };
+        set_columns(cells, columns.as_slice());
+        *count = columns.len();
+        DONE
+    }
+
+    /// Returns the byte offset in a line to show in the message of the refusal with a number.
     pub(crate) fn place(&mut self, alloc: Global, line: &[u8], number: u8) -> usize
         ensures { FindsPlace line.now number result self.old self.new }
     {
@@ -210,11 +263,18 @@ impl Library {
         }
     }
 
-    /// Whether a transaction is open.
+    /// Returns whether a transaction is open.
     pub(crate) fn is_in_transaction(&mut self) -> bool
         ensures { InTransaction result self.old self.new }
     {
         self.session.is_in_transaction()
+    }
+
+    /// Returns the number of rows that all calls changed.
+    pub(crate) fn total_changes(&mut self) -> u64
+        ensures { TellsChanges result self.old self.new }
+    {
+        self.session.total_changes()
     }
 }
 
@@ -228,10 +288,23 @@ fn run_values(alloc: Global, session: &mut Session, number: usize, values: &[Val
     }
 }
 
-/// Copies bytes, as far as there is room.
-fn copy_front(bytes: &[u8], out: &mut [u8])
-    ensures { out.new ≡ take (length out.old) bytes.now ++ drop (length bytes.now) out.old }
+/// Explains the query of a statement with values.
+fn explain_values(alloc: Global, session: &mut Session, number: usize, values: &[Value]) -> u8
+    ensures { ExplainsWith number values.now result session.old session.new }
 {
-    let count = bytes.len().min(out.len());
-    out[..count].copy_from_slice(&bytes[..count]);
+    match session.explain(alloc, number, values) {
+        Ok(()) => status_of(&session.reply()),
+        Err(_) => MISUSE,
+    }
+}
+
+/// Returns whether a number has a statement with a query.
+fn has_plan(session: &Session, number: usize) -> bool
+    ensures some { result ≡ true → HasPlanAt number session.now }
+    ensures none { result ≡ false → (line : List ℕ) → line_at number session.now.lines ≡ Some line → LacksPlan line }
+{
+    match session.kind(number) {
+        Some(kind) => kind.has_plan(),
+        None => false,
+    }
 }

@@ -9,7 +9,7 @@ use crate::handle::Handle;
 use crate::status::MISUSE;
 use std::alloc::Global;
 
-/// Answers a line and keeps the reply. Answers the status that tells of the reply, or misuse where the handle is closed.
+/// Executes a line, stores the reply, and returns its status. Returns misuse if the handle is closed.
 #[unsafe(no_mangle)]
 pub extern "C" fn mmdb_execute(alloc: Global, db: &mut Handle, line: &[u8]) -> u8
     ensures { OnOpen (Executes line.now result) (result ≡ misuse) (held db.old) (held db.new) }
@@ -20,8 +20,8 @@ pub extern "C" fn mmdb_execute(alloc: Global, db: &mut Handle, line: &[u8]) -> u
     db.as_mut().execute(alloc, line)
 }
 
-/// Writes the columns of the rows that a line replies, which may have holes, as many as there is room for, and tells how many they are;
-/// none where it replies no rows. Answers done, or the number of the refusal, or misuse where the handle is closed; then nothing is written.
+/// Writes as many columns of the rows that a line replies as fit, and the number of all of them: 0 if the line replies no rows. The line may
+/// have holes. Returns done; the number of a refusal; or misuse if the handle is closed. If it fails, nothing is written.
 #[unsafe(no_mangle)]
 pub extern "C" fn mmdb_columns(
     alloc: Global,
@@ -39,8 +39,8 @@ pub extern "C" fn mmdb_columns(
     db.as_mut().columns(alloc, line, columns, count)
 }
 
-/// Where in a line a person may look for what a refusal of it is about, as [`mm_session::Session::place_of_refusal`] tells it; 0 where the
-/// status is no refusal, and at a closed handle. It lies within the line.
+/// Returns the byte offset in a line to show in the message of a refusal, as [`mm_session::Session::place_of_refusal`] does: a hint, and at
+/// most the length of the line. Returns 0 if the status is no refusal or the handle is closed.
 #[unsafe(no_mangle)]
 pub extern "C" fn mmdb_place(alloc: Global, db: &mut Handle, line: &[u8], status: u8) -> usize
     ensures { OnOpen (FindsPlace line.now status result) (result ≡ 0) (held db.old) (held db.new) }
@@ -51,7 +51,7 @@ pub extern "C" fn mmdb_place(alloc: Global, db: &mut Handle, line: &[u8], status
     db.as_mut().place(alloc, line, status)
 }
 
-/// Whether a transaction is open. At a closed handle it is not.
+/// Returns whether a transaction is open: false if the handle is closed.
 #[unsafe(no_mangle)]
 pub extern "C" fn mmdb_in_transaction(db: &mut Handle) -> bool
     ensures { OnOpen (InTransaction result) (result ≡ false) (held db.old) (held db.new) }

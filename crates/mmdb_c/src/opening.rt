@@ -11,8 +11,8 @@ use mm_value::Refusal;
 use std::alloc::Global;
 use std::mem::replace;
 
-/// Opens a closed handle: it leads to a new session. Answers the status: done; misuse where it is open; want of memory, and then
-/// it stays closed.
+/// Opens a closed handle with a new session. Returns done; misuse if the handle is open; or the number of `Memory`, and the handle stays
+/// closed.
 #[unsafe(no_mangle)]
 pub extern "C" fn mmdb_open(alloc: Global, db: &mut Handle) -> u8
     ensures { Opens result (held db.old) (held db.new) }
@@ -29,7 +29,7 @@ pub extern "C" fn mmdb_open(alloc: Global, db: &mut Handle) -> u8
     }
 }
 
-/// Closes a handle, and frees all that it led to. A closed one stays so.
+/// Closes a handle, and frees its session. A closed handle stays closed.
 #[unsafe(no_mangle)]
 pub extern "C" fn mmdb_close(alloc: Global, db: &mut Handle)
     ensures { held db.new ≡ None }

@@ -1,6 +1,6 @@
-//! What C reads of the reply to the last call.
+//! What C reads after a call: the reply, and the count of changed rows.
 ghost use Rattle.std.specs.Prelude.{◌≡◌};
-ghost use Rattle.mmdb_c.specs.Calls.{Counts, OnOpen, Reads, TellsText};
+ghost use Rattle.mmdb_c.specs.Calls.{Counts, OnOpen, Reads, TellsChanges, TellsText};
 ghost use Rattle.mmdb_c.specs.Lent.{held};
 ghost use Rattle.mmdb_c.specs.Statuses.{misuse};
 
@@ -9,7 +9,7 @@ use crate::handle::Handle;
 use crate::status::MISUSE;
 use std::alloc::Global;
 
-/// How many rows the reply has or tells of; 0 where it is of another kind, and at a closed handle.
+/// Returns the number of rows that the reply has or counts: 0 for any other reply, and if the handle is closed.
 #[unsafe(no_mangle)]
 pub extern "C" fn mmdb_count(db: &mut Handle) -> usize
     ensures { OnOpen (Counts result) (result ≡ 0) (held db.old) (held db.new) }
@@ -20,7 +20,7 @@ pub extern "C" fn mmdb_count(db: &mut Handle) -> usize
     db.as_mut().count()
 }
 
-/// Reads rows of the reply from the first one on, as many as the cells have room for, row by row. Tells how many rows they are.
+/// Copies rows of the reply into cells, row by row from the first one on, as many whole rows as fit. Returns the number of rows copied.
 #[unsafe(no_mangle)]
 pub extern "C" fn mmdb_read(db: &mut Handle, first_row: usize, cells: &mut [Cell]) -> usize
     ensures { OnOpen (Reads first_row cells.old cells.new result) ((result ≡ 0) × (cells.new ≡ cells.old)) (held db.old) (held db.new) }
@@ -31,8 +31,8 @@ pub extern "C" fn mmdb_read(db: &mut Handle, first_row: usize, cells: &mut [Cell
     db.as_mut().read(first_row, cells)
 }
 
-/// Copies the text of the reply, as far as there is room, and tells its whole length. Answers done, want of memory, or misuse where the
-/// handle is closed; then the length stays as it is.
+/// Copies as many bytes of the reply's text as fit, and writes its full length. Returns done; the number of `Memory`; or misuse if the handle
+/// is closed. If it fails, nothing is written.
 #[unsafe(no_mangle)]
 pub extern "C" fn mmdb_text(
     alloc: Global,
@@ -47,4 +47,15 @@ pub extern "C" fn mmdb_text(
         return MISUSE;
     }
     db.as_mut().text(alloc, bytes, length)
+}
+
+/// Returns the number of rows that all calls changed, modulo 2^64: 0 if the handle is closed.
+#[unsafe(no_mangle)]
+pub extern "C" fn mmdb_total_changes(db: &mut Handle) -> u64
+    ensures { OnOpen (TellsChanges result) (result ≡ 0) (held db.old) (held db.new) }
+{
+    if !db.is_open() {
+        return 0;
+    }
+    db.as_mut().total_changes()
 }

@@ -14,7 +14,7 @@ use mm_session::LastReply;
 use mm_value::{Tuple, Value, Watched, WriteError};
 use std::io::Write;
 
-/// How many rows a reply has or tells of; 0 where it is of another kind.
+/// Returns the number of rows that a reply has or counts: 0 for any other reply.
 pub(crate) fn count_of(reply: &LastReply<'_>) -> usize
     ensures { result ≡ count_of (reply_lent reply.now) }
 {
@@ -26,7 +26,7 @@ pub(crate) fn count_of(reply: &LastReply<'_>) -> usize
     }
 }
 
-/// The row of a reply at a place, counted from 0.
+/// Returns the row of a reply with an index, if there is one.
 fn row_at<'s>(reply: &LastReply<'s>, place: usize) -> Option<&'s [Value]>
     ensures some { IfSome result (λ row. slice_get (rows_of (reply_lent reply.now)) place ≡ Some row.now) }
     ensures none { IfNone result (length (rows_of (reply_lent reply.now)) ≤ place) }
@@ -39,7 +39,7 @@ fn row_at<'s>(reply: &LastReply<'s>, place: usize) -> Option<&'s [Value]>
     }
 }
 
-/// Writes the values of a row into cells from a place on.
+/// Writes the values of a row into cells, from an index on.
 fn set_cells(cells: &mut [Cell], place: usize, row: &[Value])
     requires { place + length row.now ≤ length cells.old }
     ensures { WritesCells place row.now cells.old cells.new }
@@ -49,7 +49,7 @@ fn set_cells(cells: &mut [Cell], place: usize, row: &[Value])
     }
 }
 
-/// Reads rows of a reply from the first one on, as many as the cells have room for, and tells how many they are.
+/// Copies rows of a reply into cells, from the first one on, as many whole rows as fit. Returns the number of rows copied.
 pub(crate) fn read_rows(reply: &LastReply<'_>, first: usize, cells: &mut [Cell]) -> usize
     ensures { ReadsRows (rows_of (reply_lent reply.now)) first cells.old cells.new result }
 {
@@ -66,7 +66,7 @@ pub(crate) fn read_rows(reply: &LastReply<'_>, first: usize, cells: &mut [Cell])
     count
 }
 
-/// Writes the text of a reply, as the program does. Takes no memory. After `WriteError` the writer has failed, and a front of the text
+/// Writes the text of a reply, as the program does. Allocates nothing. After `WriteError` the writer has failed, and the start of the text
 /// was written.
 pub(crate) fn write_text<W: Write>(
     reply: &LastReply<'_>,

@@ -1,16 +1,18 @@
 //! Prepared statements for C.
 ghost use Rattle.std.specs.Prelude.{◌≡◌};
-ghost use Rattle.mmdb_c.specs.Calls.{OnOpen, Prepares, Queries, RunsCells, RunsRows, TakesStatement, TellsParameters};
+ghost use Rattle.mmdb_c.specs.Calls.{ExplainsCells, OnOpen, Prepares, Queries, RunsCells, RunsRows, TakesStatement};
+ghost use Rattle.mmdb_c.specs.Calls.{TellsKind, TellsParameters, TellsStatementColumns};
 ghost use Rattle.mmdb_c.specs.Lent.{held};
 ghost use Rattle.mmdb_c.specs.Statuses.{misuse};
 
 use crate::cell::Cell;
+use crate::column::ColumnCell;
 use crate::handle::Handle;
 use crate::status::MISUSE;
 use std::alloc::Global;
 
-/// Makes a line a statement, and tells its number. Answers done, or the number of the refusal, or misuse where the handle is closed;
-/// then the number stays as it is.
+/// Prepares a line, and writes the number of the statement. Returns done; the number of a refusal; or misuse if the handle is closed. If it
+/// fails, nothing is written.
 #[unsafe(no_mangle)]
 pub extern "C" fn mmdb_prepare(
     alloc: Global,
@@ -26,8 +28,8 @@ pub extern "C" fn mmdb_prepare(
     db.as_mut().prepare(alloc, line, statement)
 }
 
-/// Tells how many values a statement takes. Answers done, or misuse where there is no such statement or the handle is closed; then the
-/// count stays as it is.
+/// Writes the number of values that a statement takes. Returns done; or misuse if no statement has the number or the handle is closed, and
+/// nothing is written.
 #[unsafe(no_mangle)]
 pub extern "C" fn mmdb_parameters(db: &mut Handle, statement: usize, count: &mut usize) -> u8
     ensures { OnOpen (TellsParameters statement count.old count.new result) ((result ≡ misuse) × (count.new ≡ count.old)) (held db.old) (held db.new) }
@@ -38,8 +40,39 @@ pub extern "C" fn mmdb_parameters(db: &mut Handle, statement: usize, count: &mut
     db.as_mut().parameters(statement, count)
 }
 
-/// Runs a statement with the values that cells stand for, and keeps the reply. Answers the status that tells of the reply. Misuse, and
-/// want of memory for the values, change nothing.
+/// Writes the number of a statement's kind. Returns done; or misuse if no statement has the number or the handle is closed, and nothing is
+/// written.
+#[unsafe(no_mangle)]
+pub extern "C" fn mmdb_statement_kind(db: &mut Handle, statement: usize, kind: &mut u8) -> u8
+    ensures { OnOpen (TellsKind statement kind.old kind.new result) ((result ≡ misuse) × (kind.new ≡ kind.old)) (held db.old) (held db.new) }
+{
+    if !db.is_open() {
+        return MISUSE;
+    }
+    db.as_mut().kind(statement, kind)
+}
+
+/// Writes as many columns of the rows that a statement replies as fit, and the number of all of them: 0 if it replies no rows. Returns done;
+/// the number of `Memory`; or misuse if no statement has the number or the handle is closed. If it fails, nothing is written.
+#[unsafe(no_mangle)]
+pub extern "C" fn mmdb_statement_columns(
+    alloc: Global,
+    db: &mut Handle,
+    statement: usize,
+    columns: &mut [ColumnCell],
+    count: &mut usize,
+) -> u8
+    ensures { OnOpen (TellsStatementColumns statement columns.old columns.new count.old count.new result)
+        ((result ≡ misuse) × (columns.new ≡ columns.old) × (count.new ≡ count.old)) (held db.old) (held db.new) }
+{
+    if !db.is_open() {
+        return MISUSE;
+    }
+    db.as_mut().statement_columns(alloc, statement, columns, count)
+}
+
+/// Runs a statement with the values of cells, stores the reply, and returns its status. Returns misuse if the statement takes other values
+/// or the handle is closed, and the number of `Memory` if the values cannot be copied; nothing changes then.
 #[unsafe(no_mangle)]
 pub extern "C" fn mmdb_run(alloc: Global, db: &mut Handle, statement: usize, values: &[Cell]) -> u8
     ensures { OnOpen (RunsCells statement values.now result) (result ≡ misuse) (held db.old) (held db.new) }
@@ -50,7 +83,7 @@ pub extern "C" fn mmdb_run(alloc: Global, db: &mut Handle, statement: usize, val
     db.as_mut().run(alloc, statement, values)
 }
 
-/// Runs a statement as [`mmdb_run`] does, and reads the first rows of the reply as `mmdb_read` does.
+/// Runs a statement as [`mmdb_run`] does, and copies rows of the reply as `mmdb_read` does.
 #[unsafe(no_mangle)]
 pub extern "C" fn mmdb_query(
     alloc: Global,
@@ -70,8 +103,8 @@ pub extern "C" fn mmdb_query(
     db.as_mut().query(alloc, statement, values, cells, rows)
 }
 
-/// Runs a statement with each row of values, `width` cells a row, until one is refused, and tells how many runs were done. Answers done,
-/// or the status of the run that stopped it; misuse where the width is 0.
+/// Runs a statement with each row of values, `width` cells a row, up to the first run that fails, and writes the number of runs that
+/// succeeded. Returns done; the status of the run that failed; or misuse if the width is 0 or the handle is closed.
 #[unsafe(no_mangle)]
 pub extern "C" fn mmdb_run_many(
     alloc: Global,
@@ -90,7 +123,24 @@ pub extern "C" fn mmdb_run_many(
     db.as_mut().run_many(alloc, statement, values, width, runs)
 }
 
-/// Takes a statement away. Answers done, or misuse where there is no such statement or the handle is closed.
+/// Explains the query of a statement with the values of cells, stores the reply, and returns its status. Returns misuse if the statement has
+/// no query or takes other values or the handle is closed, and the number of `Memory` if the values cannot be copied; nothing changes then.
+#[unsafe(no_mangle)]
+pub extern "C" fn mmdb_explain(
+    alloc: Global,
+    db: &mut Handle,
+    statement: usize,
+    values: &[Cell],
+) -> u8
+    ensures { OnOpen (ExplainsCells statement values.now result) (result ≡ misuse) (held db.old) (held db.new) }
+{
+    if !db.is_open() {
+        return MISUSE;
+    }
+    db.as_mut().explain(alloc, statement, values)
+}
+
+/// Deletes a statement. Returns done; or misuse if no statement has the number or the handle is closed.
 #[unsafe(no_mangle)]
 pub extern "C" fn mmdb_finalize(db: &mut Handle, statement: usize) -> u8
     ensures { OnOpen (TakesStatement statement result) (result ≡ misuse) (held db.old) (held db.new) }

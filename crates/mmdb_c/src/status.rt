@@ -1,18 +1,20 @@
-//! The byte that a call answers.
-ghost use Rattle.std.specs.Prelude.{◌≡◌, IfSome};
+//! The byte that a call returns.
+ghost use Rattle.std.specs.Prelude.{◌≡◌, IfNone, IfSome};
 ghost use Rattle.mm_session.specs.Replies.{reply_lent};
 ghost use Rattle.mm_value.specs.Refusals.{refusal_number};
+ghost use Rattle.mmdb_c.specs.Calls.{AreWordsOf, IsNoRefusal, TellsWords};
 ghost use Rattle.mmdb_c.specs.Statuses.{status_of};
 
+use crate::copying::copy_front;
 use mm_query::Reply;
 use mm_session::LastReply;
 use mm_value::Refusal;
 
-/// There was no command.
+/// The line had no command.
 pub(crate) const NOTHING: u8 = 0;
-/// It is done.
+/// The command is done.
 pub(crate) const DONE: u8 = 1;
-/// It is done, and concerned a number of rows.
+/// The command is done, and the reply counts rows.
 pub(crate) const COUNT: u8 = 2;
 /// The reply has rows.
 pub(crate) const ROWS: u8 = 3;
@@ -23,7 +25,7 @@ pub(crate) const FIRST_REFUSAL: u8 = 10;
 /// The call was not made, and changed nothing.
 pub(crate) const MISUSE: u8 = 100;
 
-/// The status that tells what a reply is: the number of a refusal, or one of those above.
+/// Returns the status of a reply: the number of a refusal, or one of those above.
 pub(crate) fn status_of(reply: &LastReply<'_>) -> u8
     ensures { result ≡ status_of (reply_lent reply.now) }
 {
@@ -40,9 +42,10 @@ pub(crate) fn status_of(reply: &LastReply<'_>) -> u8
     }
 }
 
-/// The refusal that has a number, or none.
+/// Returns the refusal with a number, or `None` if there is none.
 pub(crate) fn refusal_of(number: u8) -> Option<Refusal>
-    ensures { IfSome result (λ refusal. refusal_number refusal ≡ number) }
+    ensures some { IfSome result (λ refusal. refusal_number refusal ≡ number) }
+    ensures none { IfNone result (IsNoRefusal number) }
 {
     let refusal = match number {
         10 => Refusal::LineTooLong,
@@ -75,4 +78,25 @@ pub(crate) fn refusal_of(number: u8) -> Option<Refusal>
         _ => return None,
     };
     Some(refusal)
+}
+
+/// Returns the words of a status: the text of the refusal with this number, "misuse", or no bytes for any other number.
+fn words_of(status: u8) -> &'static [u8]
+    ensures { AreWordsOf status result.now }
+{
+    match refusal_of(status) {
+        Some(refusal) => refusal.text().as_bytes(),
+        None if status == MISUSE => b"misuse",
+        None => &[],
+    }
+}
+
+/// Copies the words of a status, as many bytes as fit, and returns their full length: 0 if the number is no refusal and no misuse.
+#[unsafe(no_mangle)]
+pub extern "C" fn mmdb_words(status: u8, bytes: &mut [u8]) -> usize
+    ensures { TellsWords status bytes.old bytes.new result }
+{
+    let words = words_of(status);
+    copy_front(words, bytes);
+    words.len()
 }

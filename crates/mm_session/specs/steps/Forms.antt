@@ -20,6 +20,7 @@ use Rattle.mm_statement.specs.Filling.{Filled}
 use Rattle.mm_statement.specs.Holes.{HolePlaces, hole_places}
 use Rattle.mm_statement.specs.Refilling.{BindsFilledChange, BindsFilledQuery}
 use Rattle.mm_txn.specs.Bound.{IsBoundChange, IsBoundQuery}
+use Rattle.mm_session.specs.Kinds.{kind_of}
 use Rattle.mm_session.specs.declared.bound_form.BoundForm.{BoundForm}
 use Rattle.mm_session.specs.declared.bound_form.BoundForm.TheVariants as form
 use Rattle.mm_session.specs.declared.statement.Statement.{Statement}
@@ -74,13 +75,12 @@ pub record Reruns (holes : HolePlaces) (values : List Value) (command : Command)
 abbrev pub KeepsChange : BoundChange → BoundForm → Type 0
 KeepsChange change bound = bound ≡ form.Change change
 
--- A statement tells where the holes of its line are and whether it changes the catalog, and a bound form that it keeps is good by a
--- catalog.
+-- A statement has the holes of its line and the kind of its command, and a bound form that it keeps is good by a catalog.
 pub record IsReadyStatement (schema : Schema) (statement : Statement) : Type 0 where
   pub command : Command
   pub read : template_of statement.line.items ≡ Ok command
   pub holes : statement.holes ≡ hole_places (holes_of statement.line.items) command
-  pub definition : statement.is_definition ≡ is_definition command
+  pub kind : statement.kind ≡ kind_of command
   pub bound : IfSome statement.bound (IsFormOf schema (holes_of statement.line.items) command)
 
 -- The same, where there is a statement.

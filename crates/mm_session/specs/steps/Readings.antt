@@ -1,21 +1,48 @@
 -- A statement's line, read and filled.
-use Rattle.std.specs.Prelude.{◌≡◌, ◌⊎◌, ℕ, Bool, true, false, List, Result, Ok, Err, IsTrue}
+use Rattle.std.specs.Prelude.{◌≡◌, ◌⊎◌, ℕ, Bool, true, false, List, Some, Result, Ok, Err, IsTrue}
 use Rattle.mm_value.specs.declared.refusal.Refusal.{Refusal}
 use Rattle.mm_value.specs.declared.refusal.Refusal.TheVariants.{Memory}
 use Rattle.mm_value.specs.declared.values.Value.{Value}
 use Rattle.mm_query.specs.declared.command.Command.{Command}
-use Rattle.mm_query.specs.declared.command.Command.TheVariants.{Define}
+use Rattle.mm_query.specs.declared.command.Command.TheVariants.{Define, Explain, Select}
+use Rattle.mm_query.specs.declared.query.Query.{Query}
 use Rattle.mm_lang.specs.Reading.{command_takes_memory}
 use Rattle.mm_lang.specs.Templates.{holes_of, template_of}
 use Rattle.mm_statement.specs.Filling.{IsFilling}
+use Rattle.mm_session.specs.Kinds.{query_of}
+use Rattle.mm_session.specs.declared.statement_kind.StatementKind.{StatementKind}
+use Rattle.mm_session.specs.declared.statement_kind.StatementKind.TheVariants as kind
 
 -- The command changes the catalog.
 abbrev pub is_definition : Command → Bool
 is_definition (Define definition) = true
 is_definition command = false
 
+-- The kind of a change of the catalog.
+abbrev pub is_of_catalog : StatementKind → Bool
+is_of_catalog kind.Table = true
+is_of_catalog kind.DropTable = true
+is_of_catalog kind.Index = true
+is_of_catalog kind.DropIndex = true
+is_of_catalog kind.Watch = true
+is_of_catalog kind.Unwatch = true
+is_of_catalog other = false
+
+-- A SELECT turned into the EXPLAIN of its query. Any other command stays as it is.
+abbrev pub explained : Command → Command
+explained (Select query) = Explain query
+explained command = command
+
 -- A call answers the filling of what the line reads as, or want of memory where that takes memory.
 pub record FillsLine (line : List ℕ) (values : List Value) (result : Result Command Refusal) : Type 0 where
   pub command : Command
   pub read : template_of line ≡ Ok command
   pub fills : IsFilling (holes_of line) values command result ⊎ ((result ≡ Err Memory) × IsTrue (command_takes_memory command))
+
+-- A call returns a filling of the EXPLAIN of the query that a line reads as, or is refused memory.
+pub record FillsExplain (line : List ℕ) (values : List Value) (result : Result Command Refusal) : Type 0 where
+  pub command : Command
+  pub query : Query
+  pub read : template_of line ≡ Ok command
+  pub asks : query_of command ≡ Some query
+  pub fills : IsFilling (holes_of line) values (Explain query) result ⊎ (result ≡ Err Memory)

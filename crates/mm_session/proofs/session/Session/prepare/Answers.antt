@@ -1,7 +1,7 @@
 use Rattle.std.proofs.Common.{map, sym, ap, subst, ◌∙◌}
 use Rattle.mm_lang.specs.Templates.{template_of}
 use Rattle.mm_session.proofs.ReadyStatements.{put_line, put_ready}
-use Rattle.mm_session.specs.Session.{SessionState, TakesNumber}
+use Rattle.mm_session.specs.Session.{AreTaken, SessionState, TakesNumber}
 use Rattle.mm_session.specs.steps.Places.{line_in}
 use Rattle.mm_session.proofs.session.Session.prepare.Goals as goal
 
@@ -24,5 +24,7 @@ returns c =
       lines = subst (λ (s : SessionState). TakesNumber line number s.lines (map line_in new)) c.self.view_is
           (put_line line statement number old new c.in_ok-number.ensures.ok c.in_ok-statement.ensures.0);
       state = ap (λ (s : SessionState). s.state) c.self.view_is;
+      least = subst (λ (s : SessionState). AreTaken number s.lines) c.self.view_is c.in_ok-number.ensures.least;
       reply = ap (λ (s : SessionState). s.reply) c.self.view_is;
+      changes = ap (λ (s : SessionState). s.changes) c.self.view_is;
     }

@@ -12,7 +12,7 @@ returns c =
         command = command;
         read = ap template_of line ∙ c.in_ok-command.ensures.0;
         holes = c.in_ok-holes.ensures ∙ ap (λ h. hole_places h command) (c.in_ok-command.ensures.1 ∙ ap holes_of (sym line));
-        definition = c.is_definition-is_definition.ensures;
+        kind = c.of-kind.ensures;
         bound = tt;
       },
     )

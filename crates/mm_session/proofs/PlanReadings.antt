@@ -1,0 +1,91 @@
+-- Statements whose queries are explained.
+use Rattle.std.proofs.Common.{◌≡◌, ℕ, Bool, false, List, Option, Some, Result, Ok, Err, IsTrue, length, inl, inr, ⊎_elim, refl, sym, ap, subst, ◌∙◌}
+use Rattle.mm_value.specs.declared.refusal.Refusal.{Refusal}
+use Rattle.mm_value.specs.declared.refusal.Refusal.TheVariants.{Memory}
+use Rattle.mm_value.specs.declared.values.Value.{Value}
+use Rattle.mm_query.specs.Machine.{Outcome, refused_outcome, step}
+use Rattle.mm_query.specs.State.{State}
+use Rattle.mm_query.specs.declared.command.Command.{Command}
+use Rattle.mm_query.specs.declared.command.Command.TheVariants.{Explain}
+use Rattle.mm_query.specs.declared.query.Query.{Query}
+use Rattle.mm_lang.specs.Answering.{MayLeadTo}
+use Rattle.mm_lang.specs.Reading.{command_takes_memory}
+use Rattle.mm_lang.specs.Templates.{Prepares, holes_of, template_of}
+use Rattle.mm_statement.specs.Filling.{AnswersFilling, IsFilling}
+use Rattle.mm_session.proofs.Catalogs.{leads_keep}
+use Rattle.mm_session.proofs.KindLemmas.{explained_query, the_query}
+use Rattle.mm_session.proofs.LineReadings.{defines_alike}
+use Rattle.mm_session.specs.Kinds.{query_of}
+use Rattle.mm_session.specs.Statements.{Explains}
+use Rattle.mm_session.specs.steps.Readings.{FillsExplain, explained}
+
+module _ (line : List ℕ) (values : List Value) where
+  -- A refused allocation, whatever was read.
+  pub explain_without : (command : Command) (query : Query) (e : Refusal) → template_of line ≡ Ok command → query_of command ≡ Some query → e ≡ Memory
+      → FillsExplain line values (Err e)
+  explain_without command query e read asks is =
+      record { command = command; query = query; read = read; asks = asks; fills = inr (ap (λ (r : Refusal). Err r) is) }
+
+  -- A line that has a reading is only refused memory.
+  pub explain_unread : (command : Command) (query : Query) (e : Refusal) → template_of line ≡ Ok command → query_of command ≡ Some query
+      → Prepares line (Err e) → FillsExplain line values (Err e)
+  explain_unread command query e read asks prepares =
+      ⊎_elim
+      (λ (h : template_of line ≡ Err e). absurd (let clash : Ok command ≡ Err e = sym read ∙ h in cc))
+      (λ (h : e ≡ Memory). explain_without command query e read asks h)
+      prepares
+
+  -- What is filled is the EXPLAIN of the query.
+  pub explain_filled : (command : Command) (query : Query) (result : Result Command Refusal) → template_of line ≡ Ok command
+      → query_of command ≡ Some query → AnswersFilling (holes_of line) values (explained command) result → FillsExplain line values result
+  explain_filled command query result read asks answers = record {
+    command = command;
+    query = query;
+    read = read;
+    asks = asks;
+    fills = subst (λ (c : Command). AnswersFilling (holes_of line) values c result) (explained_query command query asks) answers;
+  }
+
+  module _ (before : State) (outcome : Outcome) where
+    -- What a filled EXPLAIN leads to is what explaining the statement leads to, ..
+    pub explains_filled : (filled : Command) → FillsExplain line values (Ok filled) → MayLeadTo (Ok filled) before outcome
+        → Explains line values before outcome
+    explains_filled filled fills leads = record {
+      command = fills.command;
+      query = fills.query;
+      read = fills.read;
+      asks = fills.asks;
+      leads =
+          ⊎_elim
+          (λ (f : IsFilling (holes_of line) values (Explain fills.query) (Ok filled)).
+          ⊎_elim
+          (λ (is : outcome ≡ step filled before). inl (Ok filled, f, is))
+          (λ (h : (outcome ≡ refused_outcome Memory before) × IsTrue (command_takes_memory filled)). inr h.0)
+          leads)
+          (λ (h : Ok filled ≡ Err Memory). absurd (cc))
+          fills.fills;
+    }
+
+    -- .. and leaves the catalog as it is.
+    pub explain_keeps : (filled : Command) → FillsExplain line values (Ok filled) → MayLeadTo (Ok filled) before outcome
+        → outcome.state.schema ≡ before.schema
+    explain_keeps filled fills leads =
+        ⊎_elim
+        (λ (f : IsFilling (holes_of line) values (Explain fills.query) (Ok filled)).
+        leads_keep filled before outcome (defines_alike (Explain fills.query) filled f.0.same) leads)
+        (λ (h : Ok filled ≡ Err Memory). absurd (cc))
+        fills.fills
+
+    -- A refusal is one of the filling, or want of memory.
+    pub explains_refused : (e : Refusal) → FillsExplain line values (Err e) → outcome ≡ refused_outcome e before → Explains line values before outcome
+    explains_refused e fills is = record {
+      command = fills.command;
+      query = fills.query;
+      read = fills.read;
+      asks = fills.asks;
+      leads =
+          ⊎_elim
+          (λ (f : IsFilling (holes_of line) values (Explain fills.query) (Err e)). inl (Err e, f, is))
+          (λ (h : Err e ≡ Err Memory). inr (is ∙ ap (λ (r : Refusal). refused_outcome r before) (let same : e ≡ Memory = cc in same)))
+          fills.fills;
+    }

@@ -1,0 +1,34 @@
+//! The kinds of statements as C has them.
+ghost use Rattle.std.specs.Prelude.{◌≡◌};
+ghost use Rattle.mmdb_c.specs.Kinds.{kind_number};
+
+use mm_session::StatementKind;
+
+/// Returns the number of a kind.
+pub(crate) fn kind_number(kind: StatementKind) -> u8
+    ensures { result ≡ kind_number kind }
+{
+    match kind {
+        StatementKind::Nothing => 0,
+        StatementKind::Table => 10,
+        StatementKind::DropTable => 11,
+        StatementKind::Index => 12,
+        StatementKind::DropIndex => 13,
+        StatementKind::Watch => 14,
+        StatementKind::Unwatch => 15,
+        StatementKind::Insert => 20,
+        StatementKind::Update => 21,
+        StatementKind::Delete => 22,
+        StatementKind::Scan => 30,
+        StatementKind::ScanIndex => 31,
+        StatementKind::Select => 32,
+        StatementKind::Show => 33,
+        StatementKind::Explain => 40,
+        StatementKind::Tables => 41,
+        StatementKind::Begin => 50,
+        StatementKind::Commit => 51,
+        StatementKind::Rollback => 52,
+        StatementKind::Savepoint => 53,
+        StatementKind::RollbackTo => 54,
+    }
+}
