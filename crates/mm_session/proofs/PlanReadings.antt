@@ -1,5 +1,5 @@
 -- Statements whose queries are explained.
-use Rattle.std.proofs.Common.{◌≡◌, ℕ, Bool, false, List, Option, Some, Result, Ok, Err, IsTrue, length, inl, inr, ⊎_elim, refl, sym, ap, subst, ◌∙◌}
+use Rattle.std.proofs.Common.{◌≡◌, ℕ, Bool, true, List, Option, Some, Result, Ok, Err, IsTrue, inl, inr, is_some, ⊎_elim, refl, sym, ap, subst, ◌∙◌}
 use Rattle.mm_value.specs.declared.refusal.Refusal.{Refusal}
 use Rattle.mm_value.specs.declared.refusal.Refusal.TheVariants.{Memory}
 use Rattle.mm_value.specs.declared.values.Value.{Value}
@@ -18,6 +18,12 @@ use Rattle.mm_session.proofs.LineReadings.{defines_alike}
 use Rattle.mm_session.specs.Kinds.{query_of}
 use Rattle.mm_session.specs.Statements.{Explains}
 use Rattle.mm_session.specs.steps.Readings.{FillsExplain, explained}
+
+-- What a line reads as has a query if one of its readings has.
+pub asked_query : (line : List ℕ) (one other : Command) → template_of line ≡ Ok one → template_of line ≡ Ok other → is_some (query_of one) ≡ true
+    → (query : Query) × (query_of other ≡ Some query)
+asked_query line one other p q some =
+    let same : one ≡ other = cc in the_query (query_of other) (subst (λ (c : Command). is_some (query_of c) ≡ true) same some)
 
 module _ (line : List ℕ) (values : List Value) where
   -- A refused allocation, whatever was read.

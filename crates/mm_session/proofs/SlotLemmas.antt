@@ -1,13 +1,16 @@
 -- The places of statements, and statements without their bound forms.
-use Rattle.std.proofs.Common.{◌≡◌, ℕ, ◌+◌, suc, ◌<◌, ◌≤◌, true, List, [], ◌∷◌, ◌++◌, Option, Some, None, is_none, is_some, length, map, take, drop, get_or, set}
+use Rattle.std.proofs.Common.{◌≡◌, ℕ, ◌+◌, suc, ◌<◌, ◌≤◌, true, false, List, [], ◌∷◌, ◌++◌, Option, Some, None, is_none, is_some, length, map, take, drop, get_or, set}
 use Rattle.std.proofs.Common.{true≢false, refl, sym, ap, ◌∙◌, arith}
-use Rattle.std.specs.List.{position}
+use Rattle.std.specs.List.{position, position_or_len}
+use Rattle.std.proofs.lemmas.Grind.{common_steps}
+use Rattle.std.proofs.lemmas.List.Sums.{fails_before_first}
 use Rattle.std.specs.Prelude.{slice_get}
 use Rattle.std.proofs.lemmas.List.{drop-set-lt, map_more, length-set, take_all, take_more_set}
 use Rattle.std.proofs.Math.Seq.{drop-cons}
 use Rattle.std.proofs.lemmas.List.Quantifiers.{position-Some}
 use Rattle.std.proofs.lemmas.Option.{slice_get-get_or, slice_get-map, slice_get_past}
 use Rattle.std.specs.Option.{option_map}
+use Rattle.mm_session.specs.Session.{AreTaken}
 use Rattle.mm_session.specs.Statements.{line_at, line_found}
 use Rattle.mm_session.specs.declared.statement.Statement.{Statement}
 use Rattle.mm_session.specs.steps.Places.{line_in}
@@ -66,6 +69,22 @@ pub stands_there : (slots : List (Option Statement)) (number : ℕ) (d : Option 
     → (line : List ℕ) × (line_at number (map line_in slots) ≡ Some line)
 stands_there slots number d within some =
     let there = line_there (get_or slots number d) some in (there.0, line_of_slot slots number d within ∙ there.1)
+
+some_is : {X : Type 0} (o : Option X) → is_none o ≡ false → is_some o ≡ true
+some_is None h = absurd (cc)
+some_is (Some x) h = refl
+
+-- Below the first place without a statement each has one, ..
+pub taken_below : (slots : List (Option Statement)) (number : ℕ) → position is_none slots ≡ Some number → AreTaken number (map line_in slots)
+taken_below slots number is = λ k below.
+    let h = position-Some is_none slots number None is in
+    stands_there slots k None (omega (arith, h.0, below)) (some_is (get_or slots k None) (h.2 k below))
+
+-- .. and all have one where there is no such place.
+pub all_taken : (slots : List (Option Statement)) → position is_none slots ≡ None → AreTaken (length slots) (map line_in slots)
+all_taken slots is = λ k below.
+    let end : length slots ≤ position_or_len is_none slots = grind (arith, common_steps) in
+    stands_there slots k None below (some_is (get_or slots k None) (fails_before_first is_none slots k None (omega (arith, end, below))))
 
 -- Past the end no statement stands.
 pub none_past : (slots : List (Option Statement)) (number : ℕ) → length slots ≤ number → line_at number (map line_in slots) ≡ None

@@ -193,16 +193,16 @@ pub(crate) fn explain_at(
     ensures err { IfErr result (IsUnexplained (line_at number (map line_in statements.now)) (length values.now)) }
     ensures kept { OnErr result ((database.new ≡ database.old) × (rows.new ≡ rows.old)) }
 {
-    let Some(statement) = statement_at(statements, number) else {
+    let Some(found) = statement_at(statements, number) else {
         return Err(Misuse::NoSuchStatement);
     };
-    if !statement.kind.has_plan() {
+    if !found.kind.has_plan() {
         return Err(Misuse::NoPlan);
     }
-    if statement.holes.count() != values.len() {
+    if found.holes.count() != values.len() {
         return Err(Misuse::WrongNumberOfValues);
     }
-    Ok(statement.explain(alloc, database, rows, values))
+    Ok(found.explain(alloc, database, rows, values))
 }
 
 /// Deletes the statement with a number. Fails with `NoSuchStatement` if there is none.

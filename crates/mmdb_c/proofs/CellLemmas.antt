@@ -2,11 +2,17 @@
 use mathlib.Core.Path.{◌≡◌, refl, sym, ap, subst, ◌∙◌}
 use Prim.Native.Nat.{ℕ, zero, suc}
 use Rattle.std.proofs.Common.{arith, get_or}
-use Rattle.std.specs.Prelude.{Result, Ok, Err, IsErrOf, ◌+◌, ◌-◌, ◌<◌, ◌≤◌, drop, List, [], ◌∷◌, ◌++◌, length, take}
+use Rattle.std.specs.Prelude.{Result, Ok, Err, IsErrOf, IsOk, ◌≢◌, ◌↔◌, ◌+◌, ◌-◌, ◌<◌, ◌≤◌, All, drop, List, [], ◌∷◌, ◌++◌, length, take}
+use Rattle.std.specs.List.{Any}
+use Rattle.std.proofs.Math.Nat.{lt_of_not-le}
+use Rattle.std.proofs.lemmas.Grind.{common_steps}
 use Rattle.std.proofs.Common.{length-append, length-drop, set}
 use Rattle.std.proofs.lemmas.List.{drop-drop, drop-set-add, drop-set-lt, take-set-le, take_more, take_more_set}
+use Rattle.mm_value.specs.declared.refusal.Refusal.{Refusal}
+use Rattle.mm_value.specs.declared.refusal.Refusal.TheVariants.{Memory, Syntax}
 use Rattle.mm_value.specs.declared.values.Value.{Value}
-use Rattle.mmdb_c.specs.Cells.{StandsFor, StandFor}
+use Rattle.mm_value.specs.declared.values.Value.TheVariants.{Text}
+use Rattle.mmdb_c.specs.Cells.{NeedsMemory, StandsFor, StandFor}
 use Rattle.mmdb_c.specs.steps.Reading.{WritesCells}
 use Rattle.mmdb_c.specs.declared.cell.Cell.{Cell}
 
@@ -52,6 +58,23 @@ pub stand_next : (cells : List Cell) (i : ℕ) (d : Cell) (values : List Value) 
     → StandFor (take i cells) values → StandsFor (get_or cells i d) value → StandFor (take (i + 1) cells) (values ++ value ∷ [])
 stand_next cells i d values value within s t =
     subst (λ cs. StandFor cs (values ++ value ∷ [])) (sym (take_more cells i d within)) (stand_more (take i cells) values (get_or cells i d) value s t)
+
+-- A list without an element has others alone.
+no_line_feed : (bytes : List ℕ) → (Any (λ b. b ≡ 10) bytes → ⊥) → All (λ b. b ≢ 10) bytes
+no_line_feed bytes none = λ k d within is. none (k, 10, within, get_or_same bytes k d 10 within ∙ is, refl)
+  where
+    get_or_same : (xs : List ℕ) (k d e : ℕ) → k < length xs → get_or xs k e ≡ get_or xs k d
+    get_or_same xs k d e within = grind (arith, common_steps)
+
+-- A cell whose text is refused memory stands for a text of more than 16 bytes.
+pub refused_text : (cell : Cell) (bytes : List ℕ) (refusal : Refusal) → cell.kind ≡ 1 → bytes ≡ take cell.len cell.text → length bytes ≡ cell.len
+    → cell.len ≤ 64 → refusal ≡ Memory → IsErrOf {T = List ℕ} (Err refusal) Syntax ↔ ((length bytes ≤ 64) × Any (λ b. b ≡ 10) bytes)
+    → (length bytes ≤ 16 → All (λ b. b ≢ 10) bytes → IsOk {T = List ℕ} (Err refusal)) → (value : Value) × StandsFor cell value × NeedsMemory value
+refused_text cell bytes refusal kind is size within memory line_feed short =
+    let other : ◌≡◌ {A = Result (List ℕ) Refusal} (Err refusal) (Err Syntax) → ⊥ = λ e. cc in
+    let one_line : All (λ b. b ≢ 10) bytes = no_line_feed bytes (λ found. other (line_feed.1 (omega (arith, size, within), found))) in
+    let long : 16 < length bytes = lt_of_not-le (λ h. (let clash = short h one_line in cc)) in
+    (Text bytes, (kind, sym size, ap (λ n. take n cell.text) size ∙ sym is, record { short = omega (arith, size, within); one_line = one_line }), long)
 
 -- the error of a result
 abbrev error_of : {T E : Type 0} → Result T E → E → E

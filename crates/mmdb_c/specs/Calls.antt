@@ -1,8 +1,8 @@
 -- What the calls do to a session.
-use Rattle.std.specs.Prelude.{◌≡◌, ◌≢◌, ◌⊎◌, ℕ, zero, suc, Bool, ◌+◌, ◌≤◌, ◌<◌, List, [], ◌++◌, Option, Some, None, Result, Ok, Err, codes, drop, length, map, take}
+use Rattle.std.specs.Prelude.{◌≡◌, ◌≢◌, ◌⊎◌, ℕ, zero, suc, Bool, ◌≤◌, ◌<◌, List, [], Option, Some, None, Result, Ok, Err, drop, length, take}
 use Rattle.std.specs.Result.{result_ok}
 use Rattle.std.specs.Option.{option_map_or}
-use Rattle.mm_value.specs.Refusals.{refusal_number, refusal_text}
+use Rattle.mm_value.specs.Refusals.{refusal_number}
 use Rattle.mm_value.specs.declared.refusal.Refusal.{Refusal}
 use Rattle.mm_value.specs.declared.refusal.Refusal.TheVariants.{Memory}
 use Rattle.mm_value.specs.declared.values.Value.{Value}
@@ -17,12 +17,14 @@ use Rattle.mm_session.specs.Kinds.{query_of}
 use Rattle.mm_session.specs.Session.{SessionState, AnswersLine, ExplainsAt, IsPrepared, RunsAt, TakesAway}
 use Rattle.mm_session.specs.Statements.{AreColumnsFound, IsKindOf, LacksPlan, line_at, parameters_at}
 use Rattle.mm_session.specs.declared.statement_kind.StatementKind.{StatementKind}
-use Rattle.mmdb_c.specs.Cells.{StandFor}
-use Rattle.mmdb_c.specs.Columns.{column_cell}
+use Rattle.mmdb_c.specs.Cells.{StandFor, StandUpTo}
+use Rattle.mmdb_c.specs.Columns.{WritesColumns}
+use Rattle.mmdb_c.specs.Copying.{CopiesFront}
 use Rattle.mmdb_c.specs.Kinds.{kind_number}
 use Rattle.mmdb_c.specs.Replies.{ReadsRows, count_of, rows_of}
 use Rattle.mmdb_c.specs.Sessions.{new_session}
 use Rattle.mmdb_c.specs.Statuses.{done, has_rows, first_refusal_number, misuse, status_of, status_of_result}
+use Rattle.mmdb_c.specs.Words.{IsNoRefusal}
 use Rattle.mmdb_c.specs.declared.cell.Cell.{Cell}
 use Rattle.mmdb_c.specs.declared.column.ColumnCell.{ColumnCell}
 
@@ -32,28 +34,6 @@ OnOpen Does Closed None None = Closed
 OnOpen Does Closed None (Some new) = ⊥
 OnOpen Does Closed (Some old) None = ⊥
 OnOpen Does Closed (Some old) (Some new) = Does old new
-
--- Bytes were copied as far as there was room. The bytes behind them stay.
-abbrev pub CopiesFront : List ℕ → List ℕ → List ℕ → Type 0
-CopiesFront bytes old new = new ≡ take (length old) bytes ++ drop (length bytes) old
-
--- No refusal has this number.
-abbrev pub IsNoRefusal : ℕ → Type 0
-IsNoRefusal number = (refusal : Refusal) → refusal_number refusal ≢ number
-
--- These are the words of a status: those of the refusal with this number, "misuse", or none for any other number.
-abbrev pub AreWordsOf : ℕ → List ℕ → Type 0
-AreWordsOf status words =
-    ((refusal : Refusal) × (refusal_number refusal ≡ status) × (words ≡ refusal_text refusal))
-    ⊎ ((status ≡ misuse) × (words ≡ codes "misuse"))
-    ⊎ (IsNoRefusal status × (status ≢ misuse) × (words ≡ []))
-
--- The words of a status were copied as far as there was room, and it is told how long they are.
-pub record TellsWords (status : ℕ) (old new : List ℕ) (count : ℕ) : Type 0 where
-  pub words : List ℕ
-  pub are : AreWordsOf status words
-  pub copied : CopiesFront words old new
-  pub count_is : count ≡ length words
 
 -- A line was answered, and the status tells of the reply.
 pub record Executes (line : List ℕ) (status : ℕ) (old new : SessionState) : Type 0 where
@@ -101,10 +81,6 @@ pub record RunsValues (number : ℕ) (cells : List Cell) (status : ℕ) (old new
 -- A statement cannot be run with cells: none of the number takes as many values, or a cell stands for no value.
 abbrev pub IsMisuseOf : ℕ → List Cell → SessionState → Type 0
 IsMisuseOf number cells old = (parameters_at number old.lines ≢ Some (length cells)) ⊎ ((values : List Value) → StandFor cells values → ⊥)
-
--- A cell, and each before it, stands for a value.
-abbrev pub StandUpTo : ℕ → List Cell → Type 0
-StandUpTo place cells = (place < length cells) × ((values : List Value) × StandFor (take (place + 1) cells) values)
 
 -- Memory was refused to the value of a cell: the cells up to there stand for values, as many as the statement takes.
 abbrev pub RefusesMemory : ℕ → List Cell → ℕ → SessionState → Type 0
@@ -174,11 +150,6 @@ abbrev pub TellsText : List ℕ → List ℕ → ℕ → ℕ → ℕ → Session
 TellsText old_out new_out length_old length_new status old new =
     (new ≡ old) × (((status ≡ done) × (length_new ≡ length (text_of old.reply)) × CopiesFront (text_of old.reply) old_out new_out)
     ⊎ ((status ≡ refusal_number Memory) × (length_new ≡ length_old) × (new_out ≡ old_out)))
-
--- The columns were written as far as there was room, and it is told how many they are.
-pub record WritesColumns (columns : List Column) (old new : List ColumnCell) (count : ℕ) : Type 0 where
-  pub written : new ≡ map column_cell (take (length old) columns) ++ drop (length columns) old
-  pub count_is : count ≡ length columns
 
 -- The columns of the rows that a line replies are told, or it is refused: it has no reading, or memory was refused.
 abbrev pub TellsColumns : List ℕ → List ColumnCell → List ColumnCell → ℕ → ℕ → ℕ → SessionState → SessionState → Type 0

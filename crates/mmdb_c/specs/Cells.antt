@@ -1,5 +1,5 @@
 -- What the cells of C stand for.
-use Rattle.std.specs.Prelude.{◌≡◌, ◌<◌, List, [], ◌∷◌, length, take}
+use Rattle.std.specs.Prelude.{◌≡◌, ℕ, ◌+◌, ◌<◌, List, [], ◌∷◌, length, take}
 use Rattle.mm_value.specs.Text.{IsText}
 use Rattle.mm_value.specs.declared.values.Value.{Value}
 use Rattle.mm_value.specs.declared.values.Value.TheVariants.{Int, Text}
@@ -21,3 +21,7 @@ StandFor [] [] = Unit {0}
 StandFor [] (value ∷ values) = ⊥
 StandFor (cell ∷ cells) [] = ⊥
 StandFor (cell ∷ cells) (value ∷ values) = StandsFor cell value × StandFor cells values
+
+-- A cell, and each before it, stands for a value.
+abbrev pub StandUpTo : ℕ → List Cell → Type 0
+StandUpTo place cells = (place < length cells) × ((values : List Value) × StandFor (take (place + 1) cells) values)

@@ -1,5 +1,5 @@
 -- Columns as C has them.
-use Rattle.std.specs.Prelude.{◌++◌, ◌-◌, ℕ, length, replicate}
+use Rattle.std.specs.Prelude.{◌≡◌, ◌++◌, ◌-◌, ℕ, List, drop, length, map, replicate, take}
 use Rattle.mm_value.specs.declared.col_type.ColType.{ColType}
 use Rattle.mm_value.specs.declared.col_type.ColType.TheVariants.{Int, Text}
 use Rattle.mm_schema.specs.declared.column.Column.{Column}
@@ -17,3 +17,8 @@ column_cell column = record {
   len = length column.name;
   name = column.name ++ replicate (32 - length column.name) 0;
 }
+
+-- The columns were written as far as there was room, and it is told how many they are.
+pub record WritesColumns (columns : List Column) (old new : List ColumnCell) (count : ℕ) : Type 0 where
+  pub written : new ≡ map column_cell (take (length old) columns) ++ drop (length columns) old
+  pub count_is : count ≡ length columns

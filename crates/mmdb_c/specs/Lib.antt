@@ -1,6 +1,7 @@
 pub mod Calls
 pub mod Cells
 pub mod Columns
+pub mod Copying
 pub mod HeaderNumbers
 pub mod Kinds
 pub mod Lent
@@ -9,4 +10,5 @@ pub mod Replies
 pub mod Sessions
 pub mod Statuses
 pub mod Versions
+pub mod Words
 pub mod steps

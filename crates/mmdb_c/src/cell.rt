@@ -1,11 +1,10 @@
 //! Values as C has them.
 ghost use Rattle.std.specs.Prelude.{◌≡◌, IfOk, IsErrOf, List, OnOk, ℕ};
 ghost use Rattle.mm_value.specs.declared.values.Value.{Value};
-ghost use Rattle.mmdb_c.specs.Calls.{StandUpTo};
-ghost use Rattle.mmdb_c.specs.Cells.{NeedsMemory, StandFor, StandsFor};
+ghost use Rattle.mmdb_c.specs.Cells.{NeedsMemory, StandFor, StandUpTo, StandsFor};
 
 use mm_value::{MAX_TEXT_BYTES, Refusal, Text, Value};
-use std::alloc::{AllocError, Global};
+use std::alloc::{AllocFailed, Global};
 use thiserror::Error;
 
 /// The kind of a cell with a number.
@@ -34,12 +33,12 @@ pub(crate) enum CellError {
     Memory,
 }
 
-impl From<AllocError> for CellError {
+impl<T: Drop> From<AllocFailed<T>> for CellError {
     ghost use Rattle.mmdb_c.specs.declared.cell.CellError.TheVariants.{Memory};
 
     ghost from_gives = { λ _ e. e ≡ Memory };
 
-    fn from(_error: AllocError) -> CellError {
+    fn from(_error: AllocFailed<T>) -> CellError {
         CellError::Memory
     }
 }

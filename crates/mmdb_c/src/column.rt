@@ -1,6 +1,6 @@
 //! Columns as C has them.
 ghost use Rattle.std.specs.Prelude.{◌≡◌, ◌++◌, drop, length, map, take};
-ghost use Rattle.mmdb_c.specs.Columns.{column_cell, kind_of};
+ghost use Rattle.mmdb_c.specs.Columns.{WritesColumns, column_cell, kind_of};
 
 use crate::cell::{NUMBER_KIND, TEXT_KIND};
 use mm_schema::Column;
@@ -42,10 +42,18 @@ fn kind_of(col_type: ColType) -> u8
 }
 
 /// Writes as many columns as fit.
-pub(crate) fn set_columns(cells: &mut [ColumnCell], columns: &[&Column])
+fn set_columns(cells: &mut [ColumnCell], columns: &[&Column])
     ensures { cells.new ≡ map (λ column. column_cell column.now) (take (length cells.old) columns.now) ++ drop (length columns.now) cells.old }
 {
     for i in 0..columns.len().min(cells.len()) {
         cells[i] = ColumnCell::of(columns[i]);
     }
+}
+
+/// Writes as many columns as fit, and the number of all of them.
+pub(crate) fn write_columns(columns: &[&Column], cells: &mut [ColumnCell], count: &mut usize)
+    ensures { WritesColumns (map (λ column. column.now) columns.now) cells.old cells.new count.new }
+{
+    set_columns(cells, columns);
+    *count = columns.len();
 }

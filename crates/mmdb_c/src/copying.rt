@@ -1,5 +1,5 @@
 //! Bytes copied into the memory of C.
-ghost use Rattle.mmdb_c.specs.Calls.{CopiesFront};
+ghost use Rattle.mmdb_c.specs.Copying.{CopiesFront};
 
 /// Copies as many bytes as fit.
 pub(crate) fn copy_front(bytes: &[u8], out: &mut [u8])

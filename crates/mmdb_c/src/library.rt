@@ -1,13 +1,14 @@
 //! What a handle leads to.
-ghost use Rattle.std.specs.Prelude.{◌≡◌, List, Some, false, true, ℕ};
-ghost use Rattle.mmdb_c.specs.Calls.{Counts, Executes, ExplainsCells, FindsPlace, HasPlanAt, InTransaction, Prepares, Queries, Reads, RunsCells, RunsRows};
+ghost use Rattle.std.specs.Prelude.{◌≡◌, IfErr, List, OnOk, Some, false, true, ℕ};
+ghost use Rattle.mmdb_c.specs.Calls.{Counts, Executes, ExplainsCells, FindsPlace, HasPlanAt, InTransaction, Prepares, Queries, Reads, RefusesCells, RunsCells, RunsRows};
 ghost use Rattle.mmdb_c.specs.Calls.{TakesStatement, TellsChanges, TellsColumns, TellsKind, TellsParameters, TellsStatementColumns, TellsText};
 ghost use Rattle.mm_session.specs.Statements.{LacksPlan, line_at};
+ghost use Rattle.mmdb_c.specs.Cells.{StandFor};
 ghost use Rattle.mmdb_c.specs.steps.Running.{ExplainsWith, RunsWith};
 ghost use Rattle.mmdb_c.specs.Sessions.{new_session};
 
 use crate::cell::{Cell, CellError, read_cells};
-use crate::column::{ColumnCell, set_columns};
+use crate::column::{ColumnCell, write_columns};
 use crate::copying::copy_front;
 use crate::kind::kind_number;
 use crate::replies::{count_of, read_rows, write_text};
@@ -97,13 +98,9 @@ impl Library {
     pub(crate) fn run(&mut self, alloc: Global, number: usize, cells: &[Cell]) -> u8
         ensures { RunsCells number cells.now result self.old self.new }
     {
-        if self.session.parameters(number) != Some(cells.len()) {
-            return MISUSE;
-        }
-        match read_cells(alloc, cells, &mut self.values) {
+        match read_values(alloc, &self.session, number, cells, &mut self.values) {
             Ok(()) => run_values(alloc, &mut self.session, number, self.values.as_slice()),
-            Err(CellError::NoValue) => MISUSE,
-            Err(CellError::Memory) => Refusal::Memory.number(),
+            Err(status) => status,
         }
     }
 
@@ -158,16 +155,12 @@ impl Library {
     pub(crate) fn explain(&mut self, alloc: Global, number: usize, cells: &[Cell]) -> u8
         ensures { ExplainsCells number cells.now result self.old self.new }
     {
-        if self.session.parameters(number) != Some(cells.len()) {
-            return MISUSE;
-        }
         if !has_plan(&self.session, number) {
             return MISUSE;
         }
-        match read_cells(alloc, cells, &mut self.values) {
+        match read_values(alloc, &self.session, number, cells, &mut self.values) {
             Ok(()) => explain_values(alloc, &mut self.session, number, self.values.as_slice()),
-            Err(CellError::NoValue) => MISUSE,
-            Err(CellError::Memory) => Refusal::Memory.number(),
+            Err(status) => status,
         }
     }
 
@@ -228,8 +221,7 @@ impl Library {
             Ok(columns) => columns,
             Err(refusal) => return refusal.number(),
         };
-        set_columns(cells, columns.as_slice());
-        *count = columns.len();
+        write_columns(columns.as_slice(), cells, count);
         DONE
     }
 
@@ -248,8 +240,7 @@ impl Library {
             Err(ColumnsError::NoSuchStatement) => return MISUSE,
             Err(ColumnsError::Memory) => return Refusal::Memory.number(),
         };
-        set_columns(cells, columns.as_slice());
-        *count = columns.len();
+        write_columns(columns.as_slice(), cells, count);
         DONE
     }
 
@@ -275,6 +266,27 @@ impl Library {
         ensures { TellsChanges result self.old self.new }
     {
         self.session.total_changes()
+    }
+}
+
+/// Reads the values of cells for a statement, if it takes as many. Fails with the status of the call.
+fn read_values(
+    alloc: Global,
+    session: &Session,
+    number: usize,
+    cells: &[Cell],
+    values: &mut Vec<Value>,
+) -> Result<(), u8>
+    ensures ok { OnOk result (StandFor cells.now values.new.items) }
+    ensures err { IfErr result (λ status. RefusesCells number cells.now status session.now) }
+{
+    if session.parameters(number) != Some(cells.len()) {
+        return Err(MISUSE);
+    }
+    match read_cells(alloc, cells, values) {
+        Ok(()) => Ok(()),
+        Err(CellError::NoValue) => Err(MISUSE),
+        Err(CellError::Memory) => Err(Refusal::Memory.number()),
     }
 }
 

@@ -2,8 +2,8 @@
 ghost use Rattle.std.specs.Prelude.{◌≡◌, IfNone, IfSome};
 ghost use Rattle.mm_session.specs.Replies.{reply_lent};
 ghost use Rattle.mm_value.specs.Refusals.{refusal_number};
-ghost use Rattle.mmdb_c.specs.Calls.{AreWordsOf, IsNoRefusal, TellsWords};
 ghost use Rattle.mmdb_c.specs.Statuses.{status_of};
+ghost use Rattle.mmdb_c.specs.Words.{AreWordsOf, IsNoRefusal, TellsWords};
 
 use crate::copying::copy_front;
 use mm_query::Reply;
