@@ -1,15 +1,20 @@
 -- A session: a database, the lines of its prepared statements, the reply to its last call, and a count of changed rows.
-use Rattle.std.specs.Prelude.{◌≡◌, ◌⊎◌, ◌+◌, ◌%◌, ◌^◌, ◌<◌, ◌++◌, ◌∷◌, ℕ, Bool, List, [], Option, Some, None, Result, Ok, Err, length, slice_get, slice_set}
+use Rattle.std.specs.Prelude.{◌≡◌, ◌⊎◌, ◌+◌, ◌%◌, ◌^◌, ◌<◌, ◌++◌, ◌∷◌, if◌then◌else◌, ℕ, Bool, List, [], Option, Some, None, Result, Ok, Err}
+use Rattle.std.specs.Prelude.{length, slice_get, slice_set}
 use Rattle.mm_value.specs.declared.refusal.Refusal.{Refusal}
-use Rattle.mm_value.specs.declared.refusal.Refusal.TheVariants.{Memory}
+use Rattle.mm_value.specs.declared.refusal.Refusal.TheVariants.{Memory, Syntax}
 use Rattle.mm_value.specs.declared.values.Value.{Value}
-use Rattle.mm_query.specs.Machine.{Outcome}
+use Rattle.mm_schema.specs.Name.{is_name}
+use Rattle.mm_schema.specs.Refused.{first_refusal}
+use Rattle.mm_query.specs.Machine.{Outcome, conditions}
 use Rattle.mm_query.specs.State.{State}
 use Rattle.mm_query.specs.declared.command.Command.{Command}
+use Rattle.mm_query.specs.declared.command.Command.TheVariants.{RollbackTo}
 use Rattle.mm_query.specs.declared.reply.Reply.{Reply}
 use Rattle.mm_query.specs.declared.reply.Reply.TheVariants.{Count}
 use Rattle.mm_lang.specs.Answering.{answer}
 use Rattle.mm_lang.specs.Templates.{template_of}
+use Rattle.mm_txn.specs.Releasing.{after_release}
 use Rattle.mm_session.specs.Statements.{ExplainsFound, IsMisused, IsUnexplained, RunsFound, line_at}
 use Rattle.mm_session.specs.declared.misuse.Misuse.{Misuse}
 use Rattle.mm_session.specs.declared.misuse.Misuse.TheVariants.{NoSuchStatement}
@@ -98,3 +103,20 @@ pub record TakesAway (number : ℕ) (old new : SessionState) : Type 0 where
 abbrev pub Finalizes : ℕ → SessionState → SessionState → Result (Unit {0}) Misuse → Type 0
 Finalizes number old new (Ok done) = TakesAway number old new
 Finalizes number old new (Err misuse) = (new ≡ old) × (misuse ≡ NoSuchStatement) × (line_at number old.lines ≡ None)
+
+-- The refusal of the release of a savepoint: bytes that are no name are a syntax error, and else the refusals are those of ROLLBACK TO.
+abbrev pub release_refusal : List ℕ → State → Option Refusal
+release_refusal name state = if is_name name then first_refusal (conditions (RollbackTo name) state) else Some Syntax
+
+-- The latest savepoint of a name was released. Statements, reply and count stay.
+pub record ReleasesAt (name : List ℕ) (old new : SessionState) : Type 0 where
+  pub unrefused : release_refusal name old.state ≡ None
+  pub state : new.state ≡ after_release name old.state
+  pub lines : new.lines ≡ old.lines
+  pub reply : new.reply ≡ old.reply
+  pub changes : new.changes ≡ old.changes
+
+-- The latest savepoint of a name was released, or that is refused, and nothing changes.
+abbrev pub Releases : List ℕ → SessionState → SessionState → Result (Unit {0}) Refusal → Type 0
+Releases name old new (Ok done) = ReleasesAt name old new
+Releases name old new (Err refusal) = (new ≡ old) × (release_refusal name old.state ≡ Some refusal)

@@ -1,4 +1,4 @@
-//! Bound forms: commands that are run with no name looked up.
+//! Bound forms: commands that run without looking up a name.
 ghost use Rattle.std.specs.Prelude.{◌≡◌, Ok, Some, None, IfOk, IfSome};
 ghost use Rattle.mm_lang.specs.Answering.{MayLeadTo};
 ghost use Rattle.mm_query.specs.declared.command.Command.TheVariants.{Change as ChangeCommand, Select as SelectCommand};
@@ -17,16 +17,16 @@ use mm_txn::{ChangeToRun, Db};
 use mm_value::{Few, Refusal, Tuple};
 use std::alloc::{AllocError, Global};
 
-/// The bound form of a command, which has places in place of names.
+/// The bound form of a command, with places instead of names.
 #[derive(Drop)]
 pub(crate) enum BoundForm {
-    /// Of a SELECT.
+    /// The bound form of a SELECT.
     Query(Bound),
-    /// Of a change of rows.
+    /// The bound form of a change of rows.
     Change(BoundChange),
 }
 
-/// Does what a command asks, and tells the reply. A SELECT and a change of rows are bound first, and their bound form is kept.
+/// Executes a command, and returns the reply. Binds a SELECT or a change of rows first, and stores the bound form.
 pub(crate) fn bind_and_run(
     alloc: Global,
     database: &mut Db,
@@ -47,7 +47,7 @@ pub(crate) fn bind_and_run(
     }
 }
 
-/// The rows that a query gives, found by its bound form, which is kept.
+/// Returns the rows of a query. Binds the query first, and stores the bound form.
 fn bind_and_select(
     alloc: Global,
     database: &Db,
@@ -69,7 +69,7 @@ fn bind_and_select(
     }
 }
 
-/// The rows that a bound query gives.
+/// Returns the rows of a bound query.
 pub(crate) fn select(alloc: Global, database: &Db, rows: &mut RowBuffer, bound: &Bound) -> Kept
     requires { (query : AnyQuery) × IsBoundQuery database.now.schema query bound.now }
     ensures { (query : AnyQuery) → IsBoundQuery database.now.schema query bound.now
@@ -82,7 +82,7 @@ pub(crate) fn select(alloc: Global, database: &Db, rows: &mut RowBuffer, bound: 
     }
 }
 
-/// Makes a change of rows by its bound form, which is kept.
+/// Changes rows. Binds the change first, and stores the bound form.
 fn bind_and_change(
     alloc: Global,
     database: &mut Db,
@@ -99,7 +99,7 @@ fn bind_and_change(
     }
 }
 
-/// Makes a bound change, and keeps it. Where memory is refused for copies of the rows of an INSERT, which are given away, none is kept.
+/// Makes a bound change, and stores it. An INSERT gives its rows away, so copies of them are stored, or nothing if an allocation fails.
 fn change_and_keep(
     alloc: Global,
     database: &mut Db,
@@ -151,7 +151,7 @@ fn change_and_keep(
     }
 }
 
-/// The bound form of an INSERT with copies of its rows, or none where memory is refused for them.
+/// Returns the bound form of an INSERT with copies of its rows, or `None` if an allocation fails.
 fn insert_form(alloc: Global, table: usize, tuples: &RowList) -> Option<BoundForm>
     ensures { IfSome result (KeepsChange (BoundInsert table tuples.now)) }
 {
@@ -159,7 +159,7 @@ fn insert_form(alloc: Global, table: usize, tuples: &RowList) -> Option<BoundFor
     Some(BoundForm::Change(BoundChange::Insert { table, tuples }))
 }
 
-/// Copies of the rows of an INSERT.
+/// Returns copies of the rows of an INSERT.
 fn copy_rows(alloc: Global, rows: &RowList) -> Result<RowList, AllocError>
     ensures { IfOk result (λ copies. copies ≡ rows.now) }
 {

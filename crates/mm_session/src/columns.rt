@@ -17,8 +17,8 @@ use mm_txn::Db;
 use mm_value::Refusal;
 use std::alloc::{AllocError, Global};
 
-/// The columns of the rows that a line replies, which may have holes; none where it replies no rows. The refusals are those of
-/// [`mm_lang::prepare`].
+/// Returns the columns of the rows that a line replies; none if the line replies no rows. The line may have holes. Fails as
+/// [`mm_lang::prepare`] does, and with `Memory` if an allocation fails.
 pub(crate) fn columns_of_line<'c>(
     alloc: Global,
     database: &'c Db,
@@ -32,7 +32,7 @@ pub(crate) fn columns_of_line<'c>(
     Ok(columns)
 }
 
-/// The columns of the rows that a command replies; none where it replies no rows. `AllocError` where memory is refused.
+/// Returns the columns of the rows that a command replies; none if the command replies no rows. Fails if an allocation fails.
 fn columns_of_command<'c>(
     alloc: Global,
     database: &'c Db,
@@ -56,7 +56,7 @@ fn columns_of_command<'c>(
     }
 }
 
-/// The columns of a table. `AllocError` where memory is refused.
+/// Returns the columns of a table. Fails if an allocation fails.
 fn table_columns<'c>(
     alloc: Global,
     catalog: &'c Catalog,
@@ -74,7 +74,7 @@ fn table_columns<'c>(
     Ok(found)
 }
 
-/// The columns that the fields of a query name. `AllocError` where memory is refused.
+/// Returns the columns that the fields of a query name. Fails if an allocation fails.
 fn query_columns<'c>(
     alloc: Global,
     catalog: &'c Catalog,
@@ -90,7 +90,7 @@ fn query_columns<'c>(
     Ok(found)
 }
 
-/// The columns at the places of the fields of a query. `AllocError` where memory is refused.
+/// Returns the columns at the places of the fields of a query. Fails if an allocation fails.
 fn bound_columns<'c>(
     alloc: Global,
     catalog: &'c Catalog,
@@ -106,7 +106,7 @@ fn bound_columns<'c>(
     Ok(found)
 }
 
-/// Puts a column that was found behind the others. `AllocError` where memory is refused.
+/// Appends a column that was found. Fails if an allocation fails.
 fn push_found<'c>(
     columns: &mut Vec<&'c Column>,
     found: Option<&'c Column>,
@@ -120,21 +120,21 @@ fn push_found<'c>(
     Ok(())
 }
 
-/// The table of FROM that an alias stands for.
+/// Returns the item of FROM with an alias.
 fn find_item<'f>(from: &'f [FromItem], alias: &NameRef<'_>) -> Option<&'f FromItem>
     ensures { option_copied result ≡ find (λ (item : AnyItem). same_name alias.now item.alias) from.now }
 {
     from.iter().find(|item| *alias == item.alias.as_ref())
 }
 
-/// The column of a name.
+/// Returns the column with a name.
 fn find_column<'c>(columns: &'c [Column], name: &NameRef<'_>) -> Option<&'c Column>
     ensures { option_copied result ≡ column_named name.now columns.now }
 {
     columns.iter().find(|column| *name == column.name.as_ref())
 }
 
-/// The column that a field names.
+/// Returns the column that a field names.
 fn column_of_field<'c>(
     catalog: &'c Catalog,
     from: &[FromItem],
@@ -147,7 +147,7 @@ fn column_of_field<'c>(
     find_column(table.definition.columns.as_slice(), &field.column)
 }
 
-/// The column at a place.
+/// Returns the column at a place.
 fn column_at_place<'c>(
     catalog: &'c Catalog,
     from: &[FromItem],

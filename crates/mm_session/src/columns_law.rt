@@ -16,8 +16,8 @@ ghost use Rattle.mm_query.specs.declared.query.Query.{Query};
 ghost use Rattle.mm_query.specs.declared.reply.Reply.TheVariants.{Rows};
 ghost use Rattle.mm_session.specs.Columns.{columns_of};
 
-/// In every state that commands can lead to from the first, whatever they are, each row that a command replies has a value of the
-/// type of each of the command's columns, in order, and no more values.
+/// In every state that commands can lead to from the first, each row that a command replies has a value of the type of each of the
+/// command's columns, in order, and no more values.
 pub fn rows_have_the_types_of_columns()
     ensures { (commands : List Command) (command : Command) (rows : List (List Value)) → let reached = after_all commands first_state in
         (step command reached).reply ≡ Some (Rows rows)
@@ -30,8 +30,8 @@ pub fn columns_have_the_names_of_fields()
         → map (λ (column : Column). column.name) (columns_of (Select query) state) ≡ map (λ (field : FieldName). field.column) query.fields }
 {}
 
-/// Right after WATCH, where nothing refuses it, SHOW has the columns of the SELECT of the same query. Each command leaves SHOW its
-/// columns, as long as the standing query is there.
+/// Right after a WATCH that nothing refuses, SHOW has the columns of the SELECT of the same query. Each command leaves the columns of
+/// SHOW, as long as the standing query exists.
 pub fn standing_queries_keep_their_columns()
     ensures watch { (name : List ℕ) (query : Query) (state : State) → HasQueries state → first_refusal (watch_conditions name query state) ≡ None
         → columns_of (Show name) (after_watch name query state) ≡ columns_of (Select query) state }

@@ -1,4 +1,4 @@
-//! Where in a line a person may look for what refused it.
+//! The place in a line to show in an error message.
 ghost use Rattle.std.specs.Prelude.{◌≤◌, length};
 
 use mm_lang::{PlacedName, names_in, place_of_limit, place_of_syntax_error};
@@ -6,8 +6,8 @@ use mm_schema::{Catalog, NameRef};
 use mm_value::Refusal;
 use std::alloc::Global;
 
-/// Where in a line a person may look for what a refusal of it is about: the byte at which reading stopped, a literal past its limit, or
-/// a name that nothing of the catalog has; else 0. It is a hint, of which no more is promised than that it lies within the line.
+/// Returns the byte offset in a line to show in the message of a refusal: where reading stopped, a literal past its limit, or a name that
+/// does not exist; else 0. The offset is a hint, and at most the length of the line.
 pub(crate) fn place_of_refusal(
     alloc: Global,
     catalog: &Catalog,
@@ -29,8 +29,8 @@ pub(crate) fn place_of_refusal(
     }
 }
 
-/// The place of the first name of a line that is an alias in it no more than a name in the catalog, or 0. The name that INDEX or WATCH
-/// makes is passed over, and so are those of TABLE that stand behind no REF.
+/// Returns the place of the first name of a line that is neither in the catalog nor an alias of the line, or 0. Skips the name that INDEX
+/// or WATCH makes, and all names of TABLE except those after REF.
 fn place_of_unknown_name(alloc: Global, catalog: &Catalog, line: &[u8]) -> usize
     ensures { result ≤ length line.now }
 {
@@ -48,14 +48,14 @@ fn place_of_unknown_name(alloc: Global, catalog: &Catalog, line: &[u8]) -> usize
     0
 }
 
-/// Whether the name at a place is one that the line makes: it stands directly behind INDEX or WATCH, or in a TABLE but behind no REF.
+/// Returns whether the line makes the name at a place: a name directly after INDEX or WATCH, or any name of a TABLE that is not after REF.
 fn is_made(line: &[u8], place: usize) -> bool {
     let front = line[..place.min(line.len())].trim_ascii();
     let is_of_table = line.trim_ascii_start().starts_with(b"TABLE") && !front.ends_with(b"REF");
     is_of_table || front == b"INDEX".as_slice() || front == b"WATCH".as_slice()
 }
 
-/// Whether a table, a column, an index or a standing query has the name.
+/// Returns whether a table, a column, an index or a standing query has the name.
 fn is_in_catalog(catalog: &Catalog, name: &NameRef<'_>) -> bool {
     let is_of_table = catalog.tables().iter().any(|table| {
         let definition = &table.definition;
@@ -78,7 +78,7 @@ fn is_in_catalog(catalog: &Catalog, name: &NameRef<'_>) -> bool {
             .any(|query| *name == query.name.as_ref())
 }
 
-/// Whether the name stands directly behind another one somewhere in the line, as an alias does behind its table.
+/// Returns whether the name follows another name somewhere in the line, as an alias follows its table.
 fn is_alias(line: &[u8], names: &[PlacedName<'_>], name: &NameRef<'_>) -> bool {
     names.windows(2).any(|pair| match pair {
         [before, after] => *name == after.name && are_neighbours(line, before, after),
@@ -86,7 +86,7 @@ fn is_alias(line: &[u8], names: &[PlacedName<'_>], name: &NameRef<'_>) -> bool {
     })
 }
 
-/// Whether only blanks stand between two names.
+/// Returns whether there are only blanks between two names.
 fn are_neighbours(line: &[u8], before: &PlacedName<'_>, after: &PlacedName<'_>) -> bool {
     let end = before.place.saturating_add(before.name.bytes().len());
     line.get(end..after.place)

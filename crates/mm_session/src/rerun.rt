@@ -1,4 +1,4 @@
-//! Bound forms run again, with new values in the holes of their commands.
+//! Bound forms that run again, with new values in the holes of their commands.
 ghost use Rattle.std.specs.Prelude.{◌≡◌, IfSome, Some, length};
 ghost use Rattle.std.specs.Option.{IfNone};
 ghost use Rattle.mm_query.specs.declared.bind.BoundChange.TheVariants as bound;
@@ -18,8 +18,8 @@ use mm_txn::{ChangeToRun, Db};
 use mm_value::Value;
 use std::alloc::Global;
 
-/// Runs a bound form with new values in the holes of its command, and tells the reply. No name is looked up. `None` where a value does not
-/// fit or memory is refused to it: then nothing was done, and some of the values may stand in the form.
+/// Runs a bound form with new values in the holes of its command, and returns the reply. Looks up no name. Returns `None` if a value does
+/// not fit or an allocation for it fails; the database is then unchanged, and the form may have some of the values.
 pub(crate) fn rerun(
     alloc: Global,
     database: &mut Db,
@@ -43,7 +43,7 @@ pub(crate) fn rerun(
     }
 }
 
-/// The same of a SELECT.
+/// Runs the bound form of a SELECT as [`rerun`] does.
 fn rerun_query(
     alloc: Global,
     database: &Db,
@@ -63,7 +63,7 @@ fn rerun_query(
     }
 }
 
-/// The same of a change of rows.
+/// Runs the bound form of a change of rows as [`rerun`] does.
 fn rerun_change(
     alloc: Global,
     database: &mut Db,
@@ -92,7 +92,7 @@ fn rerun_change(
     }
 }
 
-/// The same of an INSERT, whose rows are copied.
+/// Runs the bound form of an INSERT as [`rerun`] does, with copies of its rows.
 fn rerun_insert(
     alloc: Global,
     database: &mut Db,
@@ -116,7 +116,7 @@ fn rerun_insert(
     }
 }
 
-/// The same of an UPDATE.
+/// Runs the bound form of an UPDATE as [`rerun`] does.
 fn rerun_update(
     alloc: Global,
     database: &mut Db,
@@ -147,7 +147,7 @@ fn rerun_update(
     }
 }
 
-/// The same of a DELETE.
+/// Runs the bound form of a DELETE as [`rerun`] does.
 fn rerun_delete(
     alloc: Global,
     database: &mut Db,

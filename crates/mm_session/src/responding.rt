@@ -1,4 +1,4 @@
-//! What a command does, and the reply that is kept of it.
+//! Commands that are executed, and their replies.
 ghost use Rattle.std.specs.Prelude.{◌≡◌, ◌⊎◌, Ok, Some};
 ghost use Rattle.mm_lang.specs.Answering.{MayLeadTo};
 ghost use Rattle.mm_query.specs.declared.reply.Reply.TheVariants.{Refused, Rows as RowReply};
@@ -13,15 +13,14 @@ use mm_txn::{Answer, Db, Request, Rows};
 use mm_value::Refusal;
 use std::alloc::Global;
 
-/// Whether a command changes the catalog.
+/// Returns whether a command changes the catalog.
 pub(crate) fn is_definition(command: &Command<'_>) -> bool
     ensures { result ≡ is_definition command.now }
 {
     matches!(command, Command::Define(_))
 }
 
-/// Does what a command asks, and tells the reply. Rows of it are copied into the buffer; where memory is refused to them, the reply is
-/// `Memory`.
+/// Executes a command, and returns the reply. Copies its rows into the buffer. If an allocation for the rows fails, the reply is `Memory`.
 pub(crate) fn respond(
     alloc: Global,
     database: &mut Db,
@@ -37,7 +36,7 @@ pub(crate) fn respond(
     }
 }
 
-/// The reply that an answer is, or `Memory` where memory is refused to the copies of its rows.
+/// Returns the reply of an answer, or `Memory` if an allocation for its rows fails.
 fn keep_answer(alloc: Global, answer: Answer<'_>, rows: &mut RowBuffer) -> Kept
     ensures { (reply_kept rows.new result ≡ Some (reply_of answer.entry)) ⊎ (reply_kept rows.new result ≡ Some (Refused Memory)) }
 {
@@ -49,7 +48,7 @@ fn keep_answer(alloc: Global, answer: Answer<'_>, rows: &mut RowBuffer) -> Kept
     }
 }
 
-/// Copies rows into the buffer, in place of those that stand there. The reply is `Memory` where memory is refused.
+/// Replaces the rows of the buffer. The reply is `Memory` if an allocation fails.
 fn keep_rows(alloc: Global, found: &Rows<'_>, rows: &mut RowBuffer) -> Kept
     ensures { (reply_kept rows.new result ≡ Some (RowReply found.now)) ⊎ (reply_kept rows.new result ≡ Some (Refused Memory)) }
 {

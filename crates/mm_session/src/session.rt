@@ -13,7 +13,7 @@ use crate::statement::Statement;
 use crate::statement_kind::StatementKind;
 use mm_lang::parse;
 use mm_query::{Command, Reply, RowBuffer};
-use mm_schema::Column;
+use mm_schema::{Column, Name};
 use mm_txn::Db;
 use mm_value::{Refusal, Value};
 use std::alloc::Global;
@@ -43,7 +43,12 @@ impl Model for Session {
 
     ghost Value = { SessionState };
 
-    ghost view = { λ s. record { state = s.database; lines = map line_in s.statements.items; reply = reply_kept s.rows s.reply; changes = s.changes } };
+    ghost view = { λ s. record {
+        state = s.database;
+        lines = map line_in s.statements.items;
+        reply = reply_kept s.rows s.reply;
+        changes = s.changes;
+    } };
 
     ghost invariant = { λ s. All (IsReady s.database.schema) s.statements.items };
 }
@@ -55,7 +60,8 @@ impl Session {
     ghost use Rattle.mm_session.specs.Columns.{AreColumnsOf};
     ghost use Rattle.mm_session.specs.Replies.{reply_lent};
     ghost use Rattle.mm_value.specs.declared.refusal.Refusal.TheVariants.{Memory};
-    ghost use Rattle.mm_session.specs.Session.{AnswersLine, ExplainsStatement, Finalizes, IsPrepared, RunsStatement, changes_after, outcome_in};
+    ghost use Rattle.mm_session.specs.Session.{AnswersLine, ExplainsStatement, Finalizes, IsPrepared, Releases, RunsStatement};
+    ghost use Rattle.mm_session.specs.Session.{changes_after, outcome_in};
     ghost use Rattle.mm_session.specs.Statements.{AreColumnsFound, IsKindOf, LacksColumns, line_at, parameters_at};
 
     /// Returns a session with an empty database, no statements and no reply. Allocates nothing.
@@ -126,7 +132,8 @@ impl Session {
         alloc: Global,
         statement: usize,
     ) -> Result<Vec<&Column>, ColumnsError>
-        ensures ok { IfOk result (λ found. AreColumnsFound (line_at statement self.now.lines) self.now.state (map (λ column. column.now) found.items)) }
+        ensures ok { IfOk result (λ found. AreColumnsFound (line_at statement self.now.lines) self.now.state
+            (map (λ column. column.now) found.items)) }
         ensures err { IfErr result (LacksColumns (line_at statement self.now.lines)) }
     {
         columns_at(alloc, &self.database, &self.statements, statement)
@@ -149,9 +156,9 @@ impl Session {
         Ok(())
     }
 
-    /// Runs EXPLAIN with the query of a SELECT or an EXPLAIN and a value for each hole, and stores the reply. Fails with `NoSuchStatement` if
-    /// no statement has the number, with `NoPlan` if the statement is of another kind, and with `WrongNumberOfValues` if it takes more or
-    /// fewer values; nothing changes then. Reads the statement's line again.
+    /// Runs EXPLAIN with the query of a SELECT or an EXPLAIN and a value for each hole, and stores the reply. Fails with `NoSuchStatement`
+    /// if no statement has the number, with `NoPlan` if the statement is of another kind, and with `WrongNumberOfValues` if it takes more
+    /// or fewer values; nothing changes then. Reads the statement's line again.
     pub fn explain(
         &mut self,
         alloc: Global,
@@ -192,8 +199,8 @@ impl Session {
         self.changes
     }
 
-    /// Returns the columns of the rows that a line replies, in the catalog as it is now; none if the line replies no rows. The line may have
-    /// holes. Fails as [`mm_lang::prepare`] does, and with `Memory` if an allocation fails.
+    /// Returns the columns of the rows that a line replies, in the catalog as it is now; none if the line replies no rows. The line may
+    /// have holes. Fails as [`mm_lang::prepare`] does, and with `Memory` if an allocation fails.
     pub fn columns(&self, alloc: Global, line: &[u8]) -> Result<Vec<&Column>, Refusal>
         ensures ok { IfOk result (λ found. AreColumnsOf line.now self.now.state (map (λ column. column.now) found.items)) }
         ensures err { IfErr result (λ refusal. (template_of line.now ≡ Err refusal) ⊎ (refusal ≡ Memory)) }
@@ -201,12 +208,22 @@ impl Session {
         columns_of_line(alloc, &self.database, line)
     }
 
-    /// Returns the byte offset in a line to show in the message of a refusal: where reading stopped, a literal past its limit, or a name that
-    /// does not exist; else 0. The offset is a hint, and at most the length of the line.
+    /// Returns the byte offset in a line to show in the message of a refusal: where reading stopped, a literal past its limit, or a name
+    /// that does not exist; else 0. The offset is a hint, and at most the length of the line.
     pub fn place_of_refusal(&self, alloc: Global, line: &[u8], refusal: Refusal) -> usize
         ensures { result ≤ length line.now }
     {
         place_of_refusal(alloc, self.database.catalog(), line, refusal)
+    }
+
+    /// Releases the latest savepoint with a name, and all savepoints set after it. All rows stay as they are. Fails with `Syntax` if the
+    /// bytes are not a name, with `NoTransaction` if no transaction is open, and with `NoSuchSavepoint` if the transaction has no savepoint
+    /// with the name; nothing changes then. Allocates nothing. The reply to the last call stays.
+    pub fn release(&mut self, name: &[u8]) -> Result<(), Refusal>
+        ensures { Releases name.now self.old self.new result }
+    {
+        let name = Name::new(name).ok_or(Refusal::Syntax)?;
+        self.database.release(&name)
     }
 
     /// Returns whether a transaction is open.

@@ -1,10 +1,11 @@
 //! Prepared statements by their numbers.
 ghost use Rattle.std.specs.List.{All, position};
 ghost use Rattle.std.specs.Option.{IfNone};
-ghost use Rattle.std.specs.Prelude.{◌≡◌, ◌<◌, IfErr, IfOk, IfSome, List, None, OnErr, OnOk, Some, false, is_none, length, map, slice_set, ℕ};
+ghost use Rattle.std.specs.Prelude.{◌≡◌, IfErr, IfOk, IfSome, List, None, OnErr, OnOk, Some, false, is_none, length, map, slice_set, ℕ};
 ghost use Rattle.mm_schema.specs.Schema.{Schema};
 ghost use Rattle.mm_session.specs.Session.{AreTaken};
-ghost use Rattle.mm_session.specs.Statements.{AreColumnsFound, ExplainsFound, IsKindOf, IsMisused, IsUnexplained, LacksColumns, RunsFound, line_at, parameters_at};
+ghost use Rattle.mm_session.specs.Statements.{AreColumnsFound, ExplainsFound, IsKindOf, IsMisused, IsUnexplained, LacksColumns, RunsFound};
+ghost use Rattle.mm_session.specs.Statements.{line_at, parameters_at};
 ghost use Rattle.mm_session.specs.declared.misuse.Misuse.TheVariants.{NoSuchStatement};
 ghost use Rattle.mm_session.specs.steps.Forms.{IsReady, IsReadyStatement};
 ghost use Rattle.mm_session.specs.steps.Kept.{outcome_kept};

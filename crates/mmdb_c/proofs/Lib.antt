@@ -3,5 +3,6 @@ mod CellLemmas
 mod ColumnLemmas
 mod GlobalSteps
 mod HandleSteps
+mod Plans
 mod RowsRead
 mod Running

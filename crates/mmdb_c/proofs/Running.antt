@@ -8,7 +8,7 @@ use Rattle.mm_value.specs.declared.values.Value.{Value}
 use Rattle.mm_session.specs.Session.{SessionState}
 use Rattle.mm_session.specs.Statements.{IsMisused, line_at, parameters_at}
 use Rattle.mm_session.specs.declared.misuse.Misuse.{Misuse}
-use Rattle.mm_session.specs.declared.misuse.Misuse.TheVariants.{NoSuchStatement, WrongNumberOfValues}
+use Rattle.mm_session.specs.declared.misuse.Misuse.TheVariants.{NoPlan, NoSuchStatement, WrongNumberOfValues}
 use Rattle.mmdb_c.specs.Calls.{RunsCells, RunsMany, RunsRows}
 use Rattle.mmdb_c.specs.Statuses.{done, first_refusal_number}
 use Rattle.mmdb_c.specs.Cells.{StandFor}
@@ -17,7 +17,7 @@ use Rattle.mmdb_c.specs.steps.Running.{RunsWith}
 use Rattle.mmdb_c.proofs.CellLemmas.{as_many_values}
 
 -- of no line no number of values is told
-none_is_told : (count_of : List ℕ → ℕ) (found : Option (List ℕ)) (count : ℕ) → found ≡ None → option_map count_of found ≢ Some count
+pub none_is_told : (count_of : List ℕ → ℕ) (found : Option (List ℕ)) (count : ℕ) → found ≡ None → option_map count_of found ≢ Some count
 none_is_told count_of found count is e = let told : option_map count_of found ≡ None = ap (option_map count_of) is in cc
 
 -- of a line its own number of values is told
@@ -28,10 +28,11 @@ own_is_told count_of found line count is differs e =
     let same : count ≡ count_of line = cc in differs same
 
 -- a statement that is misused with some values takes another number of values
-takes_others : (number count : ℕ) (lines : List (Option (List ℕ))) (fault : Misuse) → IsMisused (line_at number lines) count fault
+pub takes_others : (number count : ℕ) (lines : List (Option (List ℕ))) (fault : Misuse) → IsMisused (line_at number lines) count fault
     → parameters_at number lines ≢ Some count
 takes_others number count lines NoSuchStatement none = none_is_told _ (line_at number lines) count none
 takes_others number count lines WrongNumberOfValues wrong = own_is_told _ (line_at number lines) wrong.0 count wrong.1 wrong.2
+takes_others number count lines NoPlan never = absurd never
 
 -- what was run with the values that cells stand for was run with the cells
 pub runs_cells : (number : ℕ) (cells : List Cell) (values : List Value) (status : ℕ) (old new : SessionState) → StandFor cells values

@@ -14,7 +14,7 @@ use Rattle.mm_lang.specs.Templates.{template_of}
 use Rattle.mm_schema.specs.declared.column.Column.{Column}
 use Rattle.mm_session.specs.Columns.{AreColumnsOf}
 use Rattle.mm_session.specs.Kinds.{query_of}
-use Rattle.mm_session.specs.Session.{SessionState, AnswersLine, ExplainsAt, IsPrepared, RunsAt, TakesAway}
+use Rattle.mm_session.specs.Session.{SessionState, AnswersLine, ExplainsAt, IsPrepared, Releases, RunsAt, TakesAway}
 use Rattle.mm_session.specs.Statements.{AreColumnsFound, IsKindOf, LacksPlan, line_at, parameters_at}
 use Rattle.mm_session.specs.declared.statement_kind.StatementKind.{StatementKind}
 use Rattle.mmdb_c.specs.Cells.{StandFor, StandUpTo}
@@ -125,6 +125,12 @@ RefusesPlan number cells status old =
 abbrev pub ExplainsCells : ℕ → List Cell → ℕ → SessionState → SessionState → Type 0
 ExplainsCells number cells status old new =
     ExplainsValues number cells status old new ⊎ ((new ≡ old) × RefusesPlan number cells status old)
+
+-- The latest savepoint of a name was released, or that is refused.
+pub record ReleasesName (name : List ℕ) (status : ℕ) (old new : SessionState) : Type 0 where
+  pub result : Result (Unit {0}) Refusal
+  pub releases : Releases name old new result
+  pub status_is : status ≡ status_of_result result
 
 -- A statement was taken away. Where there is none of the number, that is misuse.
 abbrev pub TakesStatement : ℕ → ℕ → SessionState → SessionState → Type 0

@@ -44,8 +44,8 @@ impl<T: Drop> From<AllocFailed<T>> for CellError {
 }
 
 impl Cell {
-    /// Returns the value of the cell. Fails with `NoValue` if the kind is neither of the two, or the text is too long or has a line feed, and
-    /// with `Memory` only for a text of more than 16 bytes.
+    /// Returns the value of the cell. Fails with `NoValue` if the kind is neither of the two, or the text is too long or has a line feed,
+    /// and with `Memory` only for a text of more than 16 bytes.
     fn value(&self, alloc: Global) -> Result<Value, CellError>
         ensures ok { IfOk result (λ value. StandsFor self.now value) }
         ensures none { IsErrOf result CellError.NoValue → (value : Value) → StandsFor self.now value → ⊥ }

@@ -1,7 +1,8 @@
 //! What a handle leads to.
 ghost use Rattle.std.specs.Prelude.{◌≡◌, IfErr, List, OnOk, Some, false, true, ℕ};
-ghost use Rattle.mmdb_c.specs.Calls.{Counts, Executes, ExplainsCells, FindsPlace, HasPlanAt, InTransaction, Prepares, Queries, Reads, RefusesCells, RunsCells, RunsRows};
-ghost use Rattle.mmdb_c.specs.Calls.{TakesStatement, TellsChanges, TellsColumns, TellsKind, TellsParameters, TellsStatementColumns, TellsText};
+ghost use Rattle.mmdb_c.specs.Calls.{Counts, Executes, ExplainsCells, FindsPlace, HasPlanAt, InTransaction, Prepares, Queries, Reads};
+ghost use Rattle.mmdb_c.specs.Calls.{RefusesCells, ReleasesName, RunsCells, RunsRows, TakesStatement, TellsChanges, TellsColumns};
+ghost use Rattle.mmdb_c.specs.Calls.{TellsKind, TellsParameters, TellsStatementColumns, TellsText};
 ghost use Rattle.mm_session.specs.Statements.{LacksPlan, line_at};
 ghost use Rattle.mmdb_c.specs.Cells.{StandFor};
 ghost use Rattle.mmdb_c.specs.steps.Running.{ExplainsWith, RunsWith};
@@ -259,6 +260,16 @@ impl Library {
         ensures { InTransaction result self.old self.new }
     {
         self.session.is_in_transaction()
+    }
+
+    /// Releases the latest savepoint with a name, and returns a status.
+    pub(crate) fn release(&mut self, name: &[u8]) -> u8
+        ensures { ReleasesName name.now result self.old self.new }
+    {
+        match self.session.release(name) {
+            Ok(()) => DONE,
+            Err(refusal) => refusal.number(),
+        }
     }
 
     /// Returns the number of rows that all calls changed.

@@ -1,7 +1,7 @@
 //! Lines from C.
 ghost use Rattle.std.specs.Prelude.{◌≡◌, false};
 ghost use Rattle.mmdb_c.specs.Lent.{held};
-ghost use Rattle.mmdb_c.specs.Calls.{Executes, FindsPlace, InTransaction, OnOpen, TellsColumns};
+ghost use Rattle.mmdb_c.specs.Calls.{Executes, FindsPlace, InTransaction, OnOpen, ReleasesName, TellsColumns};
 ghost use Rattle.mmdb_c.specs.Statuses.{misuse};
 
 use crate::column::ColumnCell;
@@ -20,8 +20,8 @@ pub extern "C" fn mmdb_execute(alloc: Global, db: &mut Handle, line: &[u8]) -> u
     db.as_mut().execute(alloc, line)
 }
 
-/// Writes as many columns of the rows that a line replies as fit, and the number of all of them: 0 if the line replies no rows. The line may
-/// have holes. Returns done; the number of a refusal; or misuse if the handle is closed. If it fails, nothing is written.
+/// Writes as many columns of the rows that a line replies as fit, and the number of all of them: 0 if the line replies no rows. The line
+/// may have holes. Returns done; the number of a refusal; or misuse if the handle is closed. If it fails, nothing is written.
 #[unsafe(no_mangle)]
 pub extern "C" fn mmdb_columns(
     alloc: Global,
@@ -57,4 +57,16 @@ pub extern "C" fn mmdb_in_transaction(db: &mut Handle) -> bool
     ensures { OnOpen (InTransaction result) (result ≡ false) (held db.old) (held db.new) }
 {
     db.is_open() && db.as_mut().is_in_transaction()
+}
+
+/// Releases the latest savepoint with a name, and all savepoints set after it. Returns done; the number of a refusal; or misuse if the
+/// handle is closed. If it fails, nothing changes.
+#[unsafe(no_mangle)]
+pub extern "C" fn mmdb_release(db: &mut Handle, name: &[u8]) -> u8
+    ensures { OnOpen (ReleasesName name.now result) (result ≡ misuse) (held db.old) (held db.new) }
+{
+    if !db.is_open() {
+        return MISUSE;
+    }
+    db.as_mut().release(name)
 }

@@ -31,8 +31,8 @@ pub extern "C" fn mmdb_read(db: &mut Handle, first_row: usize, cells: &mut [Cell
     db.as_mut().read(first_row, cells)
 }
 
-/// Copies as many bytes of the reply's text as fit, and writes its full length. Returns done; the number of `Memory`; or misuse if the handle
-/// is closed. If it fails, nothing is written.
+/// Copies as many bytes of the reply's text as fit, and writes its full length. Returns done; the number of `Memory`; or misuse if the
+/// handle is closed. If it fails, nothing is written.
 #[unsafe(no_mangle)]
 pub extern "C" fn mmdb_text(
     alloc: Global,

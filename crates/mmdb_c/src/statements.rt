@@ -44,7 +44,8 @@ pub extern "C" fn mmdb_parameters(db: &mut Handle, statement: usize, count: &mut
 /// written.
 #[unsafe(no_mangle)]
 pub extern "C" fn mmdb_statement_kind(db: &mut Handle, statement: usize, kind: &mut u8) -> u8
-    ensures { OnOpen (TellsKind statement kind.old kind.new result) ((result ≡ misuse) × (kind.new ≡ kind.old)) (held db.old) (held db.new) }
+    ensures { OnOpen (TellsKind statement kind.old kind.new result) ((result ≡ misuse) × (kind.new ≡ kind.old))
+        (held db.old) (held db.new) }
 {
     if !db.is_open() {
         return MISUSE;
@@ -52,8 +53,8 @@ pub extern "C" fn mmdb_statement_kind(db: &mut Handle, statement: usize, kind: &
     db.as_mut().kind(statement, kind)
 }
 
-/// Writes as many columns of the rows that a statement replies as fit, and the number of all of them: 0 if it replies no rows. Returns done;
-/// the number of `Memory`; or misuse if no statement has the number or the handle is closed. If it fails, nothing is written.
+/// Writes as many columns of the rows that a statement replies as fit, and the number of all of them: 0 if it replies no rows. Returns
+/// done; the number of `Memory`; or misuse if no statement has the number or the handle is closed. If it fails, nothing is written.
 #[unsafe(no_mangle)]
 pub extern "C" fn mmdb_statement_columns(
     alloc: Global,
@@ -123,8 +124,8 @@ pub extern "C" fn mmdb_run_many(
     db.as_mut().run_many(alloc, statement, values, width, runs)
 }
 
-/// Explains the query of a statement with the values of cells, stores the reply, and returns its status. Returns misuse if the statement has
-/// no query or takes other values or the handle is closed, and the number of `Memory` if the values cannot be copied; nothing changes then.
+/// Explains the query of a statement with the values of cells, stores the reply, and returns its status. Returns misuse if the statement
+/// has no query or takes other values or the handle is closed, and the number of `Memory` if the values cannot be copied; nothing changes then.
 #[unsafe(no_mangle)]
 pub extern "C" fn mmdb_explain(
     alloc: Global,

@@ -1,9 +1,6 @@
-use Rattle.std.proofs.Common.{ℕ, List, Option, is_none, inr, length, map, refl, sym, ap, subst, ◌∙◌}
+use Rattle.std.proofs.Common.{is_none, inr, refl, sym, ap, ◌∙◌, arith}
 use Rattle.std.specs.List.{position}
 use Rattle.mm_session.proofs.SlotLemmas.{all_taken, free_place, taken_below}
-use Rattle.mm_session.specs.Session.{AreTaken}
-use Rattle.mm_session.specs.declared.statement.Statement.{Statement}
-use Rattle.mm_session.specs.steps.Places.{line_in}
 use Rattle.mm_session.proofs.slots.add.Goals as goal
 
 pub returns-in-Some-clause-ok : goal.returns-in-Some-clause-ok
@@ -20,6 +17,6 @@ returns-in-Some-clause-least c =
     (sym (ap (position is_none) c.deref.ensures.value) ∙ (sym c.first_free.ensures ∙ c.in-Some.is))
 
 pub returns-in_ok-push-in-None-clause-least : goal.returns-in_ok-push-in-None-clause-least
-returns-in_ok-push-in-None-clause-least c =
-    subst (λ (number : ℕ). AreTaken number (map line_in c.args.statements.now.items)) (sym c.len-number.ensures)
-    (all_taken c.args.statements.now.items (sym (ap (position is_none) c.deref.ensures.value) ∙ (sym c.first_free.ensures ∙ c.in-None.is)))
+returns-in_ok-push-in-None-clause-least c = λ k below.
+    all_taken c.args.statements.now.items (sym (ap (position is_none) c.deref.ensures.value) ∙ (sym c.first_free.ensures ∙ c.in-None.is)) k
+    (omega (arith, below, c.len-number.ensures, c.args.statements.now.ok.0))

@@ -10,7 +10,8 @@ returns c =
     let inside = c.self.inside in
     let reply = reply_kept inside.rows inside.reply in
     let new = c.remove.new.statements.items in
-    subst (λ (old : SessionState). Finalizes c.args.statement old (record { state = inside.database; lines = map line_in new; reply = reply; changes = inside.changes }) c.remove.result)
+    let after : SessionState = record { state = inside.database; lines = map line_in new; reply = reply; changes = inside.changes } in
+    subst (λ (old : SessionState). Finalizes c.args.statement old after c.remove.result)
     c.self.view_is
     (finalized c.args.statement inside.database reply inside.changes inside.statements.items new c.remove.result c.remove.ensures.ok c.remove.ensures.stands
     c.remove.ensures.err c.remove.ensures.kept)
