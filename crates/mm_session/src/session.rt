@@ -44,10 +44,10 @@ impl Model for Session {
     ghost Value = { SessionState };
 
     ghost view = { λ s. record {
-        state = s.database;
-        lines = map line_in s.statements.items;
-        reply = reply_kept s.rows s.reply;
-        changes = s.changes;
+      state = s.database;
+      lines = map line_in s.statements.items;
+      reply = reply_kept s.rows s.reply;
+      changes = s.changes;
     } };
 
     ghost invariant = { λ s. All (IsReady s.database.schema) s.statements.items };

@@ -76,6 +76,7 @@ explains_cells number cells values status old new stand (inr fault) = inr (fault
   where
     others : parameters_at number old.lines ≢ Some (length values) → IsMisuseOf number cells old ⊎ LacksPlanAt number old
     others differs = inl (inl (subst (λ n. parameters_at number old.lines ≢ Some n) (as_many_values cells values stand) differs))
+
     by : (misused : Misuse) → IsUnexplained (line_at number old.lines) (length values) misused → IsMisuseOf number cells old ⊎ LacksPlanAt number old
     by NoPlan lacks = inr lacks
     by NoSuchStatement none = others (takes_others number (length values) old.lines NoSuchStatement none)

@@ -69,7 +69,8 @@ pub extern "C" fn mmdb_statement_columns(
     if !db.is_open() {
         return MISUSE;
     }
-    db.as_mut().statement_columns(alloc, statement, columns, count)
+    db.as_mut()
+        .statement_columns(alloc, statement, columns, count)
 }
 
 /// Runs a statement with the values of cells, stores the reply, and returns its status. Returns misuse if the statement takes other values
