@@ -3,8 +3,8 @@
 
     tests/documents.py [FILE ...]
 
-It reads README.md, CONTRIBUTING.md, CHANGELOG.md, docs/*.md, crates/*/README.md, tests/README.md and clients/*/*.md, or only the files that
-are given.
+It reads README.md, CONTRIBUTING.md, CHANGELOG.md, docs/*.md, crates/*/README.md, tests/README.md, clients/*/*.md and replica/*.md, or only
+the files that are given.
 
 A relative link leads to a file or a folder that is there, and its anchor to a heading of that file, by GitHub's rule: in lower case,
 punctuation left out, a hyphen for each space, and a number behind a heading that stands twice.
@@ -25,9 +25,9 @@ A code word is what stands between backticks on a line, outside fenced blocks. B
 - Anything else: each identifier in it is a whole word of the code, or of a line of the command language in the same document, as the
   name of a table of an example is. A placeholder, NUMBER, NAME, CRATE or FILE, may stand for one.
 
-The code is src/, specs/, proofs/, edits/ and must-fail/ of the crates without their comments, bench/, clients/, include/, tests/ and tools/, the
-programs of examples/, and the names of these files and folders, but for documents and for the programs that look at the repository alone
-(NO_CODE).
+The code is src/, specs/, proofs/, edits/ and must-fail/ of the crates without their comments, bench/, clients/, include/, replica/, tests/ and
+tools/, the programs of examples/, and the names of these files and folders, but for documents and for the programs that look at the
+repository alone (NO_CODE).
 
 Where code words stand beside a path, as in "`Order.antt`: `value_cmp`, `row_cmp`" or "`value_cmp` in `Order.antt`", each of them
 stands in a file of that path. Where the heading above names a crate and the path none, it is one of the heading's or the line's crates.
@@ -44,10 +44,11 @@ import sys
 
 TOP = os.path.dirname(os.path.dirname(os.path.abspath(__file__)))
 DOCUMENTS = ["README.md", "CONTRIBUTING.md", "CHANGELOG.md", "docs/*.md", "crates/*/README.md", "tests/README.md", "clients/*/*.md"]
-CODE = re.compile(r"crates/[^/]+/(src|specs|proofs|edits|must-fail)/|bench/|clients/|examples/.*\.(c|py|rs)$|include/|tests/|tools/")
+DOCUMENTS += ["replica/*.md"]
+CODE = re.compile(r"crates/[^/]+/(src|specs|proofs|edits|must-fail)/|(bench|clients|include|replica|tests|tools)/|examples/.*\.(c|py|rs)$")
 NO_CODE = {"tests/documents.py", "tests/definitions.py", "tests/form.py"}
 COMMENTS = {".rt": r"//.*", ".rs": r"//.*", ".antt": r"--.*"}
-FOLDERS = ("bench/", "clients/", "crates/", "docs/", "examples/", "include/", "tests/", "tools/")
+FOLDERS = ("bench/", "clients/", "crates/", "docs/", "examples/", "include/", "replica/", "tests/", "tools/")
 SHELL = {"apt-get", "bash", "cargo", "cat", "cc", "cd", "curl", "git", "make", "python3", "rt", "rustc", "sh", "ulimit", "valgrind"}
 ENDINGS = (".antt", ".c", ".edit", ".in", ".md", ".mmdb", ".out", ".py", ".rs", ".rt", ".toml", ".txt", ".yml")
 PLACEHOLDERS = {"NUMBER", "NAME", "CRATE", "FILE"}
