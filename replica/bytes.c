@@ -49,9 +49,3 @@ void bytes_free(struct bytes *bytes) {
   free(bytes->at);
   *bytes = (struct bytes){NULL, 0, 0};
 }
-
-uint64_t sum_on(uint64_t sum, const void *from, size_t length) {
-  const uint8_t *at = from;
-  for (size_t i = 0; i < length; i++) sum = (sum ^ at[i]) * 0x100000001b3u;
-  return sum;
-}

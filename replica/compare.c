@@ -1,36 +1,57 @@
+/* Sums: each replica publishes its own at agreed numbers, and acts on those of the others. */
 #include "replica.h"
+#include <inttypes.h>
 #include <stdio.h>
 #include <string.h>
 
-static void tell_difference(void *closure, const struct sum *own, const struct sum *other) {
-  struct replica *replica = closure;
-  char subject[MOST_SUBJECT_BYTES], text[3 * MOST_SUM_BYTES], mine[MOST_SUM_BYTES], others[MOST_SUM_BYTES];
-  write_sum(mine, own);
-  write_sum(others, other);
-  snprintf(text, sizeof text, "DIFFERENT SUMS: %s, but %s", mine, others);
-  tell(replica, "%s", text);
-  write_subject(subject, replica->options.name, "alarm", NULL);
-  natsStatus status = natsConnection_PublishString(replica->log.connection, subject, text);
-  if (status != NATS_OK) tell(replica, "the alarm was not sent: %s", natsStatus_GetText(status));
+/* Reports the sums that differ at a number. */
+static void tell_difference(struct replica *replica, const struct sum *sum) {
+  char text[MOST_SUM_BYTES];
+  write_sum(text, sum);
+  alarm_all(replica, "DIFFERENT SUMS at number %" PRIu64 ": %s", sum->number, text);
 }
 
-bool publish_sum(struct replica *replica) {
+/* Acts on what the sums at a number say. */
+static void judge(struct replica *replica, const struct sum *sum) {
+  enum agreement agreement = sums_judge(&replica->sums, sum->number);
+  bool differs = agreement == SUMS_RIGHT || agreement == SUMS_TIE || agreement == SUMS_WRONG;
+  if (differs) tell_difference(replica, sum);
+  if (agreement == SUMS_TIE) replica->is_doubted = true;
+  if ((agreement == SUMS_AGREE || agreement == SUMS_RIGHT) && sum->number >= replica->agreed) {
+    replica->agreed = sum->number;
+    replica->distrust_after = UINT64_MAX;
+    replica->is_doubted = false;
+  }
+  if (agreement == SUMS_WRONG && replica->has_rows) {
+    replica->distrust_after = replica->agreed;
+    replica->sums.own_count = 0;
+    drop_rows(replica, "most replicas have other rows");
+  }
+}
+
+void publish_sum(struct replica *replica) {
   uint64_t every = replica->options.sum_every, applied = replica->database.applied;
   char subject[MOST_SUBJECT_BYTES], text[MOST_SUM_BYTES];
   struct sum sum = {.number = applied};
-  if (!every || applied % every) return true;
-  if (!database_sum(&replica->database, &sum.sum)) return false;
+  if (!every || applied % every) return;
+  if (!database_sum(&replica->database, (size_t)(applied / every), &sum.sum)) {
+    tell(replica, "no sum at number %" PRIu64 ": an allocation failed", applied);
+    return;
+  }
   memcpy(sum.replica, replica->options.replica, strlen(replica->options.replica) + 1);
-  sums_add(&replica->sums, &sum, true, tell_difference, replica);
+  memcpy(sum.identity, replica->log.identity, sizeof sum.identity);
   write_sum(text, &sum);
   write_subject(subject, replica->options.name, "sum", NULL);
-  natsStatus status = natsConnection_PublishString(replica->log.connection, subject, text);
-  if (status != NATS_OK) tell(replica, "the sum was not sent: %s", natsStatus_GetText(status));
-  return true;
+  if (is_connected(replica->answers.connection)) natsConnection_PublishString(replica->answers.connection, subject, text);
+  sums_add(&replica->sums, &sum, true);
+  judge(replica, &sum);
 }
 
 void on_sum(struct replica *replica, natsMsg *message) {
   struct sum sum;
-  if (read_sum(body_of(message), &sum) && strcmp(sum.replica, replica->options.replica)) sums_add(&replica->sums, &sum, false, tell_difference, replica);
+  bool is_sum = read_sum(body_of(message), &sum) && is_plain_name(sum.replica) && !strcmp(sum.identity, replica->log.identity);
   natsMsg_Destroy(message);
+  if (!is_sum || !strcmp(sum.replica, replica->options.replica)) return;
+  sums_add(&replica->sums, &sum, false);
+  judge(replica, &sum);
 }

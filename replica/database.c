@@ -1,12 +1,80 @@
 #include "database.h"
+#include "entry.h"
 #include "script.h"
 #include <inttypes.h>
 #include <stdio.h>
+#include <stdlib.h>
 #include <string.h>
 
-bool database_open(struct database *database) {
-  *database = (struct database){.db = MMDB_CLOSED};
-  if (bytes_reserve(&database->replies, 1) && recents_open(&database->recents) && mmdb_open(&database->db) == MMDB_DONE) return true;
+/* A reply to a command that changes something is shorter than this. */
+enum { MOST_REPLY_BYTES = 128 };
+
+enum { MOST_COLUMNS = 64 };
+
+static const uint8_t rollback_line[] = "ROLLBACK";
+
+/* The place in the log. */
+
+static bool start_of_chain(struct digester *digester, const char *identity, struct digest *chain) {
+  char text[64];
+  int length = snprintf(text, sizeof text, "mmdb log %d %s", LOG_FORMAT, identity);
+  digester_begin(digester);
+  digester_add(digester, text, (size_t)length);
+  return digester_end(digester, chain);
+}
+
+bool chain_on(struct digester *digester, const struct digest *before, const struct message *message, struct digest *after) {
+  char text[DIGEST_TEXT_BYTES];
+  write_digest(text, before);
+  digester_begin(digester);
+  digester_add(digester, text, DIGEST_DIGITS);
+  digester_add(digester, "\n", 1);
+  if (message->format) digester_add(digester, message->format, strlen(message->format));
+  digester_add(digester, "\n", 1);
+  if (message->checked) digester_add(digester, message->checked, strlen(message->checked));
+  digester_add(digester, "\n", 1);
+  digester_add(digester, message->body.at, message->body.length);
+  return digester_end(digester, after);
+}
+
+const struct digest *database_chain_at(const struct database *database, uint64_t number) {
+  bool is_kept = number <= database->applied && number >= database->chains_from && database->applied - number < CHAINS;
+  return is_kept ? &database->chains[number % CHAINS] : NULL;
+}
+
+static void move_on(struct database *database, uint64_t number, const struct digest *chain) {
+  database->before = database->chain;
+  database->chain = *chain;
+  database->applied = number;
+  database->chains[number % CHAINS] = *chain;
+  database->progress = (struct progress){.is_begun = false};
+}
+
+void database_set_place(struct database *database, uint64_t number, const struct digest *before, const struct digest *chain) {
+  database->chain = *before;
+  move_on(database, number, chain);
+  database->chains_from = number;
+}
+
+bool read_checked(const char *checked, uint64_t *number, struct digest *chain) {
+  if (!checked) return false;
+  struct text rest = {(const uint8_t *)checked, strlen(checked)};
+  bool has_number = take_number(&rest, number);
+  return has_number && rest.length == 1 + DIGEST_DIGITS && rest.at[0] == ' ' && read_digest((const char *)rest.at + 1, chain);
+}
+
+/* Opening and closing. */
+
+bool database_open(struct database *database, const char *identity) {
+  *database = (struct database){.db = MMDB_CLOSED, .chains = calloc(CHAINS, sizeof *database->chains)};
+  bool is_open = database->chains && digester_open(&database->digester) && bytes_reserve(&database->replies, MOST_REPLY_BYTES) &&
+                 recents_open(&database->recents) && mmdb_open(&database->db) == MMDB_DONE &&
+                 mmdb_prepare(&database->db, rollback_line, sizeof rollback_line - 1, &database->rollback) == MMDB_DONE &&
+                 start_of_chain(&database->digester, identity, &database->chain);
+  if (is_open) {
+    database->before = database->chains[0] = database->chain;
+    return true;
+  }
   database_close(database);
   return false;
 }
@@ -14,10 +82,17 @@ bool database_open(struct database *database) {
 void database_close(struct database *database) {
   mmdb_close(&database->db);
   recents_close(&database->recents);
+  digester_close(&database->digester);
   bytes_free(&database->replies);
-  for (size_t i = 0; i < database->standing_count; i++) bytes_free(&database->standing[i].line);
+  free(database->chains);
+  database->chains = NULL;
+  for (size_t i = 0; i < MOST_STANDING; i++) bytes_free(&database->standing[i].line);
   database->standing_count = 0;
 }
+
+bool database_is_between(const struct database *database) { return database->progress.entries || database->progress.has_run; }
+
+/* Standing queries. */
 
 static bool copy_name(char name[MOST_NAME_BYTES + 1], struct text word) {
   if (word.length > MOST_NAME_BYTES) return false;
@@ -26,33 +101,35 @@ static bool copy_name(char name[MOST_NAME_BYTES + 1], struct text word) {
   return true;
 }
 
-/* Keeps the line of a standing query that was made, and drops that of one that is gone. False where memory is refused. */
-static bool keep_standing(struct database *database, struct text line) {
+/* Copies the line of a standing query to the place after the last one, before the line runs. Returns false if an allocation fails. */
+static bool prepare_standing(struct database *database, struct text line) {
+  struct standing *next = &database->standing[database->standing_count];
+  if (!is_word(word_of_line(line, 0), "WATCH") || database->standing_count == MOST_STANDING) return true;
+  bytes_free(&next->line);
+  return copy_name(next->name, word_of_line(line, 1)) && bytes_add(&next->line, line.at, line.length);
+}
+
+/* Keeps the line that was prepared, or drops the line of a standing query that is gone. */
+static void keep_standing(struct database *database, struct text line) {
   struct text word = word_of_line(line, 0);
   char name[MOST_NAME_BYTES + 1];
   size_t *count = &database->standing_count;
-  if (!is_word(word, "WATCH") && !is_word(word, "UNWATCH")) return true;
-  if (!copy_name(name, word_of_line(line, 1))) return false;
-  if (is_word(word, "WATCH")) {
-    struct standing *made = &database->standing[*count];
-    if (*count == MOST_STANDING) return false;
-    *made = (struct standing){.line = {NULL, 0, 0}};
-    memcpy(made->name, name, sizeof name);
-    if (!bytes_add(&made->line, line.at, line.length)) return false;
-    ++*count;
-    return true;
-  }
+  if (is_word(word, "WATCH") && *count < MOST_STANDING) ++*count;
+  if (!is_word(word, "UNWATCH") || !copy_name(name, word_of_line(line, 1))) return;
   for (size_t i = 0; i < *count; i++) {
     if (strcmp(database->standing[i].name, name)) continue;
     bytes_free(&database->standing[i].line);
-    memmove(&database->standing[i], &database->standing[i + 1], (--*count - i) * sizeof *database->standing);
-    return true;
+    --*count;
+    memmove(&database->standing[i], &database->standing[i + 1], (*count - i) * sizeof *database->standing);
+    database->standing[*count] = (struct standing){.line = {NULL, 0, 0}};
+    return;
   }
-  return false;
 }
 
-/* Adds the reply that the handle keeps to text. */
-static bool add_reply(mmdb *db, struct bytes *text, size_t most) {
+/* Scripts. */
+
+/* Appends the reply that the handle keeps to text, if it has at most most bytes. Returns false if an allocation fails. */
+static bool add_text(mmdb *db, struct bytes *text, size_t most) {
   size_t length = 0;
   do {
     if (!bytes_reserve(text, length)) return false;
@@ -63,52 +140,159 @@ static bool add_reply(mmdb *db, struct bytes *text, size_t most) {
   return true;
 }
 
-/* Runs the lines of a script up to the first that is refused, which rolls the script back. False where memory was refused. */
-static bool run_script(struct database *database, struct text script, enum outcome *outcome) {
-  struct text line;
-  uint8_t status = MMDB_DONE;
-  while (status < MMDB_LINE_TOO_LONG && next_line(&script, &line)) {
-    if (kind_of_line(line) == LINE_OF_NOTHING) continue;
-    status = mmdb_execute(&database->db, line.at, line.length);
-    if (status == MMDB_MEMORY || status == MMDB_MISUSE || !add_reply(&database->db, &database->replies, SIZE_MAX)) return false;
-    if (status < MMDB_LINE_TOO_LONG && !keep_standing(database, line)) return false;
-  }
-  *outcome = status < MMDB_LINE_TOO_LONG ? OUTCOME_DONE : OUTCOME_REFUSED;
-  return !mmdb_in_transaction(&database->db) || mmdb_execute(&database->db, (const uint8_t *)"ROLLBACK", 8) == MMDB_DONE;
+/* Appends the reply to a change. What is done needs no memory from the library, so it is never left without a reply. */
+static bool add_reply(struct database *database, uint8_t status) {
+  if (status == MMDB_DONE) return bytes_print(&database->replies, "ok\n");
+  if (status == MMDB_COUNT) return bytes_print(&database->replies, "ok %zu\n", mmdb_count(&database->db));
+  return add_text(&database->db, &database->replies, SIZE_MAX);
 }
 
-bool database_apply(struct database *database, uint64_t sequence, const char *id, struct text message) {
-  enum outcome outcome = OUTCOME_INVALID;
-  struct bytes *replies = &database->replies;
-  replies->length = 0;
-  database->applied = sequence;
-  if (!id || !is_id(id) || recents_find(&database->recents, id)) return true;
-  enum verdict verdict = check_script(&database->db, message, replies);
-  if (verdict == VERDICT_MEMORY || (verdict == VERDICT_GOOD && !run_script(database, message, &outcome))) return false;
-  struct recent recent = {.id = id, .sequence = sequence, .sum = sum_on(SUM_OF_NOTHING, message.at, message.length), .outcome = outcome};
-  recent.replies = (struct text){replies->at, replies->length};
-  return recents_add(&database->recents, recent);
+/* Whether a line had to match a row, and matched none. */
+static bool is_unmet(struct database *database, struct text line, uint8_t status, unsigned flags) {
+  struct text word = word_of_line(line, 0);
+  bool has_to = (flags & FLAG_ROWS) && status == MMDB_COUNT && (is_word(word, "UPDATE") || is_word(word, "DELETE"));
+  return has_to && !mmdb_count(&database->db);
 }
+
+/* Takes back the transaction that is open, if any. */
+static bool roll_back(struct database *database) {
+  mmdb_cell nothing[1];
+  return !mmdb_in_transaction(&database->db) || mmdb_run(&database->db, database->rollback, nothing, 0) == MMDB_DONE;
+}
+
+/* Runs a line of a script. Returns MMDB_MEMORY if an allocation failed. */
+static uint8_t run_line(struct database *database, struct text line) {
+  if (!bytes_reserve(&database->replies, MOST_REPLY_BYTES) || !prepare_standing(database, line)) return MMDB_MEMORY;
+  uint8_t status = mmdb_execute(&database->db, line.at, line.length);
+  if (status == MMDB_MEMORY || status == MMDB_MISUSE) return MMDB_MEMORY;
+  if (status < MMDB_LINE_TOO_LONG) keep_standing(database, line);
+  return add_reply(database, status) ? status : MMDB_MEMORY;
+}
+
+/* Runs the lines of a script up to the first that fails, which takes the script back. */
+static enum applied run_script(struct database *database, const struct entry *entry, enum outcome *outcome) {
+  struct text script = entry->script, line;
+  *outcome = OUTCOME_DONE;
+  while (*outcome == OUTCOME_DONE && next_line(&script, &line)) {
+    if (kind_of_line(line) == LINE_OF_NOTHING) continue;
+    uint8_t status = run_line(database, line);
+    if (status == MMDB_MEMORY) return roll_back(database) ? APPLY_MEMORY : APPLY_BROKEN;
+    if (status >= MMDB_LINE_TOO_LONG) *outcome = OUTCOME_REFUSED;
+    else if (is_unmet(database, line, status, entry->flags)) *outcome = OUTCOME_UNMET;
+  }
+  return roll_back(database) ? APPLIED : APPLY_BROKEN;
+}
+
+bool database_digest(struct database *database, struct text script, unsigned flags, struct digest *digest) {
+  uint8_t byte = (uint8_t)flags;
+  digester_begin(&database->digester);
+  digester_add(&database->digester, &byte, 1);
+  digester_add(&database->digester, script.at, script.length);
+  return digester_end(&database->digester, digest);
+}
+
+/* Runs the script of an entry whose id is new. */
+static enum applied run_entry(struct database *database, const struct entry *entry) {
+  struct progress *progress = &database->progress;
+  database->replies.length = 0;
+  enum verdict verdict = check_script(&database->db, entry->script, &database->replies);
+  if (verdict == VERDICT_MEMORY) return APPLY_MEMORY;
+  progress->outcome = OUTCOME_INVALID;
+  enum applied applied = verdict == VERDICT_GOOD ? run_script(database, entry, &progress->outcome) : APPLIED;
+  progress->has_run = applied == APPLIED;
+  return applied;
+}
+
+static enum applied apply_entry(struct database *database, uint64_t number, uint64_t checked, const struct entry *entry) {
+  struct progress *progress = &database->progress;
+  uint64_t since = entry->since < checked ? entry->since : checked;
+  if (!progress->has_run) {
+    if (since < progress->forgotten || recents_find(&database->recents, entry->id)) return APPLIED;
+    enum applied applied = run_entry(database, entry);
+    if (applied != APPLIED) return applied;
+  }
+  struct recent recent = {.id = entry->id, .sequence = number, .outcome = progress->outcome};
+  recent.replies = (struct text){database->replies.at, database->replies.length};
+  if (!database_digest(database, entry->script, entry->flags, &recent.digest) || !recents_add(&database->recents, recent))
+    return APPLY_MEMORY;
+  progress->has_run = false;
+  return APPLIED;
+}
+
+/* Whether the headers and the body are those of a message of this format. */
+static bool is_well_formed(const struct message *message, uint64_t *checked) {
+  struct digest chain;
+  char format[8];
+  snprintf(format, sizeof format, "%d", LOG_FORMAT);
+  bool has_headers = message->format && !strcmp(message->format, format) && read_checked(message->checked, checked, &chain);
+  return has_headers && *checked < message->number && is_body(message->body);
+}
+
+static bool is_newer(const struct message *message) {
+  uint64_t format;
+  if (!message->format) return false;
+  struct text rest = {(const uint8_t *)message->format, strlen(message->format)};
+  return take_number(&rest, &format) && !rest.length && format > LOG_FORMAT;
+}
+
+enum applied database_apply(struct database *database, const struct message *message) {
+  struct digest chain;
+  struct entry entry;
+  uint64_t checked;
+  struct text rest = message->body;
+  if (is_newer(message)) return APPLY_NEWER;
+  if (!chain_on(&database->digester, &database->chain, message, &chain)) return APPLY_MEMORY;
+  if (!database->progress.is_begun) database->progress = (struct progress){.is_begun = true, .forgotten = database->recents.forgotten};
+  if (is_well_formed(message, &checked)) {
+    for (size_t i = 0; next_entry(&rest, &entry); i++) {
+      if (i < database->progress.entries) continue;
+      enum applied applied = apply_entry(database, message->number, checked, &entry);
+      if (applied != APPLIED) return applied;
+      database->progress.entries++;
+    }
+  }
+  move_on(database, message->number, &chain);
+  return APPLIED;
+}
+
+/* Questions. */
 
 enum answer database_ask(struct database *database, struct text line, size_t most_bytes) {
   struct bytes *reply = &database->replies;
   bytes_trim(reply);
   reply->length = 0;
   uint8_t status = mmdb_execute(&database->db, line.at, line.length);
-  if (status == MMDB_MEMORY || status == MMDB_MISUSE || !add_reply(&database->db, reply, most_bytes)) return ANSWER_MEMORY;
+  if (status == MMDB_MEMORY || status == MMDB_MISUSE || !add_text(&database->db, reply, most_bytes)) return ANSWER_MEMORY;
   if (!reply->length) return ANSWER_TOO_LARGE;
   return status < MMDB_LINE_TOO_LONG ? ANSWER_DONE : ANSWER_REFUSED;
 }
 
+bool database_columns(struct database *database, struct text line, char *text, size_t room) {
+  mmdb_column columns[MOST_COLUMNS];
+  size_t count = 0, length = 0;
+  bool is_done = mmdb_columns(&database->db, line.at, line.length, columns, MOST_COLUMNS, &count) == MMDB_DONE;
+  if (!is_done || !count || count > MOST_COLUMNS) return false;
+  for (size_t i = 0; i < count; i++) {
+    const char *type = columns[i].type == MMDB_NUMBER ? "INT" : "TEXT";
+    int more = snprintf(text + length, room - length, "%s%.*s %s", i ? ", " : "", (int)columns[i].len, (const char *)columns[i].name, type);
+    if (more < 0 || (size_t)more >= room - length) return false;
+    length += (size_t)more;
+  }
+  return true;
+}
+
 bool database_restore(struct database *database, struct text line) {
+  if (!prepare_standing(database, line)) return false;
   uint8_t status = mmdb_execute(&database->db, line.at, line.length);
-  return (status == MMDB_DONE || status == MMDB_COUNT) && !mmdb_in_transaction(&database->db) && keep_standing(database, line);
+  if ((status != MMDB_DONE && status != MMDB_COUNT) || mmdb_in_transaction(&database->db)) return false;
+  keep_standing(database, line);
+  return true;
 }
 
 bool database_text(struct database *database, const char *line, struct bytes *text) {
   text->length = 0;
   uint8_t status = mmdb_execute(&database->db, (const uint8_t *)line, strlen(line));
-  return status < MMDB_LINE_TOO_LONG && add_reply(&database->db, text, SIZE_MAX);
+  return status < MMDB_LINE_TOO_LONG && add_text(&database->db, text, SIZE_MAX);
 }
 
 bool next_table(struct text *tables, struct text *line, char name[MOST_NAME_BYTES + 1]) {
@@ -117,33 +301,55 @@ bool next_table(struct text *tables, struct text *line, char name[MOST_NAME_BYTE
   return false;
 }
 
-/* The sum of the ids and of what they stand for. */
-static uint64_t sum_of_recents(const struct recents *recents, uint64_t sum) {
-  for (size_t i = 0; i < recents->count; i++) {
-    const struct recent *recent = recents_at(recents, i);
-    uint64_t numbers[] = {recent->sequence, recent->sum, (uint64_t)recent->outcome};
-    sum = sum_on(sum, recent->id, strlen(recent->id) + 1);
-    sum = sum_on(sum, numbers, sizeof numbers);
-    sum = sum_on(sum, recent->replies.at, recent->replies.length);
+/* Sums. */
+
+static void sum_recents(struct database *database, struct digester *sum) {
+  for (size_t i = 0; i < database->recents.count; i++) {
+    const struct recent *recent = recents_at(&database->recents, i);
+    uint64_t numbers[] = {recent->sequence, (uint64_t)recent->outcome, recent->replies.length};
+    digester_add(sum, recent->id, strlen(recent->id) + 1);
+    digester_add(sum, recent->digest.at, DIGEST_BYTES);
+    digester_add(sum, numbers, sizeof numbers);
+    digester_add(sum, recent->replies.at, recent->replies.length);
   }
-  return sum;
 }
 
-bool database_sum(struct database *database, uint64_t *sum) {
+static size_t count_tables(struct text tables) {
+  char name[MOST_NAME_BYTES + 1];
+  struct text line;
+  size_t count = 0;
+  while (next_table(&tables, &line, name)) count++;
+  return count;
+}
+
+static bool sum_tables(struct database *database, size_t table, struct digester *sum) {
   struct bytes tables = {NULL, 0, 0}, *rows = &database->replies;
   char name[MOST_NAME_BYTES + 1], scan[MOST_NAME_BYTES + 8];
   struct text line;
   bool is_done = database_text(database, "TABLES", &tables);
   struct text rest = {tables.at, tables.length};
-  *sum = sum_on(SUM_OF_NOTHING, tables.at, tables.length);
-  while (is_done && next_table(&rest, &line, name)) {
+  size_t count = count_tables(rest), place = 0;
+  digester_add(sum, tables.at, tables.length);
+  for (; is_done && next_table(&rest, &line, name); place++) {
+    if (table != ALL_TABLES && table % count != place) continue;
     snprintf(scan, sizeof scan, "SCAN %s", name);
     is_done = database_text(database, scan, rows);
-    if (is_done) *sum = sum_on(*sum, rows->at, rows->length);
+    if (is_done) digester_add(sum, rows->at, rows->length);
   }
-  for (size_t i = 0; i < database->standing_count; i++) *sum = sum_on(*sum, database->standing[i].line.at, database->standing[i].line.length);
-  *sum = sum_of_recents(&database->recents, *sum);
   bytes_free(&tables);
   bytes_trim(rows);
-  return is_done && bytes_reserve(rows, 1);
+  return is_done && bytes_reserve(rows, MOST_REPLY_BYTES);
+}
+
+bool database_sum(struct database *database, size_t table, struct digest *sum) {
+  struct digester *digester = &database->digester;
+  uint64_t place[] = {database->applied, database->recents.forgotten};
+  digester_begin(digester);
+  digester_add(digester, place, sizeof place);
+  digester_add(digester, database->chain.at, DIGEST_BYTES);
+  bool is_done = sum_tables(database, table, digester);
+  for (size_t i = 0; i < database->standing_count; i++)
+    digester_add(digester, database->standing[i].line.at, database->standing[i].line.length);
+  sum_recents(database, digester);
+  return digester_end(digester, sum) && is_done;
 }

@@ -1,4 +1,4 @@
-/* The state that a replica has after so many messages of the log: the tables, the standing queries, and the newest ids. */
+/* The state of a replica after a number of messages of the log: the tables, the standing queries, the newest ids and the chain hash. */
 #ifndef DATABASE_H
 #define DATABASE_H
 
@@ -6,54 +6,107 @@
 #include "recent.h"
 #include <mmdb.h>
 
-enum { MOST_STANDING = 32 };
+enum { LOG_FORMAT = 2, MOST_STANDING = 32, CHAINS = 8192, IDENTITY_DIGITS = 16, IDENTITY_BYTES = IDENTITY_DIGITS + 1 };
 
-/* The line that made a standing query. TABLES does not tell it, and a snapshot needs it. */
+/* The line that made a standing query. TABLES does not return it, and a snapshot needs it. */
 struct standing {
   char name[MOST_NAME_BYTES + 1];
   struct bytes line;
 };
 
+/* A message of the log. format and checked are the values of its headers, or NULL. */
+struct message {
+  uint64_t number;
+  const char *format, *checked;
+  struct text body;
+};
+
+/* How far a message was applied when memory was short: the next call goes on from there. */
+struct progress {
+  size_t entries;     /* how many of its entries are behind it */
+  uint64_t forgotten; /* recents.forgotten before the message */
+  bool is_begun, has_run;
+  enum outcome outcome; /* of the entry that has run and whose id is not kept yet */
+};
+
 struct database {
   mmdb db;
-  uint64_t applied; /* the sequence number of the last message that was applied or skipped */
+  size_t rollback;             /* a statement that takes an open transaction back without memory */
+  uint64_t applied;            /* the number of the last message that was applied */
+  struct digest before, chain; /* the chain hashes at applied - 1 and at applied */
+  struct digest *chains;       /* the newest CHAINS chain hashes, each at its number modulo CHAINS */
+  uint64_t chains_from;        /* the least number of which a chain hash is kept, unless newer ones replaced it */
   struct recents recents;
   struct standing standing[MOST_STANDING]; /* the oldest first */
   size_t standing_count;
-  struct bytes replies; /* those of the script or question at hand */
+  struct bytes replies; /* of the script or question at hand */
+  struct digester digester;
+  struct progress progress;
+};
+
+/* What became of a message. */
+enum applied {
+  APPLIED,
+  APPLY_NEWER,  /* its format is greater than LOG_FORMAT. Nothing changed */
+  APPLY_MEMORY, /* an allocation failed. A later call with the same message goes on where this one stopped */
+  APPLY_BROKEN  /* half a script is applied. The database serves only to be closed */
 };
 
 /* What became of a question. */
 enum answer {
   ANSWER_DONE,
   ANSWER_REFUSED,   /* the reply is an error of the language */
-  ANSWER_TOO_LARGE, /* the reply has more bytes than it may have */
-  ANSWER_MEMORY     /* memory was refused */
+  ANSWER_TOO_LARGE, /* the reply exceeds the bytes that it may have */
+  ANSWER_MEMORY     /* an allocation failed */
 };
 
-/* Opens a database with nothing in it, at number 0. False where memory is refused, and then it is closed. */
-bool database_open(struct database *database);
+/* Opens an empty database, at number 0 of a log. Returns false if an allocation fails, and then it is closed. */
+bool database_open(struct database *database, const char *identity);
 void database_close(struct database *database);
 
-/*
- * Applies the message of the next number: its script, if its id is new and it is one; else it is skipped. An id is NULL where there is none.
- * False where memory was refused: then half of the message may be applied, and the database is good for nothing but to be closed.
- */
-bool database_apply(struct database *database, uint64_t sequence, const char *id, struct text message);
+/* Applies the next message of the log, as PROTOCOL.md says. */
+enum applied database_apply(struct database *database, const struct message *message);
 
-/* Answers a line that asks. The reply is in replies, but for the last two cases. Nothing else changes. */
+/* Returns whether a message is applied in part. Then questions and snapshots would see what no message of the log leads to. */
+bool database_is_between(const struct database *database);
+
+/* Computes the chain hash that a message leads to from another one. Returns false if libcrypto fails. */
+bool chain_on(struct digester *digester, const struct digest *before, const struct message *message, struct digest *after);
+
+/* Reads the header Mmdb-Checked. Returns false if it is malformed or NULL. */
+bool read_checked(const char *checked, uint64_t *number, struct digest *chain);
+
+/* Returns the chain hash at a number, or NULL if it is not kept. */
+const struct digest *database_chain_at(const struct database *database, uint64_t number);
+
+/* Computes the digest of a script and its flags, under which its id is kept. */
+bool database_digest(struct database *database, struct text script, unsigned flags, struct digest *digest);
+
+/* Answers a line that asks. The reply is in replies, except in the last two cases. Nothing else changes. */
 enum answer database_ask(struct database *database, struct text line, size_t most_bytes);
 
-/* Runs a line of a snapshot. False unless it is done. */
+/* Writes the columns of the rows that a line returns, as "name INT, name TEXT". Returns false if it has none, or if they do not fit. */
+bool database_columns(struct database *database, struct text line, char *text, size_t room);
+
+/* Runs a line of a snapshot. Returns false unless it is done. */
 bool database_restore(struct database *database, struct text line);
 
-/* Puts the whole reply of a line that asks into text, which is emptied first. False where it is refused. */
+/* Sets the place in the log of a database that was restored. */
+void database_set_place(struct database *database, uint64_t number, const struct digest *before, const struct digest *chain);
+
+/* Puts the whole reply of a line that asks into text, which is emptied first. Returns false if it is refused. */
 bool database_text(struct database *database, const char *line, struct bytes *text);
 
-/* The sum over what replicas share: TABLES, each SCAN, the lines of the standing queries, and the ids. False where memory is refused. */
-bool database_sum(struct database *database, uint64_t *sum);
+/* Which tables a sum covers. */
+#define ALL_TABLES SIZE_MAX
 
-/* The lines of a text from TABLES. Cuts off the next line that tells of a table, and gives its name. False where there is none. */
+/*
+ * Computes the sum of what replicas share: TABLES, the lines of the standing queries, the ids, the place in the log, and each SCAN, or only
+ * that of the table at a place modulo their count. Returns false if an allocation fails.
+ */
+bool database_sum(struct database *database, size_t table, struct digest *sum);
+
+/* Takes lines off the text of TABLES up to the next one of a table, and writes its name. Returns false if there is none. */
 bool next_table(struct text *tables, struct text *line, char name[MOST_NAME_BYTES + 1]);
 
 #endif

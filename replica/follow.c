@@ -1,7 +1,7 @@
 #include "log.h"
 #include <string.h>
 
-/* How often the message that is next may not come, though a later one does, until it is told to be missing. */
+/* How often a later message may come in place of the next one, until the leader is asked for the next one. */
 enum { MOST_GAPS = 3 };
 
 /* The work of the follower's thread. */
@@ -10,9 +10,9 @@ struct follower {
   natsSubscription *subscription;
   int64_t looked, moved; /* when it last looked at the end of the log; when it last got a message, or subscribed */
   uint64_t next_then;    /* the number that was next when it last looked */
-  int64_t short_since;   /* since when the log ends before that; 0 where it does not */
-  bool has_last;         /* whether a message came; then last_sum is that of the last one */
-  uint64_t last_sum;
+  int64_t short_since;   /* since when the log ends before that; 0 if it does not */
+  bool has_last;         /* whether a message came; then last_hash is that of the last one */
+  uint64_t last_hash;
   int gaps;
 };
 
@@ -40,15 +40,17 @@ static void subscribe(struct follower *follower) {
   follower->moved = clock_now();
 }
 
-static void tell_missing(struct follower *follower) {
-  queue_add(follower->log->queue, (struct event){.kind = EVENT_MISSING, .number = follower->log->next});
-  atomic_store(&follower->log->is_ending, true);
+/* Reports once how the log does not lead on, and ends. */
+static void tell_missing(struct follower *follower, enum missing why) {
+  if (atomic_exchange(&follower->log->is_ending, true)) return;
+  queue_add(follower->log->queue, (struct event){.kind = EVENT_MISSING, .number = follower->log->next, .why = why});
 }
 
-static uint64_t sum_of_message(natsMsg *message) {
-  const char *id = header_of(message, ID_HEADER);
+static uint64_t hash_of_message(natsMsg *message) {
+  static const uint8_t key[KEY_BYTES] = {0};
+  const char *checked = header_of(message, CHECKED_HEADER);
   struct text body = body_of(message);
-  return sum_on(sum_on(SUM_OF_NOTHING, id ? id : "", id ? strlen(id) : 0), body.at, body.length);
+  return keyed_hash(key, checked ? checked : "", checked ? strlen(checked) : 0) ^ keyed_hash(key, body.at, body.length);
 }
 
 /* Whether the leader has another message than came under the last number. It has, where a log was cut off and has grown again. */
@@ -56,14 +58,14 @@ static bool has_other_last(struct follower *follower) {
   natsMsg *message = NULL;
   struct log *log = follower->log;
   if (!follower->has_last || js_GetMsg(&message, log->jetstream, log->name, log->next - 1, NULL, NULL) != NATS_OK) return false;
-  bool is_other = sum_of_message(message) != follower->last_sum;
+  bool is_other = hash_of_message(message) != follower->last_hash;
   natsMsg_Destroy(message);
   return is_other;
 }
 
 /*
- * Whether the log ends before what came until the last look, and has done so for a time. A server that leads from now on may for a moment not
- * count messages that it has, and one that does not lead may pass a message on before the leader counts it.
+ * Whether the log ends before what came until the last look, and has done so for a time. A server that leads from now on may for a moment
+ * not count messages that it has, and one that does not lead may pass a message on before the leader counts it.
  */
 static bool is_shorter(struct follower *follower, uint64_t last) {
   if (last + 1 >= follower->next_then) follower->short_since = 0;
@@ -71,16 +73,21 @@ static bool is_shorter(struct follower *follower, uint64_t last) {
   return follower->short_since && clock_now() - follower->short_since > LONGEST_SHORT;
 }
 
-/* Looks where the log ends. It is followed anew where it has more than came, and nothing has come for a time. */
+/* Looks where the log ends. It is followed anew if it has more than came, and nothing has come for a time. */
 static void look(struct follower *follower) {
   struct log *log = follower->log;
   struct extent extent;
   follower->looked = clock_now();
-  if (log_extent(log, &extent) != NATS_OK) return;
-  bool has_more = extent.last >= log->next, is_gone = extent.made != log->made || (has_more && extent.first > log->next);
-  bool is_other = is_shorter(follower, extent.last) || (extent.last + 1 >= log->next && has_other_last(follower));
+  if (log_look(log, &extent) != NATS_OK) return;
+  bool has_more = extent.last >= log->next, is_other = strcmp(extent.identity, log->identity);
+  if (is_other) {
+    tell_missing(follower, MISSING_OTHER_LOG);
+    return;
+  }
+  bool has_other = is_shorter(follower, extent.last) || (extent.last + 1 >= log->next && has_other_last(follower));
   if (!follower->short_since) follower->next_then = log->next;
-  if (is_gone || is_other) tell_missing(follower);
+  if (has_other) tell_missing(follower, MISSING_HISTORY);
+  else if (has_more && extent.first > log->next) tell_missing(follower, MISSING_OLD);
   else if (has_more && clock_now() - follower->moved > LONGEST_QUIET) unsubscribe(follower);
 }
 
@@ -92,18 +99,31 @@ static bool number_of(natsMsg *message, uint64_t *number) {
   return true;
 }
 
-/* Passes a message on if it is the next one. One that was passed on before is dropped; behind a gap the log is followed anew. */
+/* After later messages came in place of the next one: asks the leader whether it has the next one. */
+static void look_into_gap(struct follower *follower) {
+  struct log *log = follower->log;
+  natsMsg *message = NULL;
+  struct extent extent;
+  follower->gaps = 0;
+  if (log_look(log, &extent) != NATS_OK || strcmp(extent.identity, log->identity) || extent.last <= log->next) return;
+  natsStatus status = js_GetMsg(&message, log->jetstream, log->name, log->next, NULL, NULL);
+  natsMsg_Destroy(message);
+  if (extent.first > log->next) tell_missing(follower, MISSING_OLD);
+  else if (status == NATS_NOT_FOUND) tell_missing(follower, MISSING_HOLE);
+}
+
+/* Passes a message on if it is the next one. One that was passed on before is dropped; after a gap, the log is followed anew. */
 static void pass_on(struct follower *follower, natsMsg *message) {
   struct log *log = follower->log;
   uint64_t number = 0;
   bool is_known = number_of(message, &number);
   bool is_next = is_known && number == log->next;
-  uint64_t sum = is_next ? sum_of_message(message) : 0;
+  uint64_t hash = is_next ? hash_of_message(message) : 0;
   is_next = is_next && queue_add(log->queue, (struct event){.kind = EVENT_MESSAGE, .message = message, .number = number});
-  follower->moved = clock_now(); /* behind the wait for room */
+  follower->moved = clock_now(); /* after the wait for room */
   if (is_next) {
     log->next++;
-    follower->last_sum = sum;
+    follower->last_hash = hash;
     follower->has_last = true;
     follower->gaps = 0;
     return;
@@ -111,17 +131,18 @@ static void pass_on(struct follower *follower, natsMsg *message) {
   natsMsg_Destroy(message);
   if (!is_known || number < log->next) return;
   unsubscribe(follower);
-  if (number > log->next && ++follower->gaps == MOST_GAPS) tell_missing(follower);
+  if (number > log->next && ++follower->gaps == MOST_GAPS) look_into_gap(follower);
 }
 
 static void *follow(void *closure) {
-  struct follower follower = {.log = closure, .looked = clock_now()};
+  struct follower follower = {.log = closure, .looked = INT64_MIN / 2};
+  follower.next_then = follower.log->next;
   while (!atomic_load(&follower.log->is_ending)) {
     natsMsg *message = NULL;
     if (clock_now() - follower.looked >= LOOK_EVERY) look(&follower);
-    if (!follower.subscription) subscribe(&follower);
+    if (!follower.subscription && !atomic_load(&follower.log->is_ending)) subscribe(&follower);
     if (!follower.subscription) {
-      nats_Sleep(NEXT_WAIT); /* it may have failed at once, and nothing tells when it would not */
+      nats_Sleep(NEXT_WAIT); /* it may have failed at once, and nothing says when it would not */
       continue;
     }
     natsStatus status = natsSubscription_NextMsg(&message, follower.subscription, NEXT_WAIT);
@@ -132,9 +153,11 @@ static void *follow(void *closure) {
   return NULL;
 }
 
-bool log_follow(struct log *log, uint64_t next, int64_t made) {
+bool log_follow(struct log *log, uint64_t next, const char *identity) {
   log->next = next;
-  log->made = made;
+  memmove(log->identity, identity, strlen(identity) + 1);
+  atomic_store(&log->last, NOT_LOOKED);
+  atomic_store(&log->heard, 0);
   atomic_store(&log->is_ending, false);
   queue_set_takes_messages(log->queue, true);
   log->is_followed = !pthread_create(&log->follower, NULL, follow, log);

@@ -7,41 +7,53 @@
 #include "snapshot.h"
 #include <stdatomic.h>
 
-/* Milliseconds: for a call of JetStream; between two looks at the end of the log; without progress until the log is followed anew; for which the
- * log may be shorter than it was; for the next message. */
+/* Milliseconds: for a call of JetStream; between two looks at the end of the log; without progress until the log is followed anew; for
+ * which the log may be shorter than it was; for the next message. */
 enum { CALL_WAIT = 1000, LOOK_EVERY = 1000, LONGEST_QUIET = 1000, LONGEST_SHORT = 10000, NEXT_WAIT = 200 };
 
-/* How many messages may be published at a time, and not yet taken. */
-enum { MOST_IN_FLIGHT = 4096 };
+/* What log->last is before the first look. */
+#define NOT_LOOKED UINT64_MAX
 
 struct log {
   natsConnection *connection;
   jsCtx *jetstream;
-  const char *name;
+  const char *name, *replica;
   struct queue *queue;
   pthread_t follower;
   bool is_followed;
   atomic_bool is_ending;
   atomic_llong heard; /* when the leader of the stream surely led it, as it said last */
-  atomic_ullong last; /* the number of the last message, as it said then or later */
+  atomic_ullong last; /* the greatest number of a message, as it said then or later; NOT_LOOKED at first */
   uint64_t next;      /* the number of the message that the follower waits for */
-  int64_t made;
+  char identity[IDENTITY_BYTES];
 };
 
-natsStatus log_open(struct log *log, const char *servers, const char *name, const char *replica, struct queue *queue);
+/* How to open a log: a connection in the making, whose inbox prefix askers cannot publish to. */
+natsStatus log_open(struct log *log, const struct connecting *connecting, const char *name, const char *replica, struct queue *queue);
 void log_close(struct log *log);
 
-/* Asks the leader of the stream for its extent. */
-natsStatus log_extent(struct log *log, struct extent *extent);
+/* Asks the leader of the stream for its extent. The identity is empty if the stream is no log of this format. */
+natsStatus log_look(struct log *log, struct extent *extent);
 
-/* Starts a thread that adds each message from a number on to the queue. False where none could be started. */
-bool log_follow(struct log *log, uint64_t next, int64_t made);
+/* What the log says of a message: that it leads from one chain hash to another, that it does not, or nothing. */
+enum said { SAID_YES, SAID_NO, SAID_NOTHING };
+enum said log_leads_to(struct log *log, struct digester *digester, uint64_t number, const struct digest *before,
+                       const struct digest *chain);
+
+/* Starts a thread that adds each message from a number on to the queue. Returns false if it cannot be started. */
+bool log_follow(struct log *log, uint64_t next, const char *identity);
 
 /* Ends that thread. Messages that are in the queue are dropped. */
 void log_unfollow(struct log *log);
 
-/* Publishes a script. EVENT_PUBLISHED with the same message will tell its number, or that it was not taken as far as is known. */
-natsStatus log_publish(struct log *log, const char *id, struct text script, natsMsg **published);
+/* The message of the log that a message of NATS is. It points into that message. */
+struct message log_message(natsMsg *message, uint64_t number);
+
+/*
+ * Publishes entries, whose ids were checked at a number. EVENT_PUBLISHED with the same message will have its number, or has_failed if the
+ * log has not taken it as far as is known.
+ */
+natsStatus log_publish(struct log *log, struct text body, uint64_t checked, const struct digest *chain, natsMsg **published);
 
 /* Drops the messages below a number. */
 natsStatus log_drop(struct log *log, uint64_t number);

@@ -3,35 +3,55 @@
  * is a question, a line that changes something is a change, and the lines from BEGIN to COMMIT or ROLLBACK are one change.
  *
  * Each change gets an id, and is sent again with it until it is answered. Each question demands the number of the newest answer before it,
- * so what was seen once is never unseen. The status is 0 if all was answered.
+ * so what was seen once is never unseen. The status is 0 if all was answered, 1 if not, and 2 if the options are wrong.
  */
 #include "bytes.h"
 #include "connect.h"
 #include <errno.h>
 #include <getopt.h>
 #include <inttypes.h>
+#include <stdatomic.h>
 #include <stdio.h>
 #include <stdlib.h>
 #include <string.h>
 #include <sys/random.h>
 #include <time.h>
 
-/* Milliseconds: for an answer until the request is sent again; before that where nobody could answer yet. */
-enum { TRY_WAIT = 2500, PAUSE = 100 };
+/* Milliseconds: for an answer until the request is sent again, at first and at most; before that if nobody could answer yet; for all
+ * replicas to tell their status. */
+enum { TRY_WAIT = 2500, MOST_TRY_WAIT = 20000, PAUSE = 100, STATUS_WAIT = 1000 };
 
-enum { RANDOM_BYTES = 12, MOST_PREFIX_BYTES = MOST_ID_BYTES - 21 };
+enum { RANDOM_BYTES = 12, MOST_PREFIX_BYTES = MOST_ID_BYTES - 21, IDENTITY_DIGITS = 16, DIGITS_BYTES = 24, LOG_FORMAT = 2 };
+
+/* With --load, lines of INSERT are sent in scripts of at most this many bytes. */
+enum { LOAD_BYTES = 256 * 1024 };
 
 static const char usage[] =
-    "usage: mmdb-ask [--servers URL,..] [--name LOG] [--replica NAME] [--id PREFIX] [--at-least N] [--numbers] [--wait MILLISECONDS] < SCRIPT\n"
-    "       mmdb-ask [--servers URL,..] [--name LOG] --make-log COPIES\n";
+    "usage: mmdb-ask [--servers URL,..] [--name LOG] [--login FILE] [--inbox PREFIX] [--wait MILLISECONDS] ACTION\n"
+    "       [--replica NAME] [--id PREFIX [--since N]] [--at-least N] [--linearizable] [--rows] [--load] [--numbers] < SCRIPT\n"
+    "       --make-log COPIES | --status | --backup REPLICA > FILE | --snapshot REPLICA\n";
+
+enum action { ACTION_SCRIPT, ACTION_MAKE_LOG, ACTION_STATUS, ACTION_BACKUP, ACTION_SNAPSHOT };
 
 struct asker {
-  const char *servers, *name, *replica, *prefix;
-  char random[2 * RANDOM_BYTES + 1];
+  char *servers;
+  const char *name, *replica, *prefix, *inbox;
+  struct login login;
+  enum action action;
+  char random[2 * RANDOM_BYTES + 1], identity[IDENTITY_DIGITS + 1];
   natsConnection *connection;
-  uint64_t number, changes, copies; /* the number to demand; how many changes there were; the copies of a log to make, or 0 */
+  uint64_t number, changes, copies; /* the number to demand; how many changes there were; the copies of a log to make */
+  uint64_t since;
   int64_t wait;
-  bool shows_numbers, was_refused;
+  atomic_bool is_forbidden; /* the servers do not permit what was sent */
+  bool shows_numbers, was_refused, has_since, is_linearizable, demands_rows, loads;
+};
+
+/* What a request says beside its body. id is NULL for a question. */
+struct demand {
+  const char *id;
+  uint64_t number; /* the least number of the answer, or the number before which the id was not sent */
+  bool has_number;
 };
 
 static int64_t now(void) {
@@ -40,75 +60,176 @@ static int64_t now(void) {
   return (int64_t)time.tv_sec * 1000 + time.tv_nsec / 1000000;
 }
 
+/* Prints words that came from the network, without control characters. */
+static void print_words(FILE *file, const char *words) {
+  for (; *words; words++) fputc(*words >= ' ' && *words <= '~' ? *words : '?', file);
+}
+
 /* Requests. */
 
-static natsStatus request(struct asker *asker, bool is_change, const char *header, const char *value, struct text body, natsMsg **answer) {
+static natsStatus set_headers(natsMsg *message, const struct asker *asker, const struct demand *demand, int64_t wait) {
+  char digits[DIGITS_BYTES];
+  natsStatus status = NATS_OK;
+  if (demand->id) status = natsMsgHeader_Set(message, ID_HEADER, demand->id);
+  if (status == NATS_OK && demand->id && asker->demands_rows) status = natsMsgHeader_Set(message, CONDITION_HEADER, "rows");
+  if (status == NATS_OK && demand->has_number) {
+    snprintf(digits, sizeof digits, "%" PRIu64, demand->number);
+    status = natsMsgHeader_Set(message, demand->id ? SINCE_HEADER : AT_LEAST_HEADER, digits);
+  }
+  if (status == NATS_OK && *asker->identity) status = natsMsgHeader_Set(message, LOG_HEADER, asker->identity);
+  snprintf(digits, sizeof digits, "%" PRId64, wait);
+  return status == NATS_OK ? natsMsgHeader_Set(message, WAIT_HEADER, digits) : status;
+}
+
+static natsStatus request(struct asker *asker, const struct demand *demand, struct text body, int64_t wait, natsMsg **answer) {
   char subject[MOST_SUBJECT_BYTES];
   natsMsg *message = NULL;
-  write_subject(subject, asker->name, is_change ? "change" : "ask", is_change ? NULL : asker->replica);
+  write_subject(subject, asker->name, demand->id ? "change" : "ask", demand->id ? NULL : asker->replica);
   natsStatus status = natsMsg_Create(&message, subject, NULL, (const char *)body.at, (int)body.length);
-  if (status == NATS_OK) status = natsMsgHeader_Set(message, header, value);
-  if (status == NATS_OK) status = natsConnection_RequestMsg(answer, asker->connection, message, TRY_WAIT);
+  if (status == NATS_OK) status = set_headers(message, asker, demand, wait);
+  if (status == NATS_OK) status = natsConnection_RequestMsg(answer, asker->connection, message, wait);
   natsMsg_Destroy(message);
   return status;
 }
 
-/* Whether an answer says that another try may have a better one. */
-static bool is_passing(const char *status) {
-  static const char *const passing[] = {"unready", "unavailable", "behind", "memory"};
-  for (size_t i = 0; i < sizeof passing / sizeof *passing; i++)
-    if (!strcmp(status, passing[i])) return true;
+static bool is_one_of(const char *word, const char *const *words) {
+  for (; *words; words++)
+    if (!strcmp(word, *words)) return true;
   return false;
 }
 
-/* Sends a request until it is answered, or the time is over; that is told on standard error, and there is no answer then. */
-static natsMsg *answer_to(struct asker *asker, bool is_change, const char *header, const char *value, struct text body) {
-  int64_t until = now() + asker->wait;
+/* Whether an answer says that another try may have a better one. */
+static bool is_passing(const char *status) {
+  static const char *const passing[] = {"unready", "unavailable", "behind", "memory", "orphaned", NULL};
+  return is_one_of(status, passing);
+}
+
+static bool has_replies(const char *status) {
+  static const char *const replies[] = {"done", "refused", "unmet", NULL};
+  return is_one_of(status, replies);
+}
+
+/* Why no other try can succeed, or NULL. */
+static const char *hopeless(struct asker *asker, natsStatus status) {
+  if (atomic_load(&asker->is_forbidden)) return "the servers do not permit it";
+  if (status == NATS_MAX_PAYLOAD) return "it exceeds the messages that the servers take";
+  return status == NATS_OK || status == NATS_TIMEOUT || status == NATS_NO_RESPONDERS || status == NATS_CONNECTION_DISCONNECTED ||
+                 status == NATS_INSUFFICIENT_BUFFER || status == NATS_IO_ERROR
+             ? NULL
+             : natsStatus_GetText(status);
+}
+
+static void tell_unanswered(const struct demand *demand, const char *said) {
+  fprintf(stderr, "mmdb-ask: no answer to ");
+  print_words(stderr, demand->id ? demand->id : "a question");
+  fprintf(stderr, ": ");
+  print_words(stderr, said);
+  fputc('\n', stderr);
+}
+
+/*
+ * Sends a request until it is answered, or the time is over; that is reported on standard error, and NULL returned. An answer of a replica
+ * whose log is gone is returned if there is no better one. A question that gets no answer may keep a replica busy, so it waits longer at
+ * each try.
+ */
+static natsMsg *answer_to(struct asker *asker, const struct demand *demand, struct text body) {
+  int64_t until = now() + asker->wait, wait = TRY_WAIT;
   for (;;) {
     natsMsg *answer = NULL;
-    natsStatus status = request(asker, is_change, header, value, body, &answer);
-    const char *said = status == NATS_OK ? header_of(answer, STATUS_HEADER) : natsStatus_GetText(status);
-    if (said && status == NATS_OK && !is_passing(said)) return answer;
-    if (now() >= until) {
-      fprintf(stderr, "mmdb-ask: no answer to %s: %s\n", is_change ? value : "a question", said ? said : "the answer has no status");
+    natsStatus status = request(asker, demand, body, wait, &answer);
+    const char *said = status == NATS_OK ? header_of(answer, STATUS_HEADER) : natsStatus_GetText(status), *end = hopeless(asker, status);
+    if (!said) said = "the answer has no status";
+    bool is_answer = status == NATS_OK && header_of(answer, STATUS_HEADER);
+    if (is_answer && !is_passing(said)) return answer;
+    if (end || now() >= until) {
+      if (is_answer && !strcmp(said, "orphaned")) return answer;
+      tell_unanswered(demand, end ? end : said);
       natsMsg_Destroy(answer);
       return NULL;
     }
     natsMsg_Destroy(answer);
     if (status != NATS_TIMEOUT) nats_Sleep(PAUSE);
+    else if (!demand->id && wait < MOST_TRY_WAIT) wait *= 2;
   }
 }
 
-/* Prints an answer, and is done with it. */
+/* Takes the place in the log from an answer. Its identity is demanded from then on: numbers of two logs do not compare. */
+static void take_place(struct asker *asker, natsMsg *answer) {
+  const char *identity = header_of(answer, LOG_HEADER);
+  uint64_t number;
+  if (!identity || strlen(identity) != IDENTITY_DIGITS || !number_in_header(answer, SEQUENCE_HEADER, &number)) return;
+  if (!*asker->identity) memcpy(asker->identity, identity, IDENTITY_DIGITS + 1);
+  if (number > asker->number) asker->number = number;
+}
+
+/* Prints an answer, and frees it. Returns false if there is none, or if it cannot be printed. */
 static bool print_answer(struct asker *asker, natsMsg *answer) {
   if (!answer) return false;
   const char *status = header_of(answer, STATUS_HEADER), *replica = header_of(answer, REPLICA_HEADER);
   struct text body = body_of(answer);
   uint64_t number = 0;
-  bool has_number = number_in_header(answer, SEQUENCE_HEADER, &number);
-  bool has_replies = !strcmp(status, "done") || !strcmp(status, "refused");
-  if (has_number && has_replies && number > asker->number) asker->number = number;
-  if (asker->shows_numbers || !has_replies) printf("-- %s %" PRIu64 " %s\n", status, number, replica ? replica : "?");
-  if (!has_replies && body.length) printf("-- ");
+  bool has = has_replies(status);
+  number_in_header(answer, SEQUENCE_HEADER, &number);
+  if (has) take_place(asker, answer);
+  if (asker->shows_numbers || !has) {
+    printf("-- ");
+    print_words(stdout, status);
+    printf(" %" PRIu64 " ", number);
+    print_words(stdout, replica ? replica : "?");
+    printf("\n");
+  }
+  if (!has && strcmp(status, "orphaned") && body.length) printf("-- ");
   bool is_done = fwrite(body.at, 1, body.length, stdout) == body.length && fflush(stdout) == 0;
+  if (!has || !strcmp(status, "unmet")) asker->was_refused = true;
   natsMsg_Destroy(answer);
-  if (!has_replies) asker->was_refused = true;
+  return is_done;
+}
+
+/* Asks for the number of the log, before the first change: an id that is made after that was not sent before it. */
+static bool learn_number(struct asker *asker) {
+  static const char question[] = "TABLES";
+  natsMsg *answer = answer_to(asker, &(struct demand){.has_number = false}, (struct text){(const uint8_t *)question, sizeof question - 1});
+  if (!answer) return false;
+  take_place(asker, answer);
+  natsMsg_Destroy(answer);
+  return true;
+}
+
+static natsMsg *send_change(struct asker *asker, struct text script) {
+  char id[MOST_ID_BYTES + 1];
+  bool is_own_id = asker->prefix == asker->random;
+  if (is_own_id && !asker->number && !learn_number(asker)) return NULL;
+  snprintf(id, sizeof id, "%s-%" PRIu64, asker->prefix, ++asker->changes);
+  struct demand demand = {.id = id, .number = is_own_id ? asker->number : asker->since, .has_number = is_own_id || asker->has_since};
+  return answer_to(asker, &demand, script);
+}
+
+static bool change(struct asker *asker, struct text script) { return print_answer(asker, send_change(asker, script)); }
+
+/* Puts an empty change into the log, so that a question at its number sees all that was answered before now. */
+static bool reach_end(struct asker *asker) {
+  static const char nothing[] = "BEGIN\nCOMMIT\n";
+  natsMsg *answer = send_change(asker, (struct text){(const uint8_t *)nothing, sizeof nothing - 1});
+  if (!answer) return false;
+  bool is_done = !strcmp(header_of(answer, STATUS_HEADER), "done");
+  if (is_done) take_place(asker, answer);
+  natsMsg_Destroy(answer);
   return is_done;
 }
 
 static bool ask(struct asker *asker, struct text line) {
-  char digits[24];
-  snprintf(digits, sizeof digits, "%" PRIu64, asker->number);
-  return print_answer(asker, answer_to(asker, false, AT_LEAST_HEADER, digits, line));
-}
-
-static bool change(struct asker *asker, struct text script) {
-  char id[MOST_ID_BYTES + 1];
-  snprintf(id, sizeof id, "%s-%" PRIu64, asker->prefix, ++asker->changes);
-  return print_answer(asker, answer_to(asker, true, ID_HEADER, id, script));
+  if (asker->is_linearizable && !reach_end(asker)) return false;
+  struct demand demand = {.number = asker->number, .has_number = true};
+  return print_answer(asker, answer_to(asker, &demand, line));
 }
 
 /* The script. */
+
+static bool send_script(struct asker *asker, struct bytes *script) {
+  bool is_done = change(asker, (struct text){script->at, script->length});
+  script->length = 0;
+  return is_done;
+}
 
 /* Sends what a line ends: itself, or the script since BEGIN. */
 static bool take_line(struct asker *asker, struct bytes *script, struct text line) {
@@ -118,9 +239,22 @@ static bool take_line(struct asker *asker, struct bytes *script, struct text lin
   if (!bytes_add(script, line.at, line.length) || !bytes_add(script, "\n", 1)) return false;
   struct text whole = {script->at, script->length}, first;
   if (!next_line(&whole, &first) || (kind_of_line(first) == LINE_OF_BEGIN && kind != LINE_OF_END)) return true;
-  bool is_done = change(asker, (struct text){script->at, script->length});
-  script->length = 0;
-  return is_done;
+  return send_script(asker, script);
+}
+
+static bool end_load(struct asker *asker, struct bytes *script) {
+  if (!script->length) return true;
+  return bytes_add(script, "COMMIT\n", 7) && send_script(asker, script) && !asker->was_refused;
+}
+
+/* Gathers lines of INSERT into transactions, and sends each other line alone. A snapshot is loaded like that. */
+static bool load_line(struct asker *asker, struct bytes *script, struct text line) {
+  enum line_kind kind = kind_of_line(line);
+  if (kind == LINE_OF_NOTHING) return true;
+  if (kind != LINE_OF_CHANGE) return end_load(asker, script) && change(asker, line) && !asker->was_refused;
+  if (script->length + line.length > LOAD_BYTES && !end_load(asker, script)) return false;
+  if (!script->length && !bytes_add(script, "BEGIN\n", 6)) return false;
+  return bytes_add(script, line.at, line.length) && bytes_add(script, "\n", 1);
 }
 
 static bool take_script(struct asker *asker) {
@@ -130,8 +264,10 @@ static bool take_script(struct asker *asker) {
   bool is_done = true;
   for (ssize_t length; is_done && (length = getline(&bytes, &room, stdin)) > 0;) {
     struct text rest = {(const uint8_t *)bytes, (size_t)length}, line;
-    is_done = !next_line(&rest, &line) || take_line(asker, &script, line);
+    if (!next_line(&rest, &line)) continue;
+    is_done = asker->loads ? load_line(asker, &script, line) : take_line(asker, &script, line);
   }
+  if (is_done && asker->loads) is_done = end_load(asker, &script);
   if (is_done && script.length) fprintf(stderr, "mmdb-ask: the input ends in a transaction, which was not sent\n");
   is_done = is_done && !script.length && !ferror(stdin);
   free(bytes);
@@ -141,15 +277,25 @@ static bool take_script(struct asker *asker) {
 
 /* The log. */
 
+static bool make_identity(char identity[IDENTITY_DIGITS + 1]) {
+  uint64_t number;
+  if (getrandom(&number, sizeof number, 0) != sizeof number) return false;
+  snprintf(identity, IDENTITY_DIGITS + 1, "%016" PRIx64, number);
+  return true;
+}
+
 static bool make_log(struct asker *asker) {
-  char subject[MOST_SUBJECT_BYTES];
+  char subject[MOST_SUBJECT_BYTES], identity[IDENTITY_DIGITS + 1], description[64];
   const char *subjects[] = {subject};
   jsCtx *jetstream = NULL;
   jsStreamConfig config;
   jsErrCode code = 0;
+  if (!make_identity(identity)) return false;
+  snprintf(description, sizeof description, "mmdb log %d %s", LOG_FORMAT, identity);
   write_subject(subject, asker->name, "log", NULL);
   natsStatus status = jsStreamConfig_Init(&config);
   config.Name = asker->name;
+  config.Description = description;
   config.Subjects = subjects;
   config.SubjectsLen = 1;
   config.Storage = js_FileStorage;
@@ -163,6 +309,68 @@ static bool make_log(struct asker *asker) {
   return status == NATS_OK;
 }
 
+/* Operators. */
+
+/* Sends an empty request to a subject. Its answers come to the subscription. */
+static natsStatus request_all(struct asker *asker, const char *word, const char *last, natsSubscription **answers) {
+  char subject[MOST_SUBJECT_BYTES], inbox[MOST_SUBJECT_BYTES], digits[DIGITS_BYTES];
+  uint8_t bytes[RANDOM_BYTES];
+  natsMsg *message = NULL;
+  if (getrandom(bytes, sizeof bytes, 0) != sizeof bytes) return NATS_ERR;
+  int length = snprintf(inbox, sizeof inbox, "%s.", asker->inbox);
+  for (size_t i = 0; i < sizeof bytes; i++) snprintf(inbox + length + 2 * i, 3, "%02x", bytes[i]);
+  write_subject(subject, asker->name, word, last);
+  snprintf(digits, sizeof digits, "%d", MOST_TRY_WAIT);
+  natsStatus status = natsConnection_SubscribeSync(answers, asker->connection, inbox);
+  if (status == NATS_OK) status = natsMsg_Create(&message, subject, inbox, "", 0);
+  if (status == NATS_OK) status = natsMsgHeader_Set(message, WAIT_HEADER, digits);
+  if (status == NATS_OK) status = natsConnection_PublishMsg(asker->connection, message);
+  natsMsg_Destroy(message);
+  return status;
+}
+
+/* Prints what each replica says within a second. Returns false if none does. */
+static bool print_status(struct asker *asker) {
+  natsSubscription *answers = NULL;
+  int64_t until = now() + STATUS_WAIT;
+  bool has_any = false;
+  natsStatus status = request_all(asker, "status", asker->replica, &answers);
+  for (int64_t left; status == NATS_OK && (left = until - now()) > 0;) {
+    natsMsg *answer = NULL;
+    status = natsSubscription_NextMsg(&answer, answers, left);
+    struct text body = answer ? body_of(answer) : (struct text){NULL, 0};
+    if (answer && !natsMsg_IsNoResponders(answer)) has_any = fwrite(body.at, 1, body.length, stdout) == body.length;
+    natsMsg_Destroy(answer);
+  }
+  natsSubscription_Destroy(answers);
+  if (!has_any) fprintf(stderr, "mmdb-ask: no replica answers\n");
+  return has_any;
+}
+
+/* Receives what a replica does for an operator, and prints its parts. The answer with a status is the last one. */
+static bool command(struct asker *asker, const char *word) {
+  natsSubscription *answers = NULL;
+  const char *said = NULL;
+  char last[MOST_ID_BYTES] = "no answer";
+  natsStatus status = request_all(asker, word, asker->replica, &answers);
+  while (status == NATS_OK && !said) {
+    natsMsg *answer = NULL;
+    status = natsSubscription_NextMsg(&answer, answers, asker->wait);
+    struct text body = answer ? body_of(answer) : (struct text){NULL, 0};
+    said = answer ? header_of(answer, STATUS_HEADER) : NULL;
+    if (said) snprintf(last, sizeof last, "%s", said);
+    else if (answer && natsMsg_IsNoResponders(answer)) status = NATS_NO_RESPONDERS;
+    else if (fwrite(body.at, 1, body.length, stdout) != body.length) status = NATS_IO_ERROR;
+    natsMsg_Destroy(answer);
+  }
+  natsSubscription_Destroy(answers);
+  if (!strcmp(last, "done")) return fflush(stdout) == 0;
+  fprintf(stderr, "mmdb-ask: %s %s: ", word, asker->replica);
+  print_words(stderr, status == NATS_OK ? last : natsStatus_GetText(status));
+  fputc('\n', stderr);
+  return false;
+}
+
 /* Options. */
 
 static bool read_count(const char *text, uint64_t *count) {
@@ -172,17 +380,46 @@ static bool read_count(const char *text, uint64_t *count) {
   return *text >= '0' && *text <= '9' && !*rest && !errno && *count <= INT64_MAX;
 }
 
-static bool read_option(struct asker *asker, int letter, const char *value) {
+static bool read_login_option(const char *path, struct login *login) {
+  const char *wrong = read_login(path, login);
+  if (wrong) fprintf(stderr, "mmdb-ask: cannot use the login file %s: %s\n", path, wrong);
+  return !wrong;
+}
+
+/* Copies the addresses, and then hides passwords in the argument. */
+static bool read_servers(struct asker *asker, char *value) {
+  free(asker->servers);
+  asker->servers = strdup(value);
+  hide_passwords(value);
+  return asker->servers;
+}
+
+static bool read_action(struct asker *asker, enum action action, const char *replica) {
+  asker->action = action;
+  if (replica) asker->replica = replica;
+  return !replica || is_plain_name(replica);
+}
+
+static bool read_option(struct asker *asker, int letter, char *value) {
   uint64_t count = 0;
   switch (letter) {
-  case 's': asker->servers = value; return true;
+  case 's': return read_servers(asker, value);
   case 'n': asker->name = value; return is_plain_name(value);
   case 'r': asker->replica = value; return is_plain_name(value);
   case 'i': asker->prefix = value; return is_id(value) && strlen(value) <= MOST_PREFIX_BYTES;
+  case 'c': return asker->has_since = read_count(value, &asker->since);
   case 'a': return read_count(value, &asker->number);
-  case 'm': return read_count(value, &asker->copies) && asker->copies;
   case 'v': return asker->shows_numbers = true;
+  case 'l': return asker->is_linearizable = true;
+  case 'q': return asker->demands_rows = true;
+  case 'd': return asker->loads = true;
+  case 'x': asker->inbox = value; return strlen(value) < MOST_SUBJECT_BYTES / 2;
+  case 'o': return read_login_option(value, &asker->login);
   case 'w': asker->wait = 0; return read_count(value, &count) && (asker->wait = (int64_t)count) >= 0;
+  case 'm': return read_action(asker, ACTION_MAKE_LOG, NULL) && read_count(value, &asker->copies) && asker->copies;
+  case 't': return read_action(asker, ACTION_STATUS, NULL);
+  case 'b': return read_action(asker, ACTION_BACKUP, value);
+  case 'p': return read_action(asker, ACTION_SNAPSHOT, value);
   default: return false;
   }
 }
@@ -196,30 +433,74 @@ static bool choose_prefix(struct asker *asker) {
   return true;
 }
 
+static bool read_environment(struct asker *asker) {
+  const char *servers = getenv("MMDB_SERVERS"), *wrong = read_login_of("MMDB_LOGIN", &asker->login);
+  if (wrong) fprintf(stderr, "mmdb-ask: cannot use the login file of MMDB_LOGIN: %s\n", wrong);
+  asker->servers = strdup(servers ? servers : "nats://127.0.0.1:4222");
+  return !wrong && asker->servers;
+}
+
 static bool read_options(struct asker *asker, int count, char **words) {
   static const struct option names[] = {
-      {"servers", 1, NULL, 's'}, {"name", 1, NULL, 'n'},    {"replica", 1, NULL, 'r'},  {"id", 1, NULL, 'i'}, {"at-least", 1, NULL, 'a'},
-      {"wait", 1, NULL, 'w'},    {"numbers", 0, NULL, 'v'}, {"make-log", 1, NULL, 'm'}, {NULL, 0, NULL, 0},
+      {"servers", 1, NULL, 's'},      {"name", 1, NULL, 'n'},     {"replica", 1, NULL, 'r'},
+      {"id", 1, NULL, 'i'},           {"since", 1, NULL, 'c'},    {"at-least", 1, NULL, 'a'},
+      {"wait", 1, NULL, 'w'},         {"numbers", 0, NULL, 'v'},  {"login", 1, NULL, 'o'},
+      {"linearizable", 0, NULL, 'l'}, {"rows", 0, NULL, 'q'},     {"load", 0, NULL, 'd'},
+      {"inbox", 1, NULL, 'x'},        {"make-log", 1, NULL, 'm'}, {"status", 0, NULL, 't'},
+      {"backup", 1, NULL, 'b'},       {"snapshot", 1, NULL, 'p'}, {NULL, 0, NULL, 0},
   };
-  *asker = (struct asker){.servers = "nats://127.0.0.1:4222", .name = "mmdb", .wait = 30000};
+  *asker = (struct asker){.name = "mmdb", .inbox = "_INBOX", .wait = 30000};
+  if (!read_environment(asker)) return false;
   for (int letter; (letter = getopt_long(count, words, "", names, NULL)) != -1;)
     if (!read_option(asker, letter, optarg)) return false;
-  return optind == count;
+  return optind == count && (!asker->has_since || asker->prefix);
+}
+
+/* Connecting. */
+
+static void on_error(natsConnection *connection, natsSubscription *subscription, natsStatus status, void *closure) {
+  struct asker *asker = closure;
+  (void)connection, (void)subscription;
+  if (status == NATS_NOT_PERMITTED) atomic_store(&asker->is_forbidden, true);
+}
+
+/* Tries to connect until the time is over. A login that the servers refuse is refused again, so it is not tried twice. */
+static bool connect_asker(struct asker *asker) {
+  struct connecting connecting = {.servers = asker->servers, .name = "mmdb-ask", .inbox = asker->inbox, .login = &asker->login};
+  connecting.on_error = on_error;
+  connecting.closure = asker;
+  int64_t until = now() + asker->wait;
+  for (;;) {
+    natsStatus status = connect_to(&asker->connection, &connecting);
+    if (status == NATS_OK) return true;
+    bool may_pass = status == NATS_NO_SERVER || status == NATS_TIMEOUT || status == NATS_IO_ERROR || status == NATS_CONNECTION_CLOSED;
+    if (!may_pass || now() >= until) {
+      fprintf(stderr, "mmdb-ask: cannot connect: %s\n", natsStatus_GetText(status));
+      return false;
+    }
+    nats_Sleep(PAUSE);
+  }
+}
+
+static bool act(struct asker *asker) {
+  switch (asker->action) {
+  case ACTION_MAKE_LOG: return make_log(asker);
+  case ACTION_STATUS: return print_status(asker);
+  case ACTION_BACKUP: return command(asker, "backup");
+  case ACTION_SNAPSHOT: return command(asker, "snapshot");
+  default: return take_script(asker);
+  }
 }
 
 int main(int count, char **words) {
-  struct asker asker;
+  static struct asker asker;
   if (!read_options(&asker, count, words) || !choose_prefix(&asker)) {
     fputs(usage, stderr);
     return 2;
   }
-  natsStatus status = connect_to(&asker.connection, asker.servers, "mmdb-ask");
-  if (status != NATS_OK) {
-    fprintf(stderr, "mmdb-ask: cannot use %s: %s\n", asker.servers, natsStatus_GetText(status));
-    return 1;
-  }
-  bool is_done = asker.copies ? make_log(&asker) : take_script(&asker);
+  bool is_done = connect_asker(&asker) && act(&asker);
   natsConnection_Destroy(asker.connection);
   nats_Close();
+  free(asker.servers);
   return is_done && !asker.was_refused ? 0 : 1;
 }

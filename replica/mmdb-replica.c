@@ -1,8 +1,8 @@
 /*
- * A replica: a database that follows a log and answers what it is asked. docs/REPLICAS.md says what replicas promise.
+ * A replica: a database that follows a log and answers questions about it. docs/REPLICAS.md says what replicas promise.
  *
- * One thread, that of main, holds the database. It takes events from a queue, to which the threads of libnats, the follower and the thread
- * that waits for signals add them. A replica lives until it fails, and then begins anew.
+ * One thread, that of main, owns the database. It takes events from a queue, to which the threads of libnats, the follower and the thread
+ * that waits for signals add them.
  */
 #include "replica.h"
 #include <getopt.h>
@@ -12,12 +12,23 @@
 #include <stdio.h>
 #include <stdlib.h>
 #include <string.h>
+#include <sys/stat.h>
+#include <time.h>
 
-/* Milliseconds before another life, where one could not begin. */
-enum { PAUSE = 1000, REPLY_HEAD_BYTES = 1024 };
+static const char usage[] =
+    "usage: mmdb-replica --replica NAME [--servers URL,..] [--name LOG] [--snapshots FOLDER] [--snapshot-every N] [--keep N]\n"
+    "                    [--sum-every N] [--lost-after MILLISECONDS] [--inbox PREFIX] [--login FILE] [--answer-login FILE]\n";
 
-static const char usage[] = "usage: mmdb-replica [--servers URL,..] [--name LOG] --replica NAME [--snapshots FOLDER] [--snapshot-every N] [--keep N]\n"
-                            "                    [--sum-every N] [--lost-after MILLISECONDS]\n";
+/* Reports. */
+
+static void tell_text(const struct replica *replica, const char *text) {
+  struct timespec time;
+  struct tm parts;
+  char stamp[40] = "";
+  clock_gettime(CLOCK_REALTIME, &time);
+  if (gmtime_r(&time.tv_sec, &parts)) strftime(stamp, sizeof stamp, "%Y-%m-%dT%H:%M:%S", &parts);
+  fprintf(stderr, "%s.%03ldZ mmdb-replica %s: %s\n", stamp, time.tv_nsec / 1000000, replica->options.replica, text);
+}
 
 void tell(const struct replica *replica, const char *form, ...) {
   char text[512];
@@ -25,54 +36,44 @@ void tell(const struct replica *replica, const char *form, ...) {
   va_start(values, form);
   vsnprintf(text, sizeof text, form, values);
   va_end(values);
-  fprintf(stderr, "mmdb-replica %s: %s\n", replica->options.replica, text);
+  tell_text(replica, text);
 }
 
-/* From other threads to the queue. */
-
-static void on_request(struct queue *queue, enum event_kind kind, natsMsg *message) {
-  if (!queue_add(queue, (struct event){.kind = kind, .message = message})) natsMsg_Destroy(message);
+void tell_once(struct replica *replica, const char *form, ...) {
+  char text[MOST_WHY_BYTES];
+  va_list values;
+  va_start(values, form);
+  vsnprintf(text, sizeof text, form, values);
+  va_end(values);
+  if (!strcmp(replica->trouble, text)) return;
+  memcpy(replica->trouble, text, sizeof text);
+  tell_text(replica, text);
 }
 
-static void on_question_message(natsConnection *connection, natsSubscription *subscription, natsMsg *message, void *queue) {
-  (void)connection, (void)subscription;
-  on_request(queue, EVENT_QUESTION, message);
+void alarm_all(struct replica *replica, const char *form, ...) {
+  char text[512], subject[MOST_SUBJECT_BYTES], named[sizeof text + MOST_NAME_BYTES + 3];
+  va_list values;
+  va_start(values, form);
+  vsnprintf(text, sizeof text, form, values);
+  va_end(values);
+  tell_text(replica, text);
+  snprintf(named, sizeof named, "%s: %s", replica->options.replica, text);
+  write_subject(subject, replica->options.name, "alarm", NULL);
+  if (is_connected(replica->answers.connection)) natsConnection_PublishString(replica->answers.connection, subject, named);
 }
 
-static void on_change_message(natsConnection *connection, natsSubscription *subscription, natsMsg *message, void *queue) {
-  (void)connection, (void)subscription;
-  on_request(queue, EVENT_CHANGE, message);
-}
+/* Signals. */
 
-static void on_sum_message(natsConnection *connection, natsSubscription *subscription, natsMsg *message, void *queue) {
-  (void)connection, (void)subscription;
-  on_request(queue, EVENT_SUM, message);
-}
-
-bool subscribe_to(struct replica *replica, natsSubscription **subscription, const char *word, const char *last, bool is_in_group) {
-  char subject[MOST_SUBJECT_BYTES];
-  natsMsgHandler handler = !strcmp(word, "ask") ? on_question_message : !strcmp(word, "change") ? on_change_message : on_sum_message;
-  natsConnection *connection = replica->log.connection;
-  write_subject(subject, replica->options.name, word, last);
-  natsStatus status = is_in_group ? natsConnection_QueueSubscribe(subscription, connection, subject, "replicas", handler, &replica->queue)
-                                  : natsConnection_Subscribe(subscription, connection, subject, handler, &replica->queue);
-  if (status == NATS_OK) return true;
-  tell(replica, "cannot listen to %s: %s", subject, natsStatus_GetText(status));
-  return false;
-}
-
-void unsubscribe_from(natsSubscription **subscription) {
-  if (*subscription) natsSubscription_Unsubscribe(*subscription);
-  natsSubscription_Destroy(*subscription);
-  *subscription = NULL;
+static void fill_signals(sigset_t *signals) {
+  sigemptyset(signals);
+  sigaddset(signals, SIGINT);
+  sigaddset(signals, SIGTERM);
 }
 
 static void *wait_for_signal(void *closure) {
   sigset_t signals;
   int number;
-  sigemptyset(&signals);
-  sigaddset(&signals, SIGINT);
-  sigaddset(&signals, SIGTERM);
+  fill_signals(&signals);
   while (sigwait(&signals, &number) == 0) queue_add(closure, (struct event){.kind = EVENT_STOP});
   return NULL;
 }
@@ -81,131 +82,50 @@ static void *wait_for_signal(void *closure) {
 static bool start_signal_thread(struct queue *queue) {
   sigset_t signals;
   pthread_t thread;
-  sigemptyset(&signals);
-  sigaddset(&signals, SIGINT);
-  sigaddset(&signals, SIGTERM);
+  fill_signals(&signals);
   return !pthread_sigmask(SIG_BLOCK, &signals, NULL) && !pthread_create(&thread, NULL, wait_for_signal, queue) && !pthread_detach(thread);
 }
 
-/* Messages of the log. */
-
-static void fail(struct replica *replica, const char *why) {
-  tell(replica, "%s at number %" PRIu64 ": it starts anew", why, replica->database.applied);
-  replica->has_failed = true;
-}
-
-static void become_ready(struct replica *replica) {
-  if (replica->is_ready || replica->database.applied < replica->target) return;
-  replica->is_ready = subscribe_to(replica, &replica->questions, "ask", NULL, true) && subscribe_to(replica, &replica->changes, "change", NULL, true);
-  if (replica->is_ready) tell(replica, "is ready at number %" PRIu64, replica->database.applied);
-  else fail(replica, "requests cannot reach it");
-}
-
-static void write_snapshot(struct replica *replica) {
-  uint64_t applied = replica->database.applied, every = replica->options.snapshot_every, keep = replica->options.keep;
-  if (!every || !replica->is_ready || applied - replica->snapshot_at < every) return;
-  replica->snapshot_at = applied;
-  if (!snapshot_write(&replica->snapshots, &replica->database, replica->log.made) || !keep || applied <= keep) return;
-  natsStatus status = log_drop(&replica->log, applied - keep + 1);
-  if (status != NATS_OK) tell(replica, "old messages were not dropped: %s", natsStatus_GetText(status));
-}
-
-static void on_message(struct replica *replica, const struct event *event) {
-  bool is_wanted = replica->is_alive && !replica->has_failed;
-  bool is_done = is_wanted && database_apply(&replica->database, event->number, header_of(event->message, ID_HEADER), body_of(event->message));
-  natsMsg_Destroy(event->message);
-  if (!is_wanted) return;
-  if (!is_done || !publish_sum(replica)) {
-    fail(replica, "memory was refused");
-    return;
-  }
-  answer_applied(replica);
-  become_ready(replica);
-  write_snapshot(replica);
-}
-
-/* A life. */
-
-/*
- * Whether the rows may be older than they may be; or, while it is not ready, the log has been silent for so long. The number is read behind
- * the time, so it is of that time or later. A follower that waits for room in the queue asks nothing, and the log is not silent then.
- */
-static bool is_lost(struct replica *replica) {
-  int64_t heard = atomic_load(&replica->log.heard), oldest = clock_now() - replica->options.lost_after;
-  if (atomic_load(&replica->log.last) <= replica->database.applied) replica->fresh = heard;
-  return replica->is_ready ? replica->fresh < oldest : heard < oldest && !queue_has_messages(&replica->queue);
-}
-
-/* Tells why a life cannot begin, once for all tries in a row that have the same reason. */
-static bool cannot_begin(struct replica *replica, const char *why) {
-  if (replica->trouble != why) tell(replica, "cannot begin yet: %s", why);
-  replica->trouble = why;
-  return false;
-}
-
-static bool begin(struct replica *replica) {
-  struct extent extent;
-  natsStatus status = log_extent(&replica->log, &extent);
-  replica->has_failed = false;
-  if (status == NATS_NOT_FOUND) return cannot_begin(replica, "there is no such log");
-  if (status != NATS_OK) return cannot_begin(replica, "the log does not answer");
-  if (atomic_load(&replica->log.heard) < clock_now() - replica->options.lost_after) return cannot_begin(replica, "most servers are gone");
-  enum loaded loaded = snapshot_load(&replica->snapshots, &replica->database, &extent);
-  if (loaded == LOADED_MEMORY) return cannot_begin(replica, "memory is refused");
-  if (loaded == LOADED_NONE) return cannot_begin(replica, "old messages were dropped from the log, and no snapshot leads to its first one");
-  replica->is_alive = true;
-  replica->trouble = NULL;
-  replica->target = extent.last;
-  replica->fresh = atomic_load(&replica->log.heard);
-  replica->snapshot_at = replica->database.applied;
-  tell(replica, "begins at number %" PRIu64 ", and the log ends at %" PRIu64, replica->database.applied, extent.last);
-  return log_follow(&replica->log, replica->database.applied + 1, extent.made);
-}
-
-static void end(struct replica *replica) {
-  replica->is_ready = false;
-  unsubscribe_from(&replica->questions);
-  unsubscribe_from(&replica->changes);
-  answer_all_unready(replica);
-  log_unfollow(&replica->log);
-  if (replica->is_alive) database_close(&replica->database);
-  replica->is_alive = false;
-}
+/* Events. */
 
 static void handle(struct replica *replica, const struct event *event) {
   switch (event->kind) {
   case EVENT_MESSAGE: on_message(replica, event); break;
-  case EVENT_MISSING: fail(replica, "the log does not have the next message"); break;
+  case EVENT_MISSING:
+    if (replica->has_rows && replica->log.is_followed) on_missing(replica, event->why);
+    break;
   case EVENT_PUBLISHED: on_published(replica, event); break;
-  case EVENT_QUESTION: on_question(replica, event->message); break;
-  case EVENT_CHANGE: on_change(replica, event->message); break;
+  case EVENT_QUESTION: on_question(replica, event); break;
+  case EVENT_CHANGE: on_change(replica, event); break;
+  case EVENT_STATUS: on_status(replica, event->message); break;
+  case EVENT_BACKUP: on_backup(replica, event->message); break;
+  case EVENT_SNAPSHOT: on_snapshot(replica, event->message); break;
   case EVENT_SUM: on_sum(replica, event->message); break;
+  case EVENT_CLOSED: on_closed(replica); break;
   case EVENT_STOP: replica->is_stopped = true; break;
   }
 }
 
-/* Handles events until a time, or until it is stopped or its life is over. */
-static void handle_until(struct replica *replica, int64_t until) {
-  int64_t tick = clock_now() + TICK;
-  while (!replica->is_stopped && !(replica->is_alive && replica->has_failed) && clock_now() < until) {
-    struct event event;
-    bool has_event = queue_take(&replica->queue, tick < until ? tick : until, &event);
-    if (replica->is_alive && is_lost(replica)) fail(replica, "it has been behind the log for too long");
-    if (replica->has_failed) replica->is_ready = false;
-    if (has_event) handle(replica, &event);
-    if (clock_now() < tick) continue;
-    answer_late(replica, clock_now());
-    tick = clock_now() + TICK;
-  }
+/* Returns when there is something to do without an event. */
+static int64_t next_time(const struct replica *replica, int64_t tick) {
+  int64_t next = tick < replica->next_try ? tick : replica->next_try, flush = flush_time(replica);
+  return flush < next ? flush : next;
 }
 
 static void live(struct replica *replica) {
+  int64_t tick = clock_now();
   while (!replica->is_stopped) {
-    bool has_begun = begin(replica);
-    if (has_begun) become_ready(replica);
-    if (has_begun) handle_until(replica, INT64_MAX);
-    end(replica);
-    if (!has_begun) handle_until(replica, clock_now() + PAUSE);
+    struct event event;
+    bool has_event = queue_take(&replica->queue, next_time(replica, tick), &event);
+    member_set_busy(&replica->member, true);
+    if (has_event) handle(replica, &event);
+    flush_changes(replica);
+    if (clock_now() >= replica->next_try) advance(replica);
+    if (clock_now() >= tick) {
+      on_tick(replica);
+      tick = clock_now() + TICK;
+    }
+    member_set_busy(&replica->member, false);
   }
 }
 
@@ -218,13 +138,36 @@ static bool read_count(const char *text, uint64_t *count) {
   return !*rest && *count <= INT64_MAX;
 }
 
-static bool read_option(struct options *options, int letter, const char *value) {
+/* Whether this can be the prefix of inboxes: words with dots between them, none of them a word of the servers. */
+static bool is_inbox_prefix(const char *prefix) {
+  size_t length = strspn(prefix, "abcdefghijklmnopqrstuvwxyzABCDEFGHIJKLMNOPQRSTUVWXYZ0123456789_-.");
+  return length && !prefix[length] && length < MOST_SUBJECT_BYTES && prefix[0] != '.' && prefix[length - 1] != '.' && !strstr(prefix, "..");
+}
+
+static bool read_login_option(const char *path, struct login *login) {
+  const char *wrong = read_login(path, login);
+  if (wrong) fprintf(stderr, "mmdb-replica: cannot use the login file %s: %s\n", path, wrong);
+  return !wrong;
+}
+
+/* Copies the addresses, and then hides passwords in the argument. */
+static bool read_servers(struct options *options, char *value) {
+  free(options->servers);
+  options->servers = strdup(value);
+  hide_passwords(value);
+  return options->servers;
+}
+
+static bool read_option(struct options *options, int letter, char *value) {
   uint64_t count = 0;
   switch (letter) {
-  case 's': options->servers = value; return true;
+  case 's': return read_servers(options, value);
   case 'n': options->name = value; return is_plain_name(value);
   case 'r': options->replica = value; return is_plain_name(value);
   case 'f': options->folder = value; return true;
+  case 'i': options->inbox = value; return is_inbox_prefix(value);
+  case 'o': return read_login_option(value, &options->login);
+  case 'a': return read_login_option(value, &options->answer_login);
   case 'e': return read_count(value, &options->snapshot_every);
   case 'k': return read_count(value, &options->keep);
   case 'u': return read_count(value, &options->sum_every);
@@ -233,44 +176,60 @@ static bool read_option(struct options *options, int letter, const char *value) 
   }
 }
 
+/* What the environment says, which options override. */
+static bool read_environment(struct options *options) {
+  const char *servers = getenv("MMDB_SERVERS"), *wrong = read_login_of("MMDB_LOGIN", &options->login);
+  if (!wrong) wrong = read_login_of("MMDB_ANSWER_LOGIN", &options->answer_login);
+  if (wrong) fprintf(stderr, "mmdb-replica: cannot use a login file of the environment: %s\n", wrong);
+  options->servers = strdup(servers ? servers : "nats://127.0.0.1:4222");
+  return !wrong && options->servers;
+}
+
 static bool read_options(struct options *options, int count, char **words) {
   static const struct option names[] = {
-      {"servers", 1, NULL, 's'}, {"name", 1, NULL, 'n'},      {"replica", 1, NULL, 'r'},    {"snapshots", 1, NULL, 'f'}, {"snapshot-every", 1, NULL, 'e'},
-      {"keep", 1, NULL, 'k'},    {"sum-every", 1, NULL, 'u'}, {"lost-after", 1, NULL, 'l'}, {NULL, 0, NULL, 0},
+      {"servers", 1, NULL, 's'},        {"name", 1, NULL, 'n'},  {"replica", 1, NULL, 'r'},      {"snapshots", 1, NULL, 'f'},
+      {"snapshot-every", 1, NULL, 'e'}, {"keep", 1, NULL, 'k'},  {"sum-every", 1, NULL, 'u'},    {"lost-after", 1, NULL, 'l'},
+      {"inbox", 1, NULL, 'i'},          {"login", 1, NULL, 'o'}, {"answer-login", 1, NULL, 'a'}, {NULL, 0, NULL, 0},
   };
-  *options = (struct options){.servers = "nats://127.0.0.1:4222", .name = "mmdb", .sum_every = 10000, .lost_after = 15000};
-  for (int letter; (letter = getopt_long(count, words, "", names, NULL)) != -1;)
+  bool has_answer_login = getenv("MMDB_ANSWER_LOGIN");
+  *options = (struct options){.name = "mmdb", .inbox = "_INBOX", .sum_every = 10000, .lost_after = 15000};
+  if (!read_environment(options)) return false;
+  for (int letter; (letter = getopt_long(count, words, "", names, NULL)) != -1;) {
     if (!read_option(options, letter, optarg)) return false;
+    has_answer_login = has_answer_login || letter == 'a';
+  }
+  if (!has_answer_login) options->answer_login = options->login;
   return optind == count && options->replica && (options->folder || (!options->snapshot_every && !options->keep));
 }
 
 static bool open_replica(struct replica *replica) {
   const struct options *options = &replica->options;
-  waiters_open(&replica->untaken);
   waiters_open(&replica->waiting);
   replica->snapshots = (struct snapshots){.folder = options->folder, .log = options->name, .replica = options->replica};
-  if (!queue_open(&replica->queue) || !start_signal_thread(&replica->queue)) return false;
-  natsStatus status = log_open(&replica->log, options->servers, options->name, options->replica, &replica->queue);
-  if (status != NATS_OK) {
-    tell(replica, "cannot use %s: %s", options->servers, natsStatus_GetText(status));
-    return false;
-  }
-  replica->reply_bytes = (size_t)natsConnection_GetMaxPayload(replica->log.connection) - REPLY_HEAD_BYTES;
-  return subscribe_to(replica, &replica->own_questions, "ask", options->replica, false) && subscribe_to(replica, &replica->all_sums, "sum", NULL, false);
+  replica->answers =
+      (struct answers){.queue = &replica->queue, .name = options->name, .replica = options->replica, .inbox = options->inbox};
+  replica->started = clock_now();
+  replica->pause = PAUSE;
+  replica->distrust_after = UINT64_MAX;
+  return queue_open(&replica->queue) && start_signal_thread(&replica->queue) && member_open(&replica->member, &replica->answers);
 }
 
 int main(int count, char **words) {
-  static struct replica replica;
-  if (!read_options(&replica.options, count, words)) {
+  struct replica *replica = calloc(1, sizeof *replica);
+  if (!replica) return 1;
+  if (!read_options(&replica->options, count, words)) {
     fputs(usage, stderr);
     return 2;
   }
-  if (!open_replica(&replica)) return 1;
-  live(&replica);
-  tell(&replica, "ends");
-  unsubscribe_from(&replica.own_questions);
-  unsubscribe_from(&replica.all_sums);
-  log_close(&replica.log);
-  nats_Close();
+  umask(S_IRWXG | S_IRWXO);
+  if (!open_replica(replica)) return 1;
+  live(replica);
+  end_life(replica);
+  member_close(&replica->member);
+  nats_CloseAndWait(CALL_WAIT);
+  tell(replica, "ends");
+  queue_close(&replica->queue);
+  free(replica->options.servers);
+  free(replica);
   return 0;
 }

@@ -1,14 +1,15 @@
 #include "recent.h"
-#include "bytes.h"
 #include <stdlib.h>
 #include <string.h>
+#include <sys/random.h>
 
 enum { BUCKETS = 2 * MOST_RECENT };
 #define NONE UINT32_MAX
 
 bool recents_open(struct recents *recents) {
   *recents = (struct recents){.ring = calloc(MOST_RECENT, sizeof *recents->ring), .buckets = malloc(BUCKETS * sizeof *recents->buckets)};
-  if (!recents->ring || !recents->buckets) {
+  bool has_key = getrandom(recents->key, sizeof recents->key, 0) == sizeof recents->key;
+  if (!has_key || !recents->ring || !recents->buckets) {
     recents_close(recents);
     return false;
   }
@@ -23,7 +24,9 @@ void recents_close(struct recents *recents) {
   *recents = (struct recents){.ring = NULL};
 }
 
-static uint32_t *bucket_of(const struct recents *recents, const char *id) { return &recents->buckets[sum_on(SUM_OF_NOTHING, id, strlen(id)) % BUCKETS]; }
+static uint32_t *bucket_of(const struct recents *recents, const char *id) {
+  return &recents->buckets[keyed_hash(recents->key, id, strlen(id)) % BUCKETS];
+}
 
 const struct recent *recents_find(const struct recents *recents, const char *id) {
   for (uint32_t at = *bucket_of(recents, id); at != NONE; at = recents->ring[at].next)
@@ -39,6 +42,7 @@ static void drop_oldest(struct recents *recents) {
   while (*link != recents->first) link = &recents->ring[*link].next;
   *link = oldest->next;
   recents->bytes -= bytes_of(oldest);
+  if (oldest->sequence > recents->forgotten) recents->forgotten = oldest->sequence;
   recents->first = (recents->first + 1) % MOST_RECENT;
   recents->count--;
   free(oldest->block);
@@ -49,7 +53,7 @@ bool recents_add(struct recents *recents, struct recent recent) {
   uint8_t *block = malloc(id_bytes + recent.replies.length);
   if (!block) return false;
   memcpy(block, recent.id, id_bytes);
-  memcpy(block + id_bytes, recent.replies.at, recent.replies.length);
+  if (recent.replies.length) memcpy(block + id_bytes, recent.replies.at, recent.replies.length);
   recent.block = block;
   recent.id = (const char *)block;
   recent.replies.at = block + id_bytes;
@@ -63,4 +67,6 @@ bool recents_add(struct recents *recents, struct recent recent) {
   return true;
 }
 
-const struct recent *recents_at(const struct recents *recents, size_t place) { return &recents->ring[(recents->first + place) % MOST_RECENT]; }
+const struct recent *recents_at(const struct recents *recents, size_t place) {
+  return &recents->ring[(recents->first + place) % MOST_RECENT];
+}

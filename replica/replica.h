@@ -1,24 +1,79 @@
-/* A replica: its database, its log, and those who wait for an answer. */
+/* A replica: its database, its log, and the requests that wait for an answer. */
 #ifndef REPLICA_H
 #define REPLICA_H
 
+#include "entry.h"
 #include "log.h"
 #include "sums.h"
 
-/* Milliseconds that a question waits for the number that it demands, and a change for the log and for its turn. */
-enum { ANSWER_WAIT = 2000, CHANGE_WAIT = 2000, TICK = 100 };
+/* Milliseconds: between two looks at the time; that a question waits for the number it demands; that a change waits for the log and for its
+ * turn; that a client waits unless it says otherwise, and at most; that work may take until the replica leaves the group; between two
+ * tries, at first and at most. */
+enum {
+  TICK = 100,
+  ANSWER_WAIT = 2000,
+  CHANGE_WAIT = 2000,
+  CLIENT_WAIT = 2500,
+  MOST_CLIENT_WAIT = 60000,
+  MOST_BUSY = 500,
+  PAUSE = 1000,
+  LONGEST_PAUSE = 30000
+};
+
+/* Changes gather into a message until it has this many bytes, or for a millisecond while another one is on its way. */
+enum { GATHERED_BYTES = 64 * 1024, GATHER_WAIT = 1, MOST_BATCHES = 64 };
+
+enum { LEAST_PAYLOAD = 8192, REPLY_HEAD_BYTES = 4096, MOST_INBOX_BYTES = 256, MOST_WHY_BYTES = 200 };
 
 struct options {
-  const char *servers, *name, *replica, *folder;
+  char *servers;
+  const char *name, *replica, *folder, *inbox;
+  struct login login, answer_login;
   uint64_t sum_every, snapshot_every, keep; /* 0: never, never, all */
   int64_t lost_after;
 };
 
-/* A request that is answered later: once the log took its message, or once a number is applied. */
+/* The state of a replica, as NAME.status reports it. */
+enum state {
+  STATE_UNCONNECTED, /* it has no connections */
+  STATE_LOADING,     /* it has no rows, and looks for a way to begin */
+  STATE_LATE,        /* it follows the log, and is not in the group */
+  STATE_READY,       /* it follows the log, and is in the group */
+  STATE_HALTED,      /* it has rows, and the log does not lead on from them */
+  STATE_ORPHANED     /* it has rows of a log that is gone: it answers questions as such */
+};
+
+/* What a subscription adds to the queue. */
+struct intake {
+  struct answers *answers;
+  enum event_kind kind;
+};
+
+/* The connection for requests, and what its threads need to know. Only main changes it, while there is no connection. */
+struct answers {
+  natsConnection *connection;
+  struct queue *queue;
+  const char *name, *replica, *inbox;
+  natsSubscription *named, *status, *backup, *snapshot, *sums;
+  struct intake intakes[EVENT_STOP];
+  atomic_bool is_stuck; /* a write failed though there was a server */
+};
+
+/* The membership in the group of replicas that share requests. The guard takes a replica out that is busy for too long. */
+struct member {
+  pthread_mutex_t mutex;
+  pthread_t guard;
+  struct answers *answers;
+  natsSubscription *questions, *changes;
+  atomic_llong busy_since; /* 0: it waits for events */
+  atomic_bool is_ending;
+  bool is_guarded;
+};
+
+/* A request that is answered later: when the log took its message, or when a number is applied. */
 struct waiter {
   struct waiter *next, *before;
   natsMsg *request;
-  natsMsg *published; /* the message of a change that the log has not yet taken. It is not the waiter's, and only compared */
   uint64_t number;
   int64_t until;
   bool is_change;
@@ -29,48 +84,122 @@ struct waiters {
   struct waiter first;
 };
 
+/* A message with changes: open while they gather, and published then. The message is only compared with the one of EVENT_PUBLISHED. */
+struct batch {
+  struct batch *next;
+  natsMsg *published;
+  struct bytes body;
+  struct waiters waiters;
+  uint64_t checked; /* the number at which the first of its ids was checked */
+  struct digest chain;
+  int64_t since;
+};
+
 struct replica {
   struct options options;
   struct queue queue;
   struct log log;
+  struct answers answers;
+  struct member member;
   struct database database;
   struct snapshots snapshots;
   struct sums sums;
-  struct waiters untaken, waiting;       /* changes that the log has not yet taken; those that wait for a number, which ascends */
-  natsSubscription *questions, *changes; /* those that go to any replica: while it is ready */
-  natsSubscription *own_questions, *all_sums;
-  uint64_t target;      /* ready once this number is applied */
-  int64_t fresh;        /* a time whose messages are all applied */
-  uint64_t snapshot_at; /* the number of the last snapshot */
-  size_t reply_bytes;   /* the most bytes of an answer */
-  size_t in_flight;     /* how many messages are published, and not yet taken or refused */
-  const char *trouble;  /* why no life could begin, where that was told last */
-  bool is_alive, is_ready, has_failed, is_stopped;
+  struct batch *open, *published; /* the batch that gathers, or NULL; those that the log has not yet taken */
+  size_t published_count;
+  struct waiters waiting; /* those that wait for a number, which ascends */
+  natsMsg *pending;       /* a message of the log that an allocation failed for */
+  enum state state;
+  enum missing why_halted;
+  bool has_rows, is_stopped, is_doubted, is_grounded, has_distrusted;
+  bool is_away;             /* it left the group to write a snapshot, which nobody needs to know */
+  struct digest distrusted; /* the chain hash of a snapshot that another replica contradicted */
+  int64_t fresh;            /* a time whose messages are all applied */
+  int64_t next_try, pause;
+  uint64_t begun_at;        /* the number of the snapshot that it began from, or 0 */
+  uint64_t snapshot_at;     /* the number of the last snapshot that was begun */
+  uint64_t written, agreed; /* the numbers of the last snapshot that was read back; of the last sum that others had too */
+  uint64_t distrust_after;  /* own snapshots past this number are not loaded: their rows may be wrong */
+  uint64_t lives;
+  int64_t started;
+  char trouble[MOST_WHY_BYTES]; /* what was reported last, so that tries in a row report a cause once */
 };
 
-/* Tells on standard error, behind the name of the replica. */
+/* Reports on standard error, with the time and the name of the replica. */
 void tell(const struct replica *replica, const char *form, ...) __attribute__((format(printf, 2, 3)));
 
-/* Subscribes to a subject, as one of the group of replicas or alone. What comes is added to the queue. */
-bool subscribe_to(struct replica *replica, natsSubscription **subscription, const char *word, const char *last, bool is_in_group);
+/* Reports a cause unless it was reported last. */
+void tell_once(struct replica *replica, const char *form, ...) __attribute__((format(printf, 2, 3)));
+
+/* Reports, and publishes on NAME.alarm. */
+void alarm_all(struct replica *replica, const char *form, ...) __attribute__((format(printf, 2, 3)));
+
+/* answers.c: the connection for requests. */
+natsStatus answers_open(struct answers *answers, const struct connecting *connecting);
+bool answers_subscribe(struct answers *answers);
+void answers_close(struct answers *answers);
+natsStatus answers_subscribe_group(struct answers *answers, natsSubscription **subscription, bool is_for_changes);
 void unsubscribe_from(natsSubscription **subscription);
+size_t answers_payload(const struct answers *answers);
+
+/* An answer. number is that of the script or of the database; log, chain and columns may be NULL. */
+struct reply {
+  const char *status, *log, *columns;
+  uint64_t number, chain_number;
+  const struct digest *chain;
+  struct text body;
+};
+
+/* Publishes an answer. The request stays the caller's. An answer that cannot be sent is lost: whoever asked asks again. */
+void answers_send(struct answers *answers, natsMsg *request, const struct reply *reply);
+
+/* member.c */
+bool member_open(struct member *member, struct answers *answers);
+void member_close(struct member *member);
+bool member_join(struct member *member, bool takes_changes);
+void member_leave(struct member *member);
+bool member_is_in(struct member *member);
+void member_set_busy(struct member *member, bool is_busy);
+
+/* requests.c. Each takes over the event's message. */
+void on_question(struct replica *replica, const struct event *event);
+void on_change(struct replica *replica, const struct event *event);
+void on_published(struct replica *replica, const struct event *event);
+void reply_bare(struct replica *replica, natsMsg *request, const char *status);
+void reply_text(struct replica *replica, natsMsg *request, const char *status, struct text body);
 
 void waiters_open(struct waiters *waiters);
 
-/* Each takes over the event's message. */
-void on_question(struct replica *replica, natsMsg *request);
-void on_change(struct replica *replica, natsMsg *request);
-void on_published(struct replica *replica, const struct event *event);
+/* Publishes the batch that gathers, if it is time. */
+void flush_changes(struct replica *replica);
 
-/* Answers those who wait for a number that is applied. */
+/* Returns when the batch that gathers is to be published: INT64_MAX if there is none. */
+int64_t flush_time(const struct replica *replica);
+
+/* Answers the requests that wait for a number that is applied. */
 void answer_applied(struct replica *replica);
 
-/* Answers those whose time is over; all, where the replica starts anew. */
+/* Answers the requests whose time is over; all of them, with a status. */
 void answer_late(struct replica *replica, int64_t now);
-void answer_all_unready(struct replica *replica);
+void answer_all(struct replica *replica, const char *status);
 
-/* Publishes a sum over the database, where the number that is applied is an agreed one; takes one from another replica. False where memory is refused. */
-bool publish_sum(struct replica *replica);
+/* compare.c: publishes a sum over the database, if the number that is applied is an agreed one; takes one from another replica. */
+void publish_sum(struct replica *replica);
 void on_sum(struct replica *replica, natsMsg *message);
+
+/* status.c */
+void on_status(struct replica *replica, natsMsg *request);
+void on_backup(struct replica *replica, natsMsg *request);
+
+/* life.c: what a replica does with its rows. */
+void on_message(struct replica *replica, const struct event *event);
+void on_missing(struct replica *replica, enum missing why);
+void on_closed(struct replica *replica);
+void on_snapshot(struct replica *replica, natsMsg *request);
+void on_tick(struct replica *replica);
+void advance(struct replica *replica);
+void end_life(struct replica *replica);
+
+/* Another replica has other rows, and is right: drops the rows, and begins anew. */
+void drop_rows(struct replica *replica, const char *why);
 
 #endif

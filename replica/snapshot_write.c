@@ -1,22 +1,28 @@
 #include "snapshot.h"
+#include <dirent.h>
 #include <errno.h>
 #include <fcntl.h>
 #include <inttypes.h>
-#include <limits.h>
-#include <stdio.h>
 #include <stdlib.h>
 #include <string.h>
+#include <sys/stat.h>
+#include <time.h>
 #include <unistd.h>
 
-/* A file that is written, with the sum of what was written. */
+/* Seconds after which a file that was never finished is removed. */
+enum { OLDEST_PART = 3600 };
+
+static const char part_ending[] = ".part";
+
+/* A file that is written, with the digest of what was written. */
 struct writer {
   FILE *file;
-  uint64_t sum;
+  struct digester digester;
   bool has_failed;
 };
 
 static void put(struct writer *writer, const void *from, size_t length) {
-  writer->sum = sum_on(writer->sum, from, length);
+  digester_add(&writer->digester, from, length);
   if (fwrite(from, 1, length, writer->file) != length) writer->has_failed = true;
 }
 
@@ -27,24 +33,32 @@ static void put_line(struct writer *writer, struct text line) {
   put_words(writer, "\n");
 }
 
-static void put_head(struct writer *writer, const struct snapshots *snapshots, int64_t made, uint64_t applied, uint64_t sum) {
-  char head[256];
-  snprintf(head, sizeof head, "-- mmdb snapshot 1\n-- log %s %" PRId64 "\n-- sequence %" PRIu64 "\n-- sum %016" PRIx64 "\n", snapshots->log, made, applied,
-           sum);
+static void put_head(struct writer *writer, const struct snapshots *snapshots, const struct database *database, const char *identity,
+                     const struct digest *sum) {
+  char head[512], before[DIGEST_TEXT_BYTES], chain[DIGEST_TEXT_BYTES], rows[DIGEST_TEXT_BYTES];
+  write_digest(before, &database->before);
+  write_digest(chain, &database->chain);
+  write_digest(rows, sum);
+  snprintf(head, sizeof head, "-- mmdb snapshot %d\n-- log %s %s\n-- sequence %" PRIu64 "\n", LOG_FORMAT, snapshots->log, identity,
+           database->applied);
+  put_words(writer, head);
+  snprintf(head, sizeof head, "-- before %s\n-- chain %s\n-- forgotten %" PRIu64 "\n-- replica %s\n-- sum %s\n", before, chain,
+           database->recents.forgotten, snapshots->replica, rows);
   put_words(writer, head);
 }
 
 static void put_recent(struct writer *writer, const struct recent *recent) {
-  char head[MOST_ID_BYTES + 80];
+  char head[MOST_ID_BYTES + 112], digest[DIGEST_TEXT_BYTES];
   struct text rest = recent->replies, line;
   size_t lines = 0;
   while (next_line(&rest, &line)) lines++;
-  snprintf(head, sizeof head, "-- id %s %" PRIu64 " %016" PRIx64 " %d %zu\n", recent->id, recent->sequence, recent->sum, (int)recent->outcome, lines);
+  write_digest(digest, &recent->digest);
+  snprintf(head, sizeof head, "-- id %s %" PRIu64 " %s %d %zu\n", recent->id, recent->sequence, digest, (int)recent->outcome, lines);
   put_words(writer, head);
   for (rest = recent->replies; next_line(&rest, &line); put_line(writer, line)) put_words(writer, "-- > ");
 }
 
-/* Puts rows, as SCAN tells them, into as few lines of INSERT as they fit in. */
+/* Puts rows, as SCAN returns them, into as few lines of INSERT as they fit in. */
 static void put_rows(struct writer *writer, const char *name, struct text rows) {
   char insert[MOST_NAME_BYTES + 9];
   int before = snprintf(insert, sizeof insert, "INSERT %s ", name);
@@ -81,25 +95,35 @@ static bool put_database(struct writer *writer, struct database *database) {
     is_done = database_text(database, scan, rows);
     if (is_done) put_rows(writer, name, (struct text){rows->at, rows->length});
   }
-  for (size_t i = 0; i < database->standing_count; i++) put_line(writer, (struct text){database->standing[i].line.at, database->standing[i].line.length});
+  for (size_t i = 0; i < database->standing_count; i++)
+    put_line(writer, (struct text){database->standing[i].line.at, database->standing[i].line.length});
   bytes_free(&tables);
   bytes_trim(rows);
   return is_done;
 }
 
-static bool put_all(struct writer *writer, const struct snapshots *snapshots, struct database *database, int64_t made) {
-  uint64_t sum;
-  char end[32];
-  if (!database_sum(database, &sum)) return false;
-  put_head(writer, snapshots, made, database->applied, sum);
+static bool put_all(struct writer *writer, const struct snapshots *snapshots, struct database *database, const char *identity) {
+  struct digest sum, whole;
+  char end[DIGEST_TEXT_BYTES];
+  if (!database_sum(database, ALL_TABLES, &sum)) return false;
+  digester_begin(&writer->digester);
+  put_head(writer, snapshots, database, identity, &sum);
   for (size_t i = 0; i < database->recents.count; i++) put_recent(writer, recents_at(&database->recents, i));
-  if (!put_database(writer, database)) return false;
-  snprintf(end, sizeof end, "-- end %016" PRIx64 "\n", writer->sum);
-  put_words(writer, end);
-  return true;
+  if (!put_database(writer, database) || !digester_end(&writer->digester, &whole)) return false;
+  write_digest(end, &whole);
+  return fprintf(writer->file, "-- end %s\n", end) > 0 && !writer->has_failed;
 }
 
-/* Sees to it that the new name is on the disk too. */
+bool snapshot_put(FILE *file, const struct snapshots *snapshots, struct database *database, const char *identity) {
+  struct writer writer = {.file = file};
+  errno = ENOMEM;
+  if (!digester_open(&writer.digester)) return false;
+  bool is_done = put_all(&writer, snapshots, database, identity);
+  digester_close(&writer.digester);
+  return fflush(file) == 0 && is_done;
+}
+
+/* Flushes the folder, so that the new name is on the disk too. */
 static bool sync_folder(const char *folder) {
   int descriptor = open(folder, O_RDONLY | O_DIRECTORY | O_CLOEXEC);
   if (descriptor < 0) return false;
@@ -107,24 +131,105 @@ static bool sync_folder(const char *folder) {
   return close(descriptor) == 0 && is_done;
 }
 
-static bool write_file(const char *path, const struct snapshots *snapshots, struct database *database, int64_t made) {
-  struct writer writer = {.file = fopen(path, "we"), .sum = SUM_OF_NOTHING};
-  if (!writer.file) return false;
-  bool is_done = put_all(&writer, snapshots, database, made) && !writer.has_failed;
-  is_done = fflush(writer.file) == 0 && fsync(fileno(writer.file)) == 0 && is_done;
-  return fclose(writer.file) == 0 && is_done;
+/* Writes a file that has no name of a snapshot yet. The name is of this process alone, and only its user may read the file. */
+static bool write_part(char path[PATH_MAX], const struct snapshots *snapshots, struct database *database, const char *identity) {
+  int length = snprintf(path, PATH_MAX, "%s/%s-%s-XXXXXX%s", snapshots->folder, snapshots->log, identity, part_ending);
+  errno = ENAMETOOLONG;
+  int descriptor = length > 0 && length < PATH_MAX ? mkostemps(path, sizeof part_ending - 1, O_CLOEXEC) : -1;
+  FILE *file = descriptor < 0 ? NULL : fdopen(descriptor, "w");
+  if (!file) {
+    if (descriptor >= 0) close(descriptor), unlink(path);
+    return false;
+  }
+  bool is_done = snapshot_put(file, snapshots, database, identity) && fsync(descriptor) == 0;
+  /* What was written is read back from the disk, not from memory. */
+  if (is_done) posix_fadvise(descriptor, 0, 0, POSIX_FADV_DONTNEED);
+  is_done = fclose(file) == 0 && is_done;
+  if (!is_done) unlink(path);
+  return is_done;
 }
 
-bool snapshot_write(const struct snapshots *snapshots, struct database *database, int64_t made) {
-  char path[PATH_MAX], temporary[PATH_MAX];
-  int length = snprintf(path, sizeof path, "%s/%s-%020" PRIu64 ".snapshot", snapshots->folder, snapshots->log, database->applied);
-  int other = snprintf(temporary, sizeof temporary, "%s/%s-%s.part", snapshots->folder, snapshots->log, snapshots->replica);
-  if (length < 0 || length >= PATH_MAX || other < 0 || other >= PATH_MAX) return false;
-  if (write_file(temporary, snapshots, database, made) && rename(temporary, path) == 0 && sync_folder(snapshots->folder)) {
-    snapshots_remove_old(snapshots);
-    return true;
+/* Returns why the file does not have what the database has, or NULL. */
+static const char *read_back(const char *path, const struct snapshots *snapshots, const struct database *database, const char *identity) {
+  struct head head;
+  const char *wrong = snapshot_verify(path, snapshots, identity, &head);
+  if (wrong) return wrong;
+  bool is_same = head.number == database->applied && is_same_digest(&head.chain, &database->chain);
+  return is_same ? NULL : "it has another place in the log than was written";
+}
+
+static bool path_of_lost(const struct snapshots *snapshots, const char *identity, uint64_t number, char path[PATH_MAX]) {
+  int length =
+      snprintf(path, PATH_MAX, "%s/%s-%s-%020" PRIu64 "-%s.lost", snapshots->folder, snapshots->log, identity, number, snapshots->replica);
+  return length > 0 && length < PATH_MAX;
+}
+
+bool snapshot_write(const struct snapshots *snapshots, struct database *database, const char *identity, bool is_lost) {
+  char path[PATH_MAX], part[PATH_MAX];
+  uint64_t number = database->applied;
+  const char *wrong = NULL;
+  bool has_path = is_lost ? path_of_lost(snapshots, identity, number, path) : snapshot_path(snapshots, identity, number, path);
+  if (!has_path || !write_part(part, snapshots, database, identity)) {
+    wrong = strerror(errno);
+  } else {
+    wrong = read_back(part, snapshots, database, identity);
+    if (!wrong && (rename(part, path) || !sync_folder(snapshots->folder))) wrong = strerror(errno);
+    if (wrong) unlink(part);
   }
-  fprintf(stderr, "mmdb-replica %s: snapshot %" PRIu64 " was not written: %s\n", snapshots->replica, database->applied, strerror(errno));
-  unlink(temporary);
-  return false;
+  if (wrong) fprintf(stderr, "mmdb-replica %s: snapshot %" PRIu64 " was not written: %s\n", snapshots->replica, number, wrong);
+  return !wrong;
+}
+
+/* What is kept and what goes. */
+
+static void remove_parts(const struct snapshots *snapshots) {
+  size_t log = strlen(snapshots->log);
+  DIR *folder = opendir(snapshots->folder);
+  if (!folder) return;
+  for (struct dirent *entry = readdir(folder); entry; entry = readdir(folder)) {
+    struct stat status;
+    size_t length = strlen(entry->d_name), ending = sizeof part_ending - 1;
+    bool is_part = length > log + ending && !strncmp(entry->d_name, snapshots->log, log) && entry->d_name[log] == '-' &&
+                   !strcmp(entry->d_name + length - ending, part_ending);
+    if (!is_part || fstatat(dirfd(folder), entry->d_name, &status, AT_SYMLINK_NOFOLLOW)) continue;
+    if (status.st_mtime < time(NULL) - OLDEST_PART) unlinkat(dirfd(folder), entry->d_name, 0);
+  }
+  closedir(folder);
+}
+
+bool snapshots_older_of_two(const struct snapshots *snapshots, const char *identity, struct head *older) {
+  struct numbers numbers;
+  char path[PATH_MAX];
+  size_t whole = 0;
+  if (!snapshots_list(snapshots, identity, &numbers)) return false;
+  for (size_t i = 0; i < numbers.count && whole < KEPT_SNAPSHOTS; i++)
+    whole += snapshot_path(snapshots, identity, numbers.at[i], path) && !snapshot_verify(path, snapshots, identity, older);
+  numbers_free(&numbers);
+  return whole == KEPT_SNAPSHOTS;
+}
+
+uint64_t snapshots_newest_past(const struct snapshots *snapshots, const char *identity, uint64_t number, struct head *head) {
+  struct numbers numbers;
+  char path[PATH_MAX];
+  uint64_t found = 0;
+  if (!snapshots->folder || !snapshots_list(snapshots, identity, &numbers)) return 0;
+  for (size_t i = 0; i < numbers.count && !found && numbers.at[i] > number; i++) {
+    bool is_whole = snapshot_path(snapshots, identity, numbers.at[i], path) && !snapshot_verify(path, snapshots, identity, head);
+    if (is_whole) found = numbers.at[i];
+  }
+  numbers_free(&numbers);
+  return found;
+}
+
+void snapshots_remove_old(const struct snapshots *snapshots, const char *identity) {
+  struct head older;
+  struct numbers numbers;
+  char path[PATH_MAX];
+  remove_parts(snapshots);
+  if (!snapshots_older_of_two(snapshots, identity, &older) || !snapshots_list(snapshots, identity, &numbers)) return;
+  for (size_t i = 0; i < numbers.count; i++) {
+    bool goes = numbers.at[i] < older.number && snapshot_path(snapshots, identity, numbers.at[i], path);
+    if (goes && unlink(path) && errno != ENOENT) perror(path);
+  }
+  numbers_free(&numbers);
 }

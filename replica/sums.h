@@ -1,15 +1,16 @@
-/* The sums that replicas publish at agreed numbers, and whether they are the same. */
+/* The sums that replicas publish at agreed numbers, and who is right where they differ. */
 #ifndef SUMS_H
 #define SUMS_H
 
-#include "words.h"
+#include "database.h"
 
 enum { MOST_SUMS = 64, MOST_SUM_BYTES = 256 };
 
-/* A sum that a replica had at a number. */
+/* A sum that a replica had at a number of a log. */
 struct sum {
-  char replica[MOST_NAME_BYTES + 1];
-  uint64_t number, sum;
+  char replica[MOST_NAME_BYTES + 1], identity[IDENTITY_BYTES];
+  uint64_t number;
+  struct digest sum;
 };
 
 /* The newest sums of this replica and of others, each kind in a ring. */
@@ -18,17 +19,23 @@ struct sums {
   size_t own_count, other_count; /* how many there ever were */
 };
 
-/* A sum as replicas publish it: REPLICA NUMBER SUM. False where this is none. */
+/* What the sums at a number say of this replica. */
+enum agreement {
+  SUMS_ALONE, /* nobody else has one, or this replica has none */
+  SUMS_AGREE, /* all are equal */
+  SUMS_RIGHT, /* they differ, and more replicas have the own one than any other one */
+  SUMS_TIE,   /* they differ, and nobody knows which is right */
+  SUMS_WRONG  /* they differ, and at least two replicas have another one, more than have the own one */
+};
+
+/* Reads and writes a sum as replicas publish it: REPLICA IDENTITY NUMBER SUM. Reading returns false if the text is anything else. */
 bool read_sum(struct text text, struct sum *sum);
 void write_sum(char text[MOST_SUM_BYTES], const struct sum *sum);
 
-/* Is told of two sums of one number that are not the same. */
-typedef void differ(void *closure, const struct sum *own, const struct sum *other);
+/* Keeps a sum. Another one of the same replica at the same number is replaced. */
+void sums_add(struct sums *sums, const struct sum *sum, bool is_own);
 
-/*
- * Keeps a sum, and compares it with those of the same number that are kept: an own one with each other, another one with the own one.
- * Calls differs for each pair that is not the same.
- */
-void sums_add(struct sums *sums, const struct sum *sum, bool is_own, differ *differs, void *closure);
+/* Returns what the sums that are kept say at a number. */
+enum agreement sums_judge(const struct sums *sums, uint64_t number);
 
 #endif

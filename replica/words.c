@@ -15,7 +15,9 @@ bool next_line(struct text *script, struct text *line) {
 
 static bool is_blank(uint8_t byte) { return byte == ' ' || byte == '\t'; }
 
-static bool is_of_word(uint8_t byte) { return (byte >= 'a' && byte <= 'z') || (byte >= 'A' && byte <= 'Z') || (byte >= '0' && byte <= '9') || byte == '_'; }
+static bool is_of_word(uint8_t byte) {
+  return (byte >= 'a' && byte <= 'z') || (byte >= 'A' && byte <= 'Z') || (byte >= '0' && byte <= '9') || byte == '_';
+}
 
 struct text word_of_line(struct text line, size_t place) {
   for (size_t at = 0;; place--) {
