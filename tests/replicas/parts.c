@@ -1,10 +1,14 @@
 /*
- * Tests parts of a replica that need no network: which scripts are scripts, what is kept of ids, what a script leaves, and snapshots, also broken ones.
+ * Tests the parts of a replica that need no network: scripts, entries, ids, messages of the log, the chain hash, snapshots, sums, the queue
+ * and login files, good ones and broken ones.
  *
  *   parts FOLDER
  *
- * FOLDER is empty, and gets snapshots. A check that fails writes a line. The status is 0 only if all passed.
+ * FOLDER is empty, and gets files. A check that fails writes a line. The status is 0 only if all passed.
  */
+#include "connect.h"
+#include "entry.h"
+#include "queue.h"
 #include "script.h"
 #include "snapshot.h"
 #include "sums.h"
@@ -12,6 +16,8 @@
 #include <stdio.h>
 #include <stdlib.h>
 #include <string.h>
+#include <sys/stat.h>
+#include <unistd.h>
 
 static bool has_failed;
 
@@ -87,9 +93,71 @@ static void questions(void) {
   static const char *const good[] = {"TABLES", "SCAN t\n", "SCAN INDEX i\r\n", "SELECT", "EXPLAIN SELECT a.x FROM t a", " SHOW w"};
   static const char *const bad[] = {"", "\n", "-- words", "BEGIN", "INSERT t (1)", "SCAN t\nSCAN t", "TABLE t (id INT KEY)"};
   struct bytes why = {NULL, 0, 0};
-  for (size_t i = 0; i < sizeof good / sizeof *good; i++) check(check_question(text_of(good[i]), &why) == VERDICT_GOOD, good[i], __LINE__);
-  for (size_t i = 0; i < sizeof bad / sizeof *bad; i++) check(check_question(text_of(bad[i]), &why) == VERDICT_BAD, bad[i], __LINE__);
+  mmdb db = MMDB_CLOSED;
+  MUST(mmdb_open(&db) == MMDB_DONE);
+  for (size_t i = 0; i < sizeof good / sizeof *good; i++)
+    check(check_question(&db, text_of(good[i]), &why) == VERDICT_GOOD, good[i], __LINE__);
+  for (size_t i = 0; i < sizeof bad / sizeof *bad; i++) check(check_question(&db, text_of(bad[i]), &why) == VERDICT_BAD, bad[i], __LINE__);
   bytes_free(&why);
+  mmdb_close(&db);
+}
+
+/* Digests. */
+
+static void digests(void) {
+  struct digester digester;
+  struct digest digest, again;
+  char text[DIGEST_TEXT_BYTES];
+  uint8_t key[KEY_BYTES], bytes[15];
+  MUST(digester_open(&digester));
+  for (int i = 0; i < 2; i++) {
+    digester_begin(&digester);
+    digester_add(&digester, "a", 1);
+    digester_add(&digester, "bc", 2);
+    MUST(digester_end(&digester, &digest));
+    write_digest(text, &digest);
+    MUST(!strcmp(text, "ba7816bf8f01cfea414140de5dae2223")); /* of SHA-256("abc") */
+  }
+  MUST(read_digest(text, &again) && is_same_digest(&digest, &again));
+  text[31] = 'G';
+  MUST(!read_digest(text, &again) && !read_digest("ab", &again) && is_same_digest(&digest, &again));
+  digester_close(&digester);
+  for (uint8_t i = 0; i < KEY_BYTES; i++) key[i] = i;
+  for (uint8_t i = 0; i < sizeof bytes; i++) bytes[i] = i;
+  MUST(keyed_hash(key, bytes, sizeof bytes) == 0xa129ca6149be45e5u); /* the test vector of the paper on SipHash */
+}
+
+/* Entries. */
+
+static bool is_one_body(const char *text) { return is_body(text_of(text)); }
+
+static void entries(void) {
+  static const char *const bad[] = {"",
+                                    "a",
+                                    "a 1 0 3\nabc",
+                                    "a 1 0 3\nab\n",
+                                    "a 1 0 3\nabcd\n",
+                                    "a 01 0 3\nabc\n",
+                                    "a 1 2 3\nabc\n",
+                                    " 1 0 3\nabc\n",
+                                    "a 1 0\nabc\n",
+                                    "a  1 0 3\nabc\n",
+                                    "a 1 0 -1\nabc\n",
+                                    "a 18446744073709551616 0 0\n\n",
+                                    "a 1 0 3\nabc\nb",
+                                    "a 1 0 524289\nabc\n"};
+  struct bytes body = {NULL, 0, 0};
+  struct entry entry = {.id = "!~", .since = UINT64_MAX, .flags = FLAG_ROWS, .script = text_of("DELETE t\n")}, read;
+  for (size_t i = 0; i < sizeof bad / sizeof *bad; i++) check(!is_one_body(bad[i]), bad[i], __LINE__);
+  MUST(is_one_body("a 1 0 3\nabc\n") && is_one_body("a 0 1 0\n\nb 1 0 1\n\n\n"));
+  MUST(add_entry(&body, &entry) && add_entry(&body, &(struct entry){.id = "b", .script = text_of("")}));
+  struct text rest = {body.at, body.length};
+  MUST(is_body(rest) && next_entry(&rest, &read) && !strcmp(read.id, "!~") && read.since == UINT64_MAX && read.flags == FLAG_ROWS);
+  MUST(read.script.length == 9 && !memcmp(read.script.at, "DELETE t\n", 9));
+  MUST(next_entry(&rest, &read) && !strcmp(read.id, "b") && !read.since && !read.script.length && !rest.length &&
+       !next_entry(&rest, &read));
+  for (size_t cut = 0; cut + 1 < body.length; cut++) MUST(cut == 38 || !is_body((struct text){body.at, cut}));
+  bytes_free(&body);
 }
 
 /* Ids. */
@@ -111,26 +179,54 @@ static void ids(void) {
   struct recents recents;
   static uint8_t room[MOST_RECENT_BYTES / 8];
   MUST(recents_open(&recents));
-  for (uint64_t number = 0; number < MOST_RECENT + 1000; number++) MUST(add_id(&recents, number, text_of("ok\n")));
+  for (uint64_t number = 0; number < MOST_RECENT; number++) MUST(add_id(&recents, number, text_of("ok\n")));
+  MUST(recents.count == MOST_RECENT && !recents.forgotten);
+  for (uint64_t number = MOST_RECENT; number < MOST_RECENT + 1000; number++) MUST(add_id(&recents, number, text_of("ok\n")));
   MUST(recents.count == MOST_RECENT && !has_id(&recents, 999) && has_id(&recents, 1000) && has_id(&recents, MOST_RECENT + 999));
-  MUST(recents_at(&recents, 0)->sequence == 1000);
+  MUST(recents_at(&recents, 0)->sequence == 1000 && recents.forgotten == 999);
   for (uint64_t number = 1; number <= 8; number++) MUST(add_id(&recents, number, (struct text){room, sizeof room}));
   MUST(recents.count == 7 && recents.bytes <= MOST_RECENT_BYTES && !has_id(&recents, 1) && has_id(&recents, 2) && has_id(&recents, 8));
+  MUST(recents.forgotten == MOST_RECENT + 999);
   recents_close(&recents);
   MUST(is_id("a") && is_id("!~") && !is_id("") && !is_id("a b") && !is_id("\xc3\xa9"));
   MUST(is_id("1234567890123456789012345678901234567890123456789012345678901234"));
   MUST(!is_id("12345678901234567890123456789012345678901234567890123456789012345"));
 }
 
-/* What scripts leave. */
+/* Messages. */
 
-static bool applies(struct database *database, const char *id, const char *script, enum outcome outcome, const char *replies) {
-  uint64_t number = database->applied + 1;
-  if (!database_apply(database, number, id, text_of(script)) || database->applied != number || mmdb_in_transaction(&database->db)) return false;
+static const char identity[] = "0123456789abcdef";
+
+/* Applies a message with a body, as a publisher that had applied a number would send it. */
+static enum applied apply_body(struct database *database, uint64_t checked, struct text body) {
+  char header[DIGEST_TEXT_BYTES + 24], chain[DIGEST_TEXT_BYTES];
+  const struct digest *own = database_chain_at(database, checked);
+  write_digest(chain, own ? own : &database->chain);
+  snprintf(header, sizeof header, "%llu %s", (unsigned long long)checked, chain);
+  struct message message = {.number = database->applied + 1, .format = "2", .checked = header, .body = body};
+  return database_apply(database, &message);
+}
+
+static bool apply_entry_of(struct database *database, struct entry entry, const char *id) {
+  struct bytes body = {NULL, 0, 0};
+  snprintf(entry.id, sizeof entry.id, "%s", id);
+  uint64_t number = database->applied;
+  bool is_done = add_entry(&body, &entry) && apply_body(database, number, (struct text){body.at, body.length}) == APPLIED;
+  bytes_free(&body);
+  return is_done && database->applied == number + 1 && !mmdb_in_transaction(&database->db) && !database_is_between(database);
+}
+
+static bool has_outcome(struct database *database, const char *id, enum outcome outcome, const char *replies) {
   const struct recent *recent = recents_find(&database->recents, id);
   struct text wanted = text_of(replies);
-  return recent && recent->sequence == number && recent->outcome == outcome && recent->replies.length == wanted.length &&
+  return recent && recent->outcome == outcome && recent->replies.length == wanted.length &&
          !memcmp(recent->replies.at, wanted.at, wanted.length);
+}
+
+static bool applies(struct database *database, const char *id, const char *script, enum outcome outcome, const char *replies) {
+  struct entry entry = {.since = UINT64_MAX, .script = text_of(script)};
+  return apply_entry_of(database, entry, id) && has_outcome(database, id, outcome, replies) &&
+         recents_find(&database->recents, id)->sequence == database->applied;
 }
 
 static bool answers(struct database *database, const char *question, const char *reply) {
@@ -140,33 +236,142 @@ static bool answers(struct database *database, const char *question, const char 
          !memcmp(database->replies.at, wanted.at, wanted.length);
 }
 
-/* A database behind some messages, good ones and others. */
+/* Applies a message as it is, which changes nothing but the place in the log. */
+static bool skips(struct database *database, const char *format, const char *checked, const char *body) {
+  uint64_t number = database->applied;
+  size_t count = database->recents.count;
+  struct message message = {.number = number + 1, .format = format, .checked = checked, .body = text_of(body)};
+  return database_apply(database, &message) == APPLIED && database->applied == number + 1 && database->recents.count == count;
+}
+
+/* A database after some messages, good ones and others. */
 static void fill(struct database *database) {
-  MUST(database_open(database));
+  static const char zero[] = "0 00000000000000000000000000000000";
+  MUST(database_open(database, identity));
   MUST(applies(database, "a1", "TABLE t (id INT KEY, s TEXT)", OUTCOME_DONE, "ok\n"));
   MUST(applies(database, "a2", "TABLE u (s TEXT KEY, t INT REF t CASCADE)\n", OUTCOME_DONE, "ok\n"));
-  MUST(applies(database, "a3", "BEGIN\nINSERT t (1, 'it''s'), (-2, '-- id x'), (3, '')\nINSERT u ('\t\r', 3)\nCOMMIT", OUTCOME_DONE, "ok\nok 3\nok 1\nok\n"));
+  MUST(applies(database, "a3", "BEGIN\nINSERT t (1, 'it''s'), (-2, '-- id x'), (3, '')\nINSERT u ('\t\r', 3)\nCOMMIT", OUTCOME_DONE,
+               "ok\nok 3\nok 1\nok\n"));
   MUST(applies(database, "a4", "INDEX i ON t (s) HASH", OUTCOME_DONE, "ok\n"));
   MUST(applies(database, "a5", "INDEX j ON t (s) TREE", OUTCOME_DONE, "ok\n"));
   MUST(applies(database, "a6", "WATCH gone SELECT a.id FROM t a", OUTCOME_DONE, "ok\n"));
   MUST(applies(database, "a7", "WATCH w SELECT a.id FROM t a WHERE a.s = '-- end'", OUTCOME_DONE, "ok\n"));
   MUST(applies(database, "a8", "UNWATCH gone", OUTCOME_DONE, "ok\n"));
   MUST(applies(database, "a9", "BEGIN\nDELETE t\nINSERT u ('x', 1)\nCOMMIT\n", OUTCOME_REFUSED, "ok\nok 3\nerror 41 no target row\n"));
-  MUST(applies(database, "a10", "BEGIN\nDELETE t", OUTCOME_INVALID, "line 3: a script that begins with BEGIN ends with COMMIT or ROLLBACK\n"));
+  MUST(applies(database, "a10", "BEGIN\nDELETE t", OUTCOME_INVALID,
+               "line 3: a script that begins with BEGIN ends with COMMIT or ROLLBACK\n"));
   MUST(applies(database, "a11", "BEGIN\nDELETE t\nROLLBACK\n", OUTCOME_DONE, "ok\nok 3\nok\n"));
   MUST(applies(database, "a12", "DELETE nope", OUTCOME_REFUSED, "error 20 no such table\n"));
-  MUST(database_apply(database, 13, "a1", text_of("DELETE t")) && database_apply(database, 14, NULL, text_of("DELETE t")));
-  MUST(database_apply(database, 15, "an id", text_of("DELETE t")) && database->applied == 15);
+  MUST(apply_entry_of(database, (struct entry){.script = text_of("DELETE t")}, "a1"));
+  MUST(skips(database, NULL, zero, "x 0 0 8\nDELETE t\n") && skips(database, "2", NULL, "x 0 0 8\nDELETE t\n"));
+  MUST(database->applied == 15);
 }
 
 static void applied(void) {
   struct database database;
+  char columns[64];
   fill(&database);
   MUST(answers(&database, "SCAN t", "(-2, '-- id x')\n(1, 'it''s')\n(3, '')\nrows 3\n"));
   MUST(answers(&database, "SCAN u", "('\t\r', 3)\nrows 1\n"));
   MUST(answers(&database, "SHOW gone", "error 23 no such standing query\n"));
   MUST(database_ask(&database, text_of("SCAN t"), 43) == ANSWER_TOO_LARGE && database_ask(&database, text_of("SCAN t"), 44) == ANSWER_DONE);
+  MUST(database_columns(&database, text_of("SCAN t"), columns, sizeof columns) && !strcmp(columns, "id INT, s TEXT"));
+  MUST(!database_columns(&database, text_of("SCAN t"), columns, 14) && !database_columns(&database, text_of("TABLES"), columns, 64));
   database_close(&database);
+}
+
+/* Messages that are malformed change nothing, and one of a newer format is not passed. */
+static void malformed(void) {
+  static const char good[] = "x 0 0 8\nDELETE t\n", zero[] = "0 00000000000000000000000000000000";
+  struct database database;
+  fill(&database);
+  MUST(skips(&database, "1", zero, good) && skips(&database, "2 ", zero, good) && skips(&database, "", zero, good));
+  MUST(skips(&database, "2", "0", good) && skips(&database, "2", "0 0000000000000000000000000000000", good));
+  MUST(skips(&database, "2", "0 0000000000000000000000000000000g", good) && skips(&database, "2", "x", good) &&
+       skips(&database, "2", "", good));
+  MUST(skips(&database, "2", zero, "") && skips(&database, "2", zero, "x 0 0 9\nDELETE t\n"));
+  MUST(skips(&database, "2", zero, "x 0 0 8\nDELETE t\ny") && skips(&database, "2", "27 00000000000000000000000000000000", good));
+  struct message newer = {.number = database.applied + 1, .format = "3", .checked = zero, .body = text_of(good)};
+  struct digest before = database.chain;
+  MUST(database_apply(&database, &newer) == APPLY_NEWER && database.applied + 1 == newer.number &&
+       is_same_digest(&before, &database.chain));
+  MUST(answers(&database, "SCAN u", "('\t\r', 3)\nrows 1\n"));
+  MUST(skips(&database, "2", zero, "a1 0 0 8\nDELETE t\n")); /* a well-formed message whose id is known */
+  MUST(apply_body(&database, 0, text_of(good)) == APPLIED && has_outcome(&database, "x", OUTCOME_DONE, "ok 3\n"));
+  database_close(&database);
+}
+
+/* Several scripts in a message; conditions; the same id twice in a message. */
+static void batches(void) {
+  struct database database;
+  fill(&database);
+  size_t count = database.recents.count;
+  MUST(apply_body(&database, 15,
+                  text_of("b1 0 0 16\nINSERT t (7, '')\nb2 0 0 16\nINSERT t (7, '')\nb1 0 0 8\nDELETE u\nb3 0 0 5\nwords\n")) == APPLIED);
+  MUST(database.recents.count == count + 3 && has_outcome(&database, "b1", OUTCOME_DONE, "ok 1\n"));
+  MUST(has_outcome(&database, "b2", OUTCOME_REFUSED, "error 40 duplicate key\n") &&
+       has_outcome(&database, "b3", OUTCOME_INVALID, "line 1: error 11 syntax\n"));
+  MUST(recents_find(&database.recents, "b1")->sequence == 16 && recents_find(&database.recents, "b3")->sequence == 16);
+  struct entry both = {.flags = FLAG_ROWS, .script = text_of("BEGIN\nUPDATE t SET s = 'x' WHERE id = 7\nDELETE t WHERE id = 99\nCOMMIT\n")};
+  MUST(apply_entry_of(&database, both, "c1") && has_outcome(&database, "c1", OUTCOME_UNMET, "ok\nok 1\nok 0\n"));
+  MUST(answers(&database, "SELECT a.s FROM t a WHERE a.id = 7", "('')\nrows 1\n"));
+  both.flags = 0;
+  MUST(apply_entry_of(&database, both, "c2") && has_outcome(&database, "c2", OUTCOME_DONE, "ok\nok 1\nok 0\nok\n"));
+  database_close(&database);
+}
+
+/* An entry is skipped if its id may have been used and forgotten since it was checked. */
+static void stale(void) {
+  struct database database;
+  char id[24];
+  struct bytes body = {NULL, 0, 0};
+  MUST(database_open(&database, identity));
+  MUST(applies(&database, "t", "TABLE t (id INT KEY, k INT)", OUTCOME_DONE, "ok\n") &&
+       applies(&database, "i", "INSERT t (1, 0)", OUTCOME_DONE, "ok 1\n"));
+  struct entry pay = {.since = UINT64_MAX, .script = text_of("UPDATE t SET k = k + 1 WHERE id = 1")};
+  MUST(apply_entry_of(&database, pay, "pay"));
+  uint64_t checked = database.applied - 1;
+  for (int number = 0; number < MOST_RECENT; number++) {
+    snprintf(id, sizeof id, "o-%d", number);
+    struct entry other = {.since = UINT64_MAX, .script = text_of("DELETE t WHERE id = 9")};
+    memcpy(other.id, id, sizeof id);
+    MUST(add_entry(&body, &other));
+    if (number % 1024 != 1023) continue;
+    MUST(apply_body(&database, database.applied, (struct text){body.at, body.length}) == APPLIED);
+    body.length = 0;
+  }
+  MUST(!recents_find(&database.recents, "pay") && database.recents.forgotten == 3);
+  /* The message was delayed since it was checked. */
+  snprintf(pay.id, sizeof pay.id, "pay");
+  MUST(add_entry(&body, &pay) && apply_body(&database, checked, (struct text){body.at, body.length}) == APPLIED);
+  MUST(!recents_find(&database.recents, "pay") && answers(&database, "SCAN t", "(1, 1)\nrows 1\n"));
+  /* A client sends it again that knows since when. */
+  pay.since = checked;
+  MUST(apply_entry_of(&database, pay, "pay") && !recents_find(&database.recents, "pay") &&
+       answers(&database, "SCAN t", "(1, 1)\nrows 1\n"));
+  pay.since = 3;
+  MUST(apply_entry_of(&database, pay, "new") && answers(&database, "SCAN t", "(1, 2)\nrows 1\n"));
+  bytes_free(&body);
+  database_close(&database);
+}
+
+/* The chain hash follows from the bytes of all messages before, and from the identity. */
+static void chains(void) {
+  struct database one, other;
+  char text[DIGEST_TEXT_BYTES];
+  MUST(database_open(&one, identity) && database_open(&other, "0123456789abcdee"));
+  write_digest(text, &one.chain);
+  MUST(!strcmp(text, "a646e988c226177ef17a716139f83db3") && !is_same_digest(&one.chain, &other.chain));
+  MUST(skips(&one, "2", "x", "body"));
+  write_digest(text, &one.chain);
+  MUST(!strcmp(text, "42767917a60850976ba900399783b20b"));
+  for (int i = 0; i < CHAINS; i++) MUST(skips(&one, NULL, NULL, ""));
+  MUST(!database_chain_at(&one, 1) && database_chain_at(&one, 2) && database_chain_at(&one, one.applied));
+  MUST(is_same_digest(database_chain_at(&one, one.applied), &one.chain) &&
+       is_same_digest(database_chain_at(&one, one.applied - 1), &one.before));
+  MUST(!database_chain_at(&one, one.applied + 1));
+  database_close(&one);
+  database_close(&other);
 }
 
 /* Snapshots. */
@@ -180,10 +385,28 @@ static size_t files_in(const char *folder) {
   return count - 2;
 }
 
-/* Whether a database is loaded at a number: 0 where no snapshot serves. */
+static struct extent extent_of(const char *log, uint64_t first, uint64_t last) {
+  struct extent extent = {.first = first, .last = last};
+  memcpy(extent.identity, log, sizeof extent.identity);
+  return extent;
+}
+
+/* What the log says of each snapshot. */
+static bool has_history = true;
+static bool says_history(void *closure, const struct head *head) {
+  (void)closure, (void)head;
+  return has_history;
+}
+
+static enum loaded load(const struct snapshots *snapshots, struct database *database, struct extent extent, uint64_t least) {
+  struct wanted wanted = {.extent = &extent, .least = least, .agrees = says_history};
+  return snapshot_load(snapshots, database, &wanted);
+}
+
+/* Whether a database is loaded at a number: 0 if no snapshot serves. */
 static bool loads_at(const struct snapshots *snapshots, struct extent extent, uint64_t number) {
   struct database database;
-  enum loaded loaded = snapshot_load(snapshots, &database, &extent);
+  enum loaded loaded = load(snapshots, &database, extent, 0);
   bool holds = loaded == LOADED && database.applied == number;
   if (loaded == LOADED) database_close(&database);
   return holds;
@@ -195,9 +418,11 @@ static void write_back(const char *path, const char *bytes, size_t length) {
   if (file) fclose(file);
 }
 
-/* Changes single bytes of a snapshot, and cuts it off: none of that serves. */
+/* Changes single bytes of a snapshot, and cuts it off: none of that serves, and none of that is whole. */
 static void broken_snapshots(const struct snapshots *snapshots, const char *path) {
   static char bytes[1 << 16];
+  struct head head;
+  struct extent extent = extent_of(identity, 1, 1000);
   FILE *file = fopen(path, "r");
   size_t length = file ? fread(bytes, 1, sizeof bytes, file) : 0;
   if (file) fclose(file);
@@ -206,71 +431,217 @@ static void broken_snapshots(const struct snapshots *snapshots, const char *path
     bytes[at] ^= 1;
     write_back(path, bytes, length);
     bytes[at] ^= 1;
-    MUST(loads_at(snapshots, (struct extent){1, 1000, 5}, 0));
+    MUST(loads_at(snapshots, extent, 0) && snapshot_verify(path, snapshots, identity, &head));
   }
   for (size_t cut = 0; cut < length; cut += 41) {
     write_back(path, bytes, cut);
-    MUST(loads_at(snapshots, (struct extent){1, 1000, 5}, 0));
+    MUST(loads_at(snapshots, extent, 0) && snapshot_verify(path, snapshots, identity, &head));
   }
+  bytes[length] = '\n';
+  write_back(path, bytes, length + 1);
+  MUST(loads_at(snapshots, extent, 0) && snapshot_verify(path, snapshots, identity, &head));
   write_back(path, bytes, length);
-  MUST(loads_at(snapshots, (struct extent){1, 1000, 5}, 15));
+  MUST(loads_at(snapshots, extent, 15) && !snapshot_verify(path, snapshots, identity, &head) && head.number == 15);
+  MUST(snapshot_verify(path, snapshots, "0123456789abcdee", &head) != NULL);
+}
+
+/* Files of others are left alone, the newest two that are whole are kept, and the older one of them is that up to which a log may be cut.
+ */
+static void kept_snapshots(const struct snapshots *snapshots, struct database *database) {
+  struct head older;
+  struct stat status;
+  char path[PATH_MAX];
+  const char *folder = snapshots->folder;
+  MUST(!snapshots_older_of_two(snapshots, identity, &older));
+  for (database->applied = 16; database->applied < 19; database->applied++) {
+    MUST(snapshot_write(snapshots, database, identity, false));
+    snapshots_remove_old(snapshots, identity);
+  }
+  MUST(files_in(folder) == 2 && loads_at(snapshots, extent_of(identity, 1, 20), 18) && loads_at(snapshots, extent_of(identity, 1, 17), 17));
+  MUST(snapshots_older_of_two(snapshots, identity, &older) && older.number == 17);
+  MUST(snapshots_newest_past(snapshots, identity, 16, &older) == 18 && !snapshots_newest_past(snapshots, identity, 18, &older));
+  MUST(snapshot_path(snapshots, identity, 18, path) && !stat(path, &status) && (status.st_mode & 0777) == 0600);
+  /* A log made again under the same name has lower numbers. */
+  database->applied = 5;
+  MUST(snapshot_write(snapshots, database, "fedcba9876543210", false));
+  snapshots_remove_old(snapshots, "fedcba9876543210");
+  MUST(files_in(folder) == 3 && loads_at(snapshots, extent_of("fedcba9876543210", 1, 20), 5) &&
+       loads_at(snapshots, extent_of(identity, 1, 20), 18));
+  /* The newest one breaks: it counts for nothing. */
+  write_back(path, "-- mmdb snapshot 2\n", 19);
+  MUST(!snapshots_older_of_two(snapshots, identity, &older) && loads_at(snapshots, extent_of(identity, 1, 20), 17));
+  database->applied = 19;
+  MUST(snapshot_write(snapshots, database, identity, false) && snapshots_older_of_two(snapshots, identity, &older) && older.number == 17);
+  /* A state that the log does not have is written, and not loaded. */
+  database->applied = 30;
+  MUST(snapshot_write(snapshots, database, identity, true) && files_in(folder) == 5 && loads_at(snapshots, extent_of(identity, 1, 40), 19));
 }
 
 static void snapshots_of(const char *folder) {
   const struct snapshots snapshots = {.folder = folder, .log = "log", .replica = "r"};
   struct database database, again;
-  char path[4096];
-  uint64_t sum = 0, sum_again = 1;
-  snprintf(path, sizeof path, "%s/log-00000000000000000015.snapshot", folder);
+  char path[PATH_MAX];
+  struct digest sum, sum_again;
+  MUST(snapshot_path(&snapshots, identity, 15, path));
   fill(&database);
-  MUST(loads_at(&snapshots, (struct extent){1, 20, 5}, 0));
-  MUST(snapshot_write(&snapshots, &database, 5) && files_in(folder) == 1);
-  MUST(loads_at(&snapshots, (struct extent){1, 14, 5}, 0) && loads_at(&snapshots, (struct extent){1, 20, 6}, 0));
-  MUST(snapshot_load(&snapshots, &again, &(struct extent){17, 20, 5}) == LOADED_NONE);
-  MUST(snapshot_load(&snapshots, &again, &(struct extent){16, 15, 5}) == LOADED && database_sum(&again, &sum_again) && database_sum(&database, &sum) &&
-       sum == sum_again);
+  database.recents.forgotten = 3;
+  MUST(loads_at(&snapshots, extent_of(identity, 1, 20), 0));
+  MUST(snapshot_write(&snapshots, &database, identity, false) && files_in(folder) == 1);
+  MUST(loads_at(&snapshots, extent_of(identity, 1, 14), 0) && loads_at(&snapshots, extent_of("fedcba9876543210", 1, 20), 0));
+  MUST(load(&snapshots, &again, extent_of(identity, 17, 20), 0) == LOADED_NONE &&
+       load(&snapshots, &again, extent_of(identity, 1, 20), 16) == LOADED_NONE);
+  has_history = false;
+  MUST(loads_at(&snapshots, extent_of(identity, 1, 20), 0));
+  has_history = true;
+  MUST(load(&snapshots, &again, extent_of(identity, 16, 15), 15) == LOADED && database_sum(&again, ALL_TABLES, &sum_again));
+  MUST(database_sum(&database, ALL_TABLES, &sum) && is_same_digest(&sum, &sum_again) && again.recents.forgotten == 3);
+  MUST(is_same_digest(&again.chain, &database.chain) && is_same_digest(&again.before, &database.before));
+  MUST(!database_chain_at(&again, 14) && database_chain_at(&again, 15));
   MUST(answers(&again, "TABLES",
-               "TABLE t (id INT KEY, s TEXT) rows 3\nINDEX i ON t (s) HASH\nINDEX j ON t (s) TREE\nTABLE u (s TEXT KEY, t INT REF t CASCADE) rows 1\n"
+               "TABLE t (id INT KEY, s TEXT) rows 3\nINDEX i ON t (s) HASH\nINDEX j ON t (s) TREE\nTABLE u (s TEXT KEY, t INT REF t "
+               "CASCADE) rows 1\n"
                "WATCH w rows 0\ntables 2\n"));
-  MUST(database_apply(&again, 16, "a3", text_of("DELETE t")) && answers(&again, "SCAN u", "('\t\r', 3)\nrows 1\n"));
+  MUST(apply_entry_of(&again, (struct entry){.since = 15, .script = text_of("DELETE t")}, "a3") &&
+       answers(&again, "SCAN u", "('\t\r', 3)\nrows 1\n"));
   MUST(applies(&again, "b", "UNWATCH w", OUTCOME_DONE, "ok\n"));
   broken_snapshots(&snapshots, path);
-  for (database.applied = 16; database.applied < 19; database.applied++) MUST(snapshot_write(&snapshots, &database, 5));
-  MUST(files_in(folder) == 2 && loads_at(&snapshots, (struct extent){1, 20, 5}, 18) && loads_at(&snapshots, (struct extent){1, 17, 5}, 17));
+  MUST(!unlink(path));
+  kept_snapshots(&snapshots, &database);
   database_close(&again);
   database_close(&database);
 }
 
 /* Sums. */
 
-static void count(void *closure, const struct sum *own, const struct sum *other) {
-  MUST(own->number == other->number && !strcmp(own->replica, "own") && !strcmp(other->replica, "other"));
-  ++*(int *)closure;
+static struct sum sum_of(const char *replica, uint64_t number, uint8_t value) {
+  struct sum sum = {.number = number, .sum = {{value}}};
+  snprintf(sum.replica, sizeof sum.replica, "%s", replica);
+  memcpy(sum.identity, identity, sizeof sum.identity);
+  return sum;
+}
+
+static void add_sum(struct sums *sums, const char *replica, uint64_t number, uint8_t value) {
+  struct sum sum = sum_of(replica, number, value);
+  sums_add(sums, &sum, !strcmp(replica, "own"));
 }
 
 static void compared_sums(void) {
   static struct sums sums;
-  struct sum read;
-  int differences = 0;
-  MUST(read_sum(text_of("other 100 00000000000000ff"), &read) && !strcmp(read.replica, "other") && read.number == 100 && read.sum == 255);
-  MUST(!read_sum(text_of("other 100"), &read) && !read_sum(text_of(""), &read));
+  struct sum sum = sum_of("other", 100, 7), read;
+  char text[MOST_SUM_BYTES];
+  write_sum(text, &sum);
+  MUST(!strcmp(text, "other 0123456789abcdef 100 07000000000000000000000000000000"));
+  MUST(read_sum(text_of(text), &read) && !strcmp(read.replica, "other") && read.number == 100 && is_same_digest(&read.sum, &sum.sum));
+  MUST(!read_sum(text_of("other 100"), &read) && !read_sum(text_of(""), &read) &&
+       !read_sum(text_of("other 0123456789abcdef 100 07"), &read));
   for (uint64_t number = 1; number <= 200; number++) {
-    sums_add(&sums, &(struct sum){"own", number, number}, true, count, &differences);
-    sums_add(&sums, &(struct sum){"other", number, number == 100 ? 1 : number}, false, count, &differences);
+    add_sum(&sums, "own", number, 1);
+    MUST(sums_judge(&sums, number) == SUMS_ALONE);
+    add_sum(&sums, "a", number, number == 100 ? 2 : 1);
+    MUST(sums_judge(&sums, number) == (number == 100 ? SUMS_TIE : SUMS_AGREE));
   }
-  MUST(differences == 1);
-  sums_add(&sums, &(struct sum){"other", 201, 0}, false, count, &differences);
-  sums_add(&sums, &(struct sum){"own", 201, 201}, true, count, &differences);
-  MUST(differences == 2);
+  add_sum(&sums, "b", 201, 2);
+  MUST(sums_judge(&sums, 201) == SUMS_ALONE);
+  add_sum(&sums, "own", 201, 1);
+  MUST(sums_judge(&sums, 201) == SUMS_TIE);
+  add_sum(&sums, "b", 201, 2);
+  MUST(sums_judge(&sums, 201) == SUMS_TIE); /* one replica has one voice */
+  add_sum(&sums, "c", 201, 1);
+  MUST(sums_judge(&sums, 201) == SUMS_RIGHT);
+  add_sum(&sums, "a", 201, 2);
+  MUST(sums_judge(&sums, 201) == SUMS_TIE);
+  add_sum(&sums, "c", 201, 2);
+  MUST(sums_judge(&sums, 201) == SUMS_WRONG);
+  sum = sum_of("d", 202, 2);
+  sum.identity[0] = 'f';
+  sums_add(&sums, &sum, false);
+  add_sum(&sums, "own", 202, 1);
+  MUST(sums_judge(&sums, 202) == SUMS_ALONE); /* a sum of another log says nothing */
+}
+
+/* The queue. */
+
+static natsMsg *message_of(size_t length) {
+  natsMsg *message = NULL;
+  char *bytes = calloc(1, length + 1);
+  MUST(bytes && natsMsg_Create(&message, "s", "r", bytes, (int)length) == NATS_OK);
+  free(bytes);
+  return message;
+}
+
+/* Requests count until they are released; messages of the log can be held back. */
+static void queued(void) {
+  struct queue queue;
+  struct event event;
+  MUST(nats_Open(-1) == NATS_OK);
+  natsMsg *large = message_of(MOST_REQUEST_BYTES / 2), *other = message_of(MOST_REQUEST_BYTES / 2), *one = message_of(1),
+          *two = message_of(2);
+  MUST(queue_open(&queue));
+  MUST(queue_add(&queue, (struct event){.kind = EVENT_CHANGE, .message = large}) &&
+       !queue_add(&queue, (struct event){.kind = EVENT_QUESTION, .message = other}));
+  MUST(queue_take(&queue, 0, &event) && event.message == large &&
+       !queue_add(&queue, (struct event){.kind = EVENT_CHANGE, .message = other}));
+  queue_release(&queue, large);
+  MUST(queue_load(&queue).requests == 0 && queue_load(&queue).bytes == 0 &&
+       queue_add(&queue, (struct event){.kind = EVENT_CHANGE, .message = other}));
+  MUST(queue_take(&queue, 0, &event) && !queue_take(&queue, 0, &event));
+  MUST(!queue_add(&queue, (struct event){.kind = EVENT_MESSAGE, .message = one}));
+  queue_set_takes_messages(&queue, true);
+  MUST(queue_add(&queue, (struct event){.kind = EVENT_MESSAGE, .message = one}) &&
+       queue_add(&queue, (struct event){.kind = EVENT_SUM, .message = two}));
+  queue_hold_messages(&queue, true);
+  MUST(queue_take(&queue, 0, &event) && event.kind == EVENT_SUM && !queue_take(&queue, 0, &event));
+  queue_hold_messages(&queue, false);
+  MUST(queue_add(&queue, (struct event){.kind = EVENT_CLOSED}) && queue_take(&queue, 0, &event) && event.message == one);
+  MUST(queue_take(&queue, 0, &event) && event.kind == EVENT_CLOSED && !queue_take(&queue, 0, &event));
+  natsMsg *each[] = {large, other, one, two};
+  for (size_t i = 0; i < 4; i++) natsMsg_Destroy(each[i]);
+  queue_close(&queue);
+  nats_Close();
+}
+
+/* Logins. */
+
+static void write_login(const char *path, const char *text, mode_t mode) {
+  write_back(path, text, strlen(text));
+  MUST(!chmod(path, mode));
+}
+
+static void logins(const char *folder) {
+  struct login login;
+  char path[PATH_MAX], servers[] = "nats://u:secret@a:1,nats://b:2,c:d@e:3";
+  snprintf(path, sizeof path, "%s/login", folder);
+  write_login(path, "# words\nuser alice\npassword a b\n\n", 0600);
+  MUST(!read_login(path, &login) && !strcmp(login.user, "alice") && !strcmp(login.password, "a b") && !login.is_encrypted);
+  write_login(path, "ca FILE\nnkey KEY SEED\n", 0400);
+  MUST(!read_login(path, &login) && login.is_encrypted && !strcmp(login.nkey, "KEY") && !strcmp(login.seed, "SEED") && !*login.user);
+  MUST(!unlink(path));
+  write_login(path, "certificate FILE\n", 0600);
+  MUST(read_login(path, &login) != NULL);
+  write_login(path, "secret\n", 0600);
+  MUST(read_login(path, &login) != NULL);
+  write_login(path, "user alice\n", 0640);
+  MUST(read_login(path, &login) != NULL);
+  MUST(!unlink(path) && read_login(path, &login) != NULL);
+  hide_passwords(servers);
+  MUST(!strcmp(servers, "nats://xxxxxxxx@a:1,nats://b:2,xxx@e:3"));
 }
 
 int main(int words, char **word) {
   if (words != 2) return 2;
   scripts();
   questions();
+  digests();
+  entries();
   ids();
   applied();
+  malformed();
+  batches();
+  stale();
+  chains();
   snapshots_of(word[1]);
+  logins(word[1]);
   compared_sums();
+  queued();
   return has_failed;
 }
