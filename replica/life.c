@@ -181,6 +181,7 @@ static bool begin(struct replica *replica, uint64_t least) {
   replica->has_rows = true;
   replica->lives++;
   replica->begun_at = replica->snapshot_at = replica->database.applied;
+  replica->began_with = replica->database.chain;
   replica->is_grounded = !replica->begun_at;
   replica->trouble[0] = 0;
   tell(replica, "begins at number %" PRIu64 ", and the log ends at %" PRIu64, replica->database.applied, extent.last);
@@ -355,25 +356,40 @@ void end_life(struct replica *replica) {
 
 /* Messages. */
 
+/* Asks the log whether its message of a number is the one that this replica applied, at most once a second. */
+static enum said ask_log(struct replica *replica, uint64_t number) {
+  const struct digest *before = number ? database_chain_at(&replica->database, number - 1) : NULL;
+  const struct digest *chain = database_chain_at(&replica->database, number);
+  int64_t now = clock_now();
+  if (!before || !chain || now - replica->asked_log < PAUSE) return SAID_NOTHING;
+  replica->asked_log = now;
+  return log_leads_to(&replica->log, &replica->database.digester, number, before, chain);
+}
+
+/* Another replica had another history at a number. Either this one is wrong, or the other. */
+static void on_other_history(struct replica *replica, const char *publisher, uint64_t number) {
+  alarm_all(replica, "OTHER HISTORY: replica %s has another one at number %" PRIu64, publisher, number);
+  if (ask_log(replica, number) == SAID_NO) {
+    lose_rows(replica, "the log has another history than its rows");
+  } else if (!replica->is_grounded) {
+    replica->has_distrusted = true;
+    replica->distrusted = replica->began_with;
+    lose_rows(replica, "another replica contradicts the snapshot that it began from");
+  }
+}
+
 /* Compares what the publisher of a message had applied with what this replica has. Returns false if the rows are gone after that. */
 static bool check_claim(struct replica *replica, natsMsg *message) {
   uint64_t number;
   struct digest chain;
-  const char *publisher = header_of(message, REPLICA_HEADER);
-  const struct digest *own =
-      read_checked(header_of(message, CHECKED_HEADER), &number, &chain) ? database_chain_at(&replica->database, number) : NULL;
-  bool is_other = publisher && is_plain_name(publisher) && strcmp(publisher, replica->options.replica);
+  const char *publisher = header_of(message, REPLICA_HEADER), *checked = header_of(message, CHECKED_HEADER);
+  bool is_claim = read_checked(checked, &number, &chain);
+  const struct digest *own = is_claim ? database_chain_at(&replica->database, number) : NULL;
+  bool is_named = publisher && is_plain_name(publisher);
   if (!own) return true;
-  if (is_same_digest(own, &chain)) {
-    if (is_other && number >= replica->begun_at) replica->is_grounded = true;
-    return true;
-  }
-  alarm_all(replica, "OTHER HISTORY: replica %s has another one at number %" PRIu64, is_other ? publisher : "of the same name", number);
-  if (replica->is_grounded) return true;
-  replica->has_distrusted = true;
-  replica->distrusted = *database_chain_at(&replica->database, replica->begun_at);
-  lose_rows(replica, "another replica contradicts the snapshot that it began from");
-  return replica->has_rows;
+  if (!is_same_digest(own, &chain)) on_other_history(replica, is_named ? publisher : "without a name", number);
+  else if (is_named && strcmp(publisher, replica->options.replica) && number >= replica->begun_at) replica->is_grounded = true;
+  return replica->has_rows && replica->state != STATE_HALTED;
 }
 
 static void halt(struct replica *replica) {

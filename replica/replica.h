@@ -112,7 +112,9 @@ struct replica {
   enum missing why_halted;
   bool has_rows, is_stopped, is_doubted, is_grounded, has_distrusted;
   bool is_away;             /* it left the group to write a snapshot, which nobody needs to know */
-  struct digest distrusted; /* the chain hash of a snapshot that another replica contradicted */
+  struct digest began_with; /* the chain hash of the snapshot that it began from */
+  struct digest distrusted; /* that of a snapshot that another replica contradicted */
+  int64_t asked_log;        /* when it asked the log about a claim of another replica */
   int64_t fresh;            /* a time whose messages are all applied */
   int64_t next_try, pause;
   uint64_t begun_at;        /* the number of the snapshot that it began from, or 0 */
