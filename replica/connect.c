@@ -121,13 +121,6 @@ static natsStatus set_times(natsOptions *options) {
   return status;
 }
 
-static natsStatus set_handlers(natsOptions *options, const struct connecting *connecting) {
-  natsErrHandler on_error = connecting->on_error ? connecting->on_error : ignore_error;
-  natsStatus status = natsOptions_SetErrorHandler(options, on_error, connecting->closure);
-  if (status == NATS_OK && connecting->on_closed) status = natsOptions_SetClosedCB(options, connecting->on_closed, connecting->closure);
-  return status;
-}
-
 natsStatus connect_to(natsConnection **connection, const struct connecting *connecting) {
   natsOptions *options = NULL;
   natsStatus status = natsOptions_Create(&options);
@@ -136,7 +129,8 @@ natsStatus connect_to(natsConnection **connection, const struct connecting *conn
   if (status == NATS_OK) status = natsOptions_SetName(options, connecting->name);
   if (status == NATS_OK) status = set_times(options);
   if (status == NATS_OK) status = natsOptions_SetSendAsap(options, true);
-  if (status == NATS_OK) status = set_handlers(options, connecting);
+  if (status == NATS_OK)
+    status = natsOptions_SetErrorHandler(options, connecting->on_error ? connecting->on_error : ignore_error, connecting->closure);
   if (status == NATS_OK && connecting->inbox) status = natsOptions_SetCustomInboxPrefix(options, connecting->inbox);
   if (status == NATS_OK) status = natsConnection_Connect(connection, options);
   natsOptions_Destroy(options);

@@ -49,12 +49,11 @@ const char *read_login(const char *path, struct login *login);
 /* Reads the login file that an environment variable names. Without the variable, the login is empty. */
 const char *read_login_of(const char *variable, struct login *login);
 
-/* A connection in the making. closure is passed to both handlers. */
+/* A connection in the making. closure is passed to on_error. */
 struct connecting {
   const char *servers, *name, *inbox; /* addresses with commas between them; the name to tell; the prefix of own inboxes, or NULL */
   const struct login *login;
-  natsConnectionHandler on_closed; /* or NULL: the connection is closed for good */
-  natsErrHandler on_error;         /* or NULL */
+  natsErrHandler on_error; /* or NULL */
   void *closure;
 };
 

@@ -14,6 +14,7 @@ struct follower {
   bool has_last;         /* whether a message came; then last_hash is that of the last one */
   uint64_t last_hash;
   int gaps;
+  bool is_over; /* it reported that the log does not lead on */
 };
 
 static void unsubscribe(struct follower *follower) {
@@ -40,10 +41,12 @@ static void subscribe(struct follower *follower) {
   follower->moved = clock_now();
 }
 
-/* Reports once how the log does not lead on, and ends. */
+static bool is_ending(const struct follower *follower) { return follower->is_over || atomic_load(&follower->log->is_ending); }
+
+/* Reports how the log does not lead on, and ends. */
 static void tell_missing(struct follower *follower, enum missing why) {
-  if (atomic_exchange(&follower->log->is_ending, true)) return;
-  queue_add(follower->log->queue, (struct event){.kind = EVENT_MISSING, .number = follower->log->next, .why = why});
+  struct event event = {.kind = EVENT_MISSING, .number = follower->log->next, .why = why};
+  while (!is_ending(follower) && !(follower->is_over = queue_add(follower->log->queue, event))) nats_Sleep(NEXT_WAIT);
 }
 
 static uint64_t hash_of_message(natsMsg *message) {
@@ -137,10 +140,10 @@ static void pass_on(struct follower *follower, natsMsg *message) {
 static void *follow(void *closure) {
   struct follower follower = {.log = closure, .looked = INT64_MIN / 2};
   follower.next_then = follower.log->next;
-  while (!atomic_load(&follower.log->is_ending)) {
+  while (!is_ending(&follower)) {
     natsMsg *message = NULL;
     if (clock_now() - follower.looked >= LOOK_EVERY) look(&follower);
-    if (!follower.subscription && !atomic_load(&follower.log->is_ending)) subscribe(&follower);
+    if (!follower.subscription && !is_ending(&follower)) subscribe(&follower);
     if (!follower.subscription) {
       nats_Sleep(NEXT_WAIT); /* it may have failed at once, and nothing says when it would not */
       continue;

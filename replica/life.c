@@ -30,11 +30,6 @@ static void free_pending(struct replica *replica) {
 
 /* Connections. */
 
-static void on_connection_closed(natsConnection *connection, void *closure) {
-  (void)connection;
-  queue_add(closure, (struct event){.kind = EVENT_CLOSED});
-}
-
 static void close_connections(struct replica *replica) {
   leave_group(replica, STATE_UNCONNECTED);
   log_unfollow(&replica->log);
@@ -50,8 +45,6 @@ static const char *open_connections(struct replica *replica) {
   char inbox[MOST_SUBJECT_BYTES], identity[IDENTITY_BYTES];
   snprintf(inbox, sizeof inbox, "_MMDB.%s.%s", options->name, options->replica);
   struct connecting connecting = {.servers = options->servers, .name = options->replica, .inbox = inbox, .login = &options->login};
-  connecting.on_closed = on_connection_closed;
-  connecting.closure = &replica->queue;
   memcpy(identity, log->identity, sizeof identity);
   natsStatus status = log_open(log, &connecting, options->name, options->replica, &replica->queue);
   memcpy(log->identity, identity, sizeof identity);
@@ -73,11 +66,18 @@ static bool connect_all(struct replica *replica) {
   return false;
 }
 
-void on_closed(struct replica *replica) {
-  bool is_closed = replica->state != STATE_UNCONNECTED &&
-                   (natsConnection_IsClosed(replica->log.connection) || natsConnection_IsClosed(replica->answers.connection));
-  if (!is_closed) return;
-  tell(replica, "a connection was closed: it connects anew");
+/* Returns why the connections have to be made anew, or NULL. libnats closes one for good if the servers refuse its login again and again.
+ */
+static const char *refuse_connections(struct replica *replica) {
+  if (natsConnection_IsClosed(replica->log.connection) || natsConnection_IsClosed(replica->answers.connection)) return "is closed";
+  return atomic_load(&replica->answers.is_stuck) ? "takes no answers" : NULL;
+}
+
+/* Makes connections anew that are of no more use. The rows stay. */
+static void check_connections(struct replica *replica) {
+  const char *wrong = replica->state == STATE_UNCONNECTED ? NULL : refuse_connections(replica);
+  if (!wrong) return;
+  tell(replica, "a connection %s: it connects anew", wrong);
   close_connections(replica);
   at_once(replica);
 }
@@ -442,11 +442,7 @@ static void apply_pending(struct replica *replica) {
 void on_tick(struct replica *replica) {
   int64_t now = clock_now(), most = replica->options.lost_after;
   answer_late(replica, now);
-  if (replica->state != STATE_UNCONNECTED && atomic_load(&replica->answers.is_stuck)) {
-    tell(replica, "its server takes no answers: it connects anew");
-    close_connections(replica);
-    at_once(replica);
-  }
+  check_connections(replica);
   if (replica->state != STATE_READY && replica->state != STATE_LATE) return;
   look_at_age(replica);
   if (replica->state == STATE_READY && !member_is_in(&replica->member)) {

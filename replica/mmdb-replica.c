@@ -74,7 +74,8 @@ static void *wait_for_signal(void *closure) {
   sigset_t signals;
   int number;
   fill_signals(&signals);
-  while (sigwait(&signals, &number) == 0) queue_add(closure, (struct event){.kind = EVENT_STOP});
+  while (sigwait(&signals, &number) == 0)
+    while (!queue_add(closure, (struct event){.kind = EVENT_STOP})) nats_Sleep(TICK);
   return NULL;
 }
 
@@ -101,7 +102,6 @@ static void handle(struct replica *replica, const struct event *event) {
   case EVENT_BACKUP: on_backup(replica, event->message); break;
   case EVENT_SNAPSHOT: on_snapshot(replica, event->message); break;
   case EVENT_SUM: on_sum(replica, event->message); break;
-  case EVENT_CLOSED: on_closed(replica); break;
   case EVENT_STOP: replica->is_stopped = true; break;
   }
 }

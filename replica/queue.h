@@ -20,9 +20,8 @@ enum event_kind {
   EVENT_STATUS,
   EVENT_BACKUP,
   EVENT_SNAPSHOT,
-  EVENT_SUM,    /* from a replica */
-  EVENT_CLOSED, /* a connection is closed for good */
-  EVENT_STOP    /* the process is asked to end */
+  EVENT_SUM, /* from a replica */
+  EVENT_STOP /* the process is asked to end */
 };
 
 /* How a log differs from what a replica has of it. */

@@ -20,8 +20,9 @@ enum {
   LONGEST_PAUSE = 30000
 };
 
-/* Changes gather into a message until it has this many bytes, or for a millisecond while another one is on its way. */
-enum { GATHERED_BYTES = 64 * 1024, GATHER_WAIT = 1, MOST_BATCHES = 64 };
+/* Changes gather into a message until it has this many bytes, or for a millisecond while another one is on its way. One of which nothing is
+ * heard, because an allocation failed, is forgotten after 10 s. */
+enum { GATHERED_BYTES = 64 * 1024, GATHER_WAIT = 1, MOST_BATCHES = 64, LONGEST_PUBLISHED = 10000 };
 
 enum { LEAST_PAYLOAD = 8192, REPLY_HEAD_BYTES = 4096, MOST_INBOX_BYTES = 256, MOST_WHY_BYTES = 200 };
 
@@ -195,7 +196,6 @@ void on_backup(struct replica *replica, natsMsg *request);
 /* life.c: what a replica does with its rows. */
 void on_message(struct replica *replica, const struct event *event);
 void on_missing(struct replica *replica, enum missing why);
-void on_closed(struct replica *replica);
 void on_snapshot(struct replica *replica, natsMsg *request);
 void on_tick(struct replica *replica);
 void advance(struct replica *replica);

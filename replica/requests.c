@@ -318,8 +318,13 @@ void answer_applied(struct replica *replica) {
 
 void answer_late(struct replica *replica, int64_t now) {
   if (replica->open) answer_waiters(replica, &replica->open->waiters, now, "behind", "unavailable");
-  for (struct batch *batch = replica->published; batch; batch = batch->next)
-    answer_waiters(replica, &batch->waiters, now, "behind", "unavailable");
+  for (struct batch **place = &replica->published; *place;) {
+    struct batch *batch = *place;
+    bool is_dead = batch->since < now - LONGEST_PUBLISHED;
+    answer_waiters(replica, &batch->waiters, is_dead ? INT64_MAX : now, "behind", "unavailable");
+    if (is_dead) free_batch(take_batch(replica, batch->published));
+    else place = &batch->next;
+  }
   answer_waiters(replica, &replica->waiting, now, "behind", "unavailable");
 }
 

@@ -592,8 +592,8 @@ static void queued(void) {
   queue_hold_messages(&queue, true);
   MUST(queue_take(&queue, 0, &event) && event.kind == EVENT_SUM && !queue_take(&queue, 0, &event));
   queue_hold_messages(&queue, false);
-  MUST(queue_add(&queue, (struct event){.kind = EVENT_CLOSED}) && queue_take(&queue, 0, &event) && event.message == one);
-  MUST(queue_take(&queue, 0, &event) && event.kind == EVENT_CLOSED && !queue_take(&queue, 0, &event));
+  MUST(queue_add(&queue, (struct event){.kind = EVENT_STOP}) && queue_take(&queue, 0, &event) && event.message == one);
+  MUST(queue_take(&queue, 0, &event) && event.kind == EVENT_STOP && !queue_take(&queue, 0, &event));
   natsMsg *each[] = {large, other, one, two};
   for (size_t i = 0; i < 4; i++) natsMsg_Destroy(each[i]);
   queue_close(&queue);
