@@ -4,6 +4,35 @@
 #include <stdio.h>
 #include <string.h>
 
+static natsStatus set_headers(natsMsg *message, const struct answers *answers, const struct reply *reply) {
+  char number[24], chain[DIGEST_TEXT_BYTES];
+  natsStatus status = natsMsgHeader_Set(message, STATUS_HEADER, reply->status);
+  if (status == NATS_OK) status = natsMsgHeader_Set(message, REPLICA_HEADER, answers->replica);
+  if (!reply->log || status != NATS_OK) return status;
+  snprintf(number, sizeof number, "%" PRIu64, reply->number);
+  status = natsMsgHeader_Set(message, LOG_HEADER, reply->log);
+  if (status == NATS_OK) status = natsMsgHeader_Set(message, SEQUENCE_HEADER, number);
+  snprintf(number, sizeof number, "%" PRIu64, reply->chain_number);
+  write_digest(chain, reply->chain);
+  if (status == NATS_OK) status = natsMsgHeader_Set(message, CHAIN_HEADER, chain);
+  if (status == NATS_OK) status = natsMsgHeader_Set(message, CHAIN_SEQUENCE_HEADER, number);
+  if (status == NATS_OK && reply->columns) status = natsMsgHeader_Set(message, COLUMNS_HEADER, reply->columns);
+  return status;
+}
+
+/* Sends an answer on a connection that the caller keeps open. */
+static void send_on(natsConnection *connection, struct answers *answers, natsMsg *request, const struct reply *reply) {
+  natsMsg *message = NULL;
+  const char *subject = natsMsg_GetReply(request);
+  /* Without a server, libnats would keep the answer and send it long after its asker has gone. */
+  if (!subject || atomic_load(&answers->is_stuck) || !is_connected(connection)) return;
+  natsStatus status = natsMsg_Create(&message, subject, NULL, (const char *)reply->body.at, (int)reply->body.length);
+  if (status == NATS_OK) status = set_headers(message, answers, reply);
+  if (status == NATS_OK) status = natsConnection_PublishMsg(connection, message);
+  natsMsg_Destroy(message);
+  if (status == NATS_TIMEOUT || status == NATS_IO_ERROR || status == NATS_SSL_ERROR) atomic_store(&answers->is_stuck, true);
+}
+
 /* Whether an answer may be sent to a subject: below the prefix of inboxes, and never to a subject of the servers or of the log. */
 static bool is_inbox(const struct answers *answers, const char *subject) {
   size_t prefix = strlen(answers->inbox), length = subject ? strlen(subject) : 0;
@@ -38,7 +67,9 @@ static int64_t end_of_wait(natsMsg *message) {
 }
 
 /* On a thread of libnats. What nobody can be answered about is dropped here, before it takes room. */
-static void take_request(struct answers *answers, enum event_kind kind, natsMsg *message) {
+static void take_request(const struct intake *intake, natsConnection *connection, natsMsg *message) {
+  struct answers *answers = intake->answers;
+  enum event_kind kind = intake->kind;
   const char *wrong = NULL;
   struct reply reply = {.status = "unready"};
   bool is_taken = false;
@@ -46,15 +77,14 @@ static void take_request(struct answers *answers, enum event_kind kind, natsMsg 
     wrong = refuse_size(kind, message);
     is_taken = !wrong && queue_add(answers->queue, (struct event){.kind = kind, .message = message, .until = end_of_wait(message)});
     if (wrong) reply = (struct reply){.status = "invalid", .body = {(const uint8_t *)wrong, strlen(wrong)}};
-    if (!is_taken) answers_send(answers, message, &reply);
+    if (!is_taken) send_on(connection, answers, message, &reply);
   }
   if (!is_taken) natsMsg_Destroy(message);
 }
 
 static void on_request(natsConnection *connection, natsSubscription *subscription, natsMsg *message, void *closure) {
-  const struct intake *intake = closure;
-  (void)connection, (void)subscription;
-  take_request(intake->answers, intake->kind, message);
+  (void)subscription;
+  take_request(closure, connection, message);
 }
 
 static void on_sum_message(natsConnection *connection, natsSubscription *subscription, natsMsg *message, void *closure) {
@@ -125,30 +155,6 @@ size_t answers_payload(const struct answers *answers) {
   return most < LEAST_PAYLOAD ? 0 : (size_t)most - REPLY_HEAD_BYTES;
 }
 
-static natsStatus set_headers(natsMsg *message, const struct answers *answers, const struct reply *reply) {
-  char number[24], chain[DIGEST_TEXT_BYTES];
-  natsStatus status = natsMsgHeader_Set(message, STATUS_HEADER, reply->status);
-  if (status == NATS_OK) status = natsMsgHeader_Set(message, REPLICA_HEADER, answers->replica);
-  if (!reply->log || status != NATS_OK) return status;
-  snprintf(number, sizeof number, "%" PRIu64, reply->number);
-  status = natsMsgHeader_Set(message, LOG_HEADER, reply->log);
-  if (status == NATS_OK) status = natsMsgHeader_Set(message, SEQUENCE_HEADER, number);
-  snprintf(number, sizeof number, "%" PRIu64, reply->chain_number);
-  write_digest(chain, reply->chain);
-  if (status == NATS_OK) status = natsMsgHeader_Set(message, CHAIN_HEADER, chain);
-  if (status == NATS_OK) status = natsMsgHeader_Set(message, CHAIN_SEQUENCE_HEADER, number);
-  if (status == NATS_OK && reply->columns) status = natsMsgHeader_Set(message, COLUMNS_HEADER, reply->columns);
-  return status;
-}
-
 void answers_send(struct answers *answers, natsMsg *request, const struct reply *reply) {
-  natsMsg *message = NULL;
-  const char *subject = natsMsg_GetReply(request);
-  /* Without a server, libnats would keep the answer and send it long after its asker has gone. */
-  if (!subject || atomic_load(&answers->is_stuck) || !is_connected(answers->connection)) return;
-  natsStatus status = natsMsg_Create(&message, subject, NULL, (const char *)reply->body.at, (int)reply->body.length);
-  if (status == NATS_OK) status = set_headers(message, answers, reply);
-  if (status == NATS_OK) status = natsConnection_PublishMsg(answers->connection, message);
-  natsMsg_Destroy(message);
-  if (status == NATS_TIMEOUT || status == NATS_IO_ERROR || status == NATS_SSL_ERROR) atomic_store(&answers->is_stuck, true);
+  send_on(answers->connection, answers, request, reply);
 }

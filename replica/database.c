@@ -47,7 +47,7 @@ static void move_on(struct database *database, uint64_t number, const struct dig
   database->chain = *chain;
   database->applied = number;
   database->chains[number % CHAINS] = *chain;
-  database->progress = (struct progress){.is_begun = false};
+  database->progress = (struct progress){.entries = 0};
 }
 
 void database_set_place(struct database *database, uint64_t number, const struct digest *before, const struct digest *chain) {
@@ -240,9 +240,10 @@ enum applied database_apply(struct database *database, const struct message *mes
   struct entry entry;
   uint64_t checked;
   struct text rest = message->body;
-  if (is_newer(message)) return APPLY_NEWER;
+  if (is_newer(message)) return database_is_between(database) ? APPLY_BROKEN : APPLY_NEWER;
   if (!chain_on(&database->digester, &database->chain, message, &chain)) return APPLY_MEMORY;
-  if (!database->progress.is_begun) database->progress = (struct progress){.is_begun = true, .forgotten = database->recents.forgotten};
+  if (database_is_between(database) && !is_same_digest(&chain, &database->progress.chain)) return APPLY_BROKEN;
+  if (!database_is_between(database)) database->progress = (struct progress){.forgotten = database->recents.forgotten, .chain = chain};
   if (is_well_formed(message, &checked)) {
     for (size_t i = 0; next_entry(&rest, &entry); i++) {
       if (i < database->progress.entries) continue;

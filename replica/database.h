@@ -25,7 +25,8 @@ struct message {
 struct progress {
   size_t entries;     /* how many of its entries are behind it */
   uint64_t forgotten; /* recents.forgotten before the message */
-  bool is_begun, has_run;
+  bool has_run;
+  struct digest chain;  /* the chain hash that the message leads to, by which it is told from another one */
   enum outcome outcome; /* of the entry that has run and whose id is not kept yet */
 };
 

@@ -280,8 +280,7 @@ static void join_group(struct replica *replica) {
   replica->is_away = false;
 }
 
-/* Joins the group if the rows are fresh enough. */
-static void join_if_fresh(struct replica *replica) {
+void join_if_fresh(struct replica *replica) {
   look_at_age(replica);
   bool may_join = replica->state == STATE_LATE && !replica->pending && replica->fresh;
   if (may_join && replica->fresh >= clock_now() - replica->options.lost_after / 2) join_group(replica);
@@ -304,15 +303,18 @@ static void cut_log(struct replica *replica) {
   if (status != NATS_OK) tell(replica, "old messages were not dropped: %s", natsStatus_GetText(status));
 }
 
+void step_aside(struct replica *replica) {
+  if (replica->state != STATE_READY) return;
+  member_leave(&replica->member);
+  replica->state = STATE_LATE;
+  replica->is_away = true;
+}
+
 /* Writes a snapshot. The replica leaves the group for that, so that nobody waits for it. */
 static bool write_snapshot(struct replica *replica) {
   const char *identity = replica->log.identity;
   if (!replica->snapshots.folder || replica->is_doubted || database_is_between(&replica->database)) return false;
-  if (replica->state == STATE_READY) {
-    member_leave(&replica->member);
-    replica->state = STATE_LATE;
-    replica->is_away = true;
-  }
+  step_aside(replica);
   replica->snapshot_at = replica->database.applied;
   if (!snapshot_write(&replica->snapshots, &replica->database, identity, false)) return false;
   replica->written = replica->database.applied;
@@ -344,6 +346,7 @@ static void snapshot_if_due(struct replica *replica) {
 void on_snapshot(struct replica *replica, natsMsg *request) {
   if (!replica->has_rows || replica->state == STATE_ORPHANED) reply_bare(replica, request, "unready");
   else reply_bare(replica, request, write_snapshot(replica) ? "done" : "unavailable");
+  join_if_fresh(replica);
 }
 
 void end_life(struct replica *replica) {

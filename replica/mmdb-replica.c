@@ -215,21 +215,19 @@ static bool open_replica(struct replica *replica) {
 }
 
 int main(int count, char **words) {
-  struct replica *replica = calloc(1, sizeof *replica);
-  if (!replica) return 1;
-  if (!read_options(&replica->options, count, words)) {
+  static struct replica replica; /* the thread that waits for signals may outlive this function */
+  if (!read_options(&replica.options, count, words)) {
     fputs(usage, stderr);
     return 2;
   }
   umask(S_IRWXG | S_IRWXO);
-  if (!open_replica(replica)) return 1;
-  live(replica);
-  end_life(replica);
-  member_close(&replica->member);
+  if (!open_replica(&replica)) return 1;
+  live(&replica);
+  end_life(&replica);
+  member_close(&replica.member);
+  queue_close(&replica.queue);
   nats_CloseAndWait(CALL_WAIT);
-  tell(replica, "ends");
-  queue_close(&replica->queue);
-  free(replica->options.servers);
-  free(replica);
+  tell(&replica, "ends");
+  free(replica.options.servers);
   return 0;
 }

@@ -18,13 +18,9 @@ bool queue_open(struct queue *queue) {
 }
 
 void queue_close(struct queue *queue) {
-  for (struct event *event = queue->first, *next; event; event = next) {
-    next = event->next;
-    natsMsg_Destroy(event->message);
-    free(event);
-  }
-  queue->first = NULL;
-  queue->end = &queue->first;
+  struct event event;
+  queue_set_takes_messages(queue, false);
+  while (queue_take(queue, 0, &event)) natsMsg_Destroy(event.message);
 }
 
 static bool is_request(const struct event *event) {

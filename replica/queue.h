@@ -57,6 +57,8 @@ struct load {
 };
 
 bool queue_open(struct queue *queue);
+
+/* Frees what is in the queue. Other threads may still add to it. */
 void queue_close(struct queue *queue);
 
 /*

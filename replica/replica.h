@@ -201,6 +201,10 @@ void on_tick(struct replica *replica);
 void advance(struct replica *replica);
 void end_life(struct replica *replica);
 
+/* Leaves the group for a work that takes long; joins it if the rows are fresh enough. */
+void step_aside(struct replica *replica);
+void join_if_fresh(struct replica *replica);
+
 /* Another replica has other rows, and is right: drops the rows, and begins anew. */
 void drop_rows(struct replica *replica, const char *why);
 

@@ -56,7 +56,7 @@ void on_backup(struct replica *replica, natsMsg *request) {
     reply_bare(replica, request, "unready");
     return;
   }
-  member_leave(&replica->member);
+  step_aside(replica);
   FILE *file = tmpfile();
   bool is_done = file && snapshot_put(file, &replica->snapshots, &replica->database, replica->log.identity);
   if (is_done) {
@@ -65,4 +65,5 @@ void on_backup(struct replica *replica, natsMsg *request) {
   }
   if (file) fclose(file);
   reply_bare(replica, request, is_done ? "done" : "unavailable");
+  join_if_fresh(replica);
 }
