@@ -1,0 +1,121 @@
+#!/usr/bin/env python3
+"""A client of replicas in plain Python. It reads a script, sends each line as a question or as a change, and prints rows and replies.
+
+    python3 ask.py HOST:PORT [LOG] < SCRIPT
+
+A class for programs is Replicas. It keeps one connection, and the number of the log that it has seen, so no answer goes back before another.
+replica/PROTOCOL.md defines subjects, headers and statuses. This client knows neither passwords nor TLS.
+"""
+
+import json
+import re
+import secrets
+import socket
+import sys
+import time
+from typing import NamedTuple, Union
+
+Value = Union[int, str]
+NOT_NOW = ("unready", "unavailable", "behind", "memory", "orphaned", "503", "")
+VALUE = re.compile(r"'((?:[^']|'')*)'|(-?[0-9]+)")
+
+
+class Refused(Exception):
+    """A replica refused a request: str() has its status, and what is wrong."""
+
+
+class Answer(NamedTuple):
+    headers: dict[str, str]
+    body: str
+
+
+class Rows(NamedTuple):
+    """Rows, with the names and the types (INT or TEXT) of their columns."""
+
+    columns: list[tuple[str, str]]
+    rows: list[tuple[Value, ...]]
+
+
+class Replicas:
+    """Replicas that follow a log. wait is for how many seconds a request is tried. A replica object is used by one thread."""
+
+    def __init__(self, host: str, port: int, log: str = "mmdb", wait: float = 30.0):
+        self.address, self.log, self.wait = (host, port), log, wait
+        self.socket: Union[socket.socket, None] = None
+        self.number, self.identity, self.inbox = 0, "", "_INBOX." + secrets.token_hex(11)
+
+    def change(self, script: str, must_match: bool = False) -> list[str]:
+        """Applies a script once, and returns its replies. With must_match, each UPDATE and DELETE must match a row."""
+        headers = {"Mmdb-Id": secrets.token_hex(12)}
+        if must_match:
+            headers["Mmdb-Condition"] = "rows"
+        if not self.number:
+            self.ask("TABLES")
+        return self.request("change", script, {**headers, "Mmdb-Since": str(self.number)}).body.splitlines()
+
+    def ask(self, question: str) -> Rows:
+        """Returns the rows of a question. They contain all that this object has seen before."""
+        answer = self.request("ask", question, {"Mmdb-At-Least": str(self.number)})
+        columns = [tuple(column.split(" ")) for column in answer.headers.get("Mmdb-Columns", "").split(", ") if column]
+        lines = answer.body.splitlines()[:-1] if columns else []
+        rows = [tuple(int(number) if number else text.replace("''", "'") for text, number in VALUE.findall(line)) for line in lines]
+        return Rows(columns, rows)  # type: ignore[arg-type]
+
+    def request(self, word: str, body: str, headers: dict[str, str]) -> Answer:
+        """The answer to a request, which is sent again until there is one. Raises Refused or TimeoutError."""
+        if self.identity:
+            headers["Mmdb-Log"] = self.identity
+        until = time.monotonic() + self.wait
+        while time.monotonic() < until:
+            try:
+                answer = self.send(f"{self.log}.{word}", body.encode(), headers)
+            except OSError:
+                self.socket = None
+                time.sleep(0.1)
+                continue
+            status = answer.headers.get("Mmdb-Status", "")
+            if status == "done":
+                self.identity = answer.headers["Mmdb-Log"]
+                self.number = max(self.number, int(answer.headers["Mmdb-Sequence"]))
+                return answer
+            if status not in NOT_NOW:
+                raise Refused(f"{status}: {answer.body}")
+            time.sleep(0.1)
+        raise TimeoutError("no replica answers")
+
+    def send(self, subject: str, body: bytes, headers: dict[str, str]) -> Answer:
+        if not self.socket:
+            self.socket = socket.create_connection(self.address, timeout=2.5)
+            self.lines = self.socket.makefile("rb")
+            said = {"verbose": False, "headers": True, "no_responders": True, "lang": "python", "version": "1"}
+            self.socket.sendall(f"CONNECT {json.dumps(said)}\r\nSUB {self.inbox}.* 1\r\n".encode())
+        reply = f"{self.inbox}.{secrets.token_hex(4)}"
+        head = "NATS/1.0\r\n" + "".join(f"{name}: {value}\r\n" for name, value in headers.items()) + "\r\n"
+        self.socket.sendall(f"HPUB {subject} {reply} {len(head)} {len(head) + len(body)}\r\n{head}".encode() + body + b"\r\n")
+        while True:
+            words = self.lines.readline().decode().split()
+            if not words or words[0] == "-ERR":
+                raise ConnectionError(" ".join(words))
+            if words[0] == "PING":
+                self.socket.sendall(b"PONG\r\n")
+            elif words[0] in ("MSG", "HMSG"):
+                block = self.lines.read(int(words[-1]) + 2)[:-2]
+                if words[1] == reply:
+                    length = int(words[-2]) if words[0] == "HMSG" else 0
+                    pairs = [line.split(":", 1) for line in block[:length].decode().splitlines() if ":" in line]
+                    return Answer({name: value.strip() for name, value in pairs}, block[length:].decode())
+
+
+def main() -> None:
+    host, port = sys.argv[1].split(":")
+    replicas = Replicas(host, int(port), *sys.argv[2:3])
+    for line in sys.stdin:
+        if line.split(" ")[0].strip() in ("SELECT", "SCAN", "SHOW"):
+            found = replicas.ask(line)
+            print([name for name, _ in found.columns], *found.rows, sep="\n")
+        else:
+            print(*replicas.change(line))
+
+
+if __name__ == "__main__":
+    main()
