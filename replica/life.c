@@ -359,22 +359,34 @@ void end_life(struct replica *replica) {
 
 /* Messages. */
 
-/* Asks the log whether its message of a number is the one that this replica applied, at most once a second. */
-static enum said ask_log(struct replica *replica, uint64_t number) {
+/* Asks the log whether it has a message that this replica applied. */
+static enum said ask_log_at(struct replica *replica, uint64_t number) {
   const struct digest *before = number ? database_chain_at(&replica->database, number - 1) : NULL;
   const struct digest *chain = database_chain_at(&replica->database, number);
-  int64_t now = clock_now();
-  if (!before || !chain || now - replica->asked_log < PAUSE) return SAID_NOTHING;
-  replica->asked_log = now;
+  if (!before || !chain) return SAID_NOTHING;
   return log_leads_to(&replica->log, &replica->database.digester, number, before, chain);
+}
+
+/*
+ * Returns whether the log has another message than this replica applied under a number or shortly before it. What it lost may lie before
+ * messages that it has, so it is asked for several, for half a second at most and once a second.
+ */
+static bool contradicts_log(struct replica *replica, uint64_t number) {
+  int64_t began = clock_now();
+  if (began - replica->asked_log < PAUSE) return false;
+  replica->asked_log = began;
+  enum said said = SAID_YES;
+  for (uint64_t back = 0; said == SAID_YES && back < number && clock_now() - began < MOST_BUSY; back++)
+    said = ask_log_at(replica, number - back);
+  return said == SAID_NO;
 }
 
 /* Another replica had another history at a number. Either this one is wrong, or the other. */
 static void on_other_history(struct replica *replica, const char *publisher, uint64_t number) {
   alarm_all(replica, "OTHER HISTORY: replica %s has another one at number %" PRIu64, publisher, number);
-  if (ask_log(replica, number) == SAID_NO) {
+  if (contradicts_log(replica, number)) {
     lose_rows(replica, "the log has another history than its rows");
-  } else if (!replica->is_grounded) {
+  } else if (!replica->is_grounded && !replica->is_doubted) {
     replica->has_distrusted = true;
     replica->distrusted = replica->began_with;
     lose_rows(replica, "another replica contradicts the snapshot that it began from");

@@ -293,13 +293,16 @@ void on_published(struct replica *replica, const struct event *event) {
   struct batch *batch = take_batch(replica, event->message);
   natsMsg_Destroy(event->message);
   if (!batch) return;
-  if (event->has_failed) answer_waiters(replica, &batch->waiters, INT64_MAX, "unavailable", "unavailable");
+  /* A number that this replica had applied before it published shows that the log lost what was there. */
+  bool is_lost = !event->has_failed && event->number <= batch->checked;
+  if (event->has_failed || is_lost) answer_waiters(replica, &batch->waiters, INT64_MAX, "unavailable", "unavailable");
   for (struct waiter *waiter; (waiter = first_of(&batch->waiters));) {
     take_out(waiter);
     waiter->number = event->number;
     put_in(&replica->waiting, waiter);
   }
   free_batch(batch);
+  if (is_lost && replica->has_rows && replica->log.is_followed) on_missing(replica, MISSING_HISTORY);
   answer_applied(replica);
   flush_changes(replica);
 }
