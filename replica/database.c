@@ -102,20 +102,15 @@ static bool copy_name(char name[MOST_NAME_BYTES + 1], struct text word) {
 }
 
 /* Copies the line of a standing query to the place after the last one, before the line runs. Returns false if an allocation fails. */
-static bool prepare_standing(struct database *database, struct text line) {
+static bool prepare_standing(struct database *database, uint8_t kind, struct text line) {
   struct standing *next = &database->standing[database->standing_count];
-  if (!is_word(word_of_line(line, 0), "WATCH") || database->standing_count == MOST_STANDING) return true;
+  if (kind != MMDB_KIND_WATCH || database->standing_count == MOST_STANDING) return true;
   bytes_free(&next->line);
   return copy_name(next->name, word_of_line(line, 1)) && bytes_add(&next->line, line.at, line.length);
 }
 
-/* Keeps the line that was prepared, or drops the line of a standing query that is gone. */
-static void keep_standing(struct database *database, struct text line) {
-  struct text word = word_of_line(line, 0);
-  char name[MOST_NAME_BYTES + 1];
+static void drop_standing(struct database *database, const char *name) {
   size_t *count = &database->standing_count;
-  if (is_word(word, "WATCH") && *count < MOST_STANDING) ++*count;
-  if (!is_word(word, "UNWATCH") || !copy_name(name, word_of_line(line, 1))) return;
   for (size_t i = 0; i < *count; i++) {
     if (strcmp(database->standing[i].name, name)) continue;
     bytes_free(&database->standing[i].line);
@@ -124,6 +119,13 @@ static void keep_standing(struct database *database, struct text line) {
     database->standing[*count] = (struct standing){.line = {NULL, 0, 0}};
     return;
   }
+}
+
+/* Keeps the line that was prepared, or drops the line of a standing query that is gone. */
+static void keep_standing(struct database *database, uint8_t kind, struct text line) {
+  char name[MOST_NAME_BYTES + 1];
+  if (kind == MMDB_KIND_WATCH && database->standing_count < MOST_STANDING) database->standing_count++;
+  if (kind == MMDB_KIND_UNWATCH && copy_name(name, word_of_line(line, 1))) drop_standing(database, name);
 }
 
 /* Scripts. */
@@ -140,33 +142,32 @@ static bool add_text(mmdb *db, struct bytes *text, size_t most) {
   return true;
 }
 
-/* Appends the reply to a change. What is done needs no memory from the library, so it is never left without a reply. */
-static bool add_reply(struct database *database, uint8_t status) {
-  if (status == MMDB_DONE) return bytes_print(&database->replies, "ok\n");
-  if (status == MMDB_COUNT) return bytes_print(&database->replies, "ok %zu\n", mmdb_count(&database->db));
-  return add_text(&database->db, &database->replies, SIZE_MAX);
-}
-
-/* Whether a line had to match a row, and matched none. */
-static bool is_unmet(struct database *database, struct text line, uint8_t status, unsigned flags) {
-  struct text word = word_of_line(line, 0);
-  bool has_to = (flags & FLAG_ROWS) && status == MMDB_COUNT && (is_word(word, "UPDATE") || is_word(word, "DELETE"));
-  return has_to && !mmdb_count(&database->db);
+/* Appends the reply to a change, for which there is room: what is done is never left without a reply. */
+static void add_reply(struct database *database, uint8_t status) {
+  struct bytes *replies = &database->replies;
+  if (status == MMDB_DONE) bytes_print(replies, "ok\n");
+  else if (status == MMDB_COUNT) bytes_print(replies, "ok %zu\n", mmdb_count(&database->db));
+  else add_refusal(replies, status);
 }
 
 /* Takes back the transaction that is open, if any. */
 static bool roll_back(struct database *database) {
-  mmdb_cell nothing[1];
-  return !mmdb_in_transaction(&database->db) || mmdb_run(&database->db, database->rollback, nothing, 0) == MMDB_DONE;
+  return !mmdb_in_transaction(&database->db) || mmdb_run(&database->db, database->rollback, NULL, 0) == MMDB_DONE;
 }
 
-/* Runs a line of a script. Returns MMDB_MEMORY if an allocation failed. */
-static uint8_t run_line(struct database *database, struct text line) {
-  if (!bytes_reserve(&database->replies, MOST_REPLY_BYTES) || !prepare_standing(database, line)) return MMDB_MEMORY;
-  uint8_t status = mmdb_execute(&database->db, line.at, line.length);
-  if (status == MMDB_MEMORY || status == MMDB_MISUSE) return MMDB_MEMORY;
-  if (status < MMDB_LINE_TOO_LONG) keep_standing(database, line);
-  return add_reply(database, status) ? status : MMDB_MEMORY;
+/* Runs a line of a script. Returns the status of its reply; MMDB_NOTHING for a comment; or MMDB_MEMORY, and then nothing changed. */
+static uint8_t run_line(struct database *database, struct text line, uint8_t *kind) {
+  mmdb *db = &database->db;
+  size_t statement;
+  if (!bytes_reserve(&database->replies, MOST_REPLY_BYTES)) return MMDB_MEMORY;
+  if (mmdb_prepare(db, line.at, line.length, &statement) != MMDB_DONE) return MMDB_MEMORY;
+  bool is_known = mmdb_statement_kind(db, statement, kind) == MMDB_DONE && prepare_standing(database, *kind, line);
+  uint8_t status = is_known ? mmdb_run(db, statement, NULL, 0) : MMDB_MEMORY;
+  mmdb_finalize(db, statement);
+  if (status == MMDB_MISUSE) return MMDB_MEMORY;
+  if (status < MMDB_LINE_TOO_LONG) keep_standing(database, *kind, line);
+  if (status != MMDB_MEMORY && status != MMDB_NOTHING) add_reply(database, status);
+  return status;
 }
 
 /* Runs the lines of a script up to the first that fails, which takes the script back. */
@@ -174,11 +175,11 @@ static enum applied run_script(struct database *database, const struct entry *en
   struct text script = entry->script, line;
   *outcome = OUTCOME_DONE;
   while (*outcome == OUTCOME_DONE && next_line(&script, &line)) {
-    if (kind_of_line(line) == LINE_OF_NOTHING) continue;
-    uint8_t status = run_line(database, line);
+    uint8_t kind = MMDB_KIND_NOTHING, status = run_line(database, line, &kind);
     if (status == MMDB_MEMORY) return roll_back(database) ? APPLY_MEMORY : APPLY_BROKEN;
+    bool has_to_match = (entry->flags & FLAG_ROWS) && (kind == MMDB_KIND_UPDATE || kind == MMDB_KIND_DELETE);
     if (status >= MMDB_LINE_TOO_LONG) *outcome = OUTCOME_REFUSED;
-    else if (is_unmet(database, line, status, entry->flags)) *outcome = OUTCOME_UNMET;
+    else if (has_to_match && !mmdb_count(&database->db)) *outcome = OUTCOME_UNMET;
   }
   return roll_back(database) ? APPLIED : APPLY_BROKEN;
 }
@@ -258,36 +259,51 @@ enum applied database_apply(struct database *database, const struct message *mes
 
 /* Questions. */
 
-enum answer database_ask(struct database *database, struct text line, size_t most_bytes) {
+/* Writes the columns of a statement to an empty text, as "name INT, name TEXT", or nothing if it has none or if they do not fit. */
+static void write_columns(mmdb *db, size_t statement, char text[COLUMNS_BYTES]) {
+  mmdb_column columns[MOST_COLUMNS];
+  size_t count = 0, length = 0;
+  if (mmdb_statement_columns(db, statement, columns, MOST_COLUMNS, &count) != MMDB_DONE || count > MOST_COLUMNS) return;
+  for (size_t i = 0; i < count; i++) {
+    const char *type = columns[i].type == MMDB_NUMBER ? "INT" : "TEXT", *comma = i ? ", " : "";
+    int more =
+        snprintf(text + length, COLUMNS_BYTES - length, "%s%.*s %s", comma, (int)columns[i].len, (const char *)columns[i].name, type);
+    length += more < 0 ? COLUMNS_BYTES : (size_t)more;
+    if (length >= COLUMNS_BYTES) text[0] = 0;
+    if (!text[0]) return;
+  }
+}
+
+/* Refuses a line that has no reading, or that has a hole, as the program does. */
+static enum answer refuse_line(struct database *database, uint8_t status) {
+  if (status == MMDB_MEMORY || status == MMDB_MISUSE) return ANSWER_MEMORY;
+  return add_refusal(&database->replies, status) ? ANSWER_REFUSED : ANSWER_MEMORY;
+}
+
+enum answer database_ask(struct database *database, struct text line, size_t most_bytes, char columns[COLUMNS_BYTES]) {
   struct bytes *reply = &database->replies;
+  mmdb *db = &database->db;
+  size_t statement, holes;
   bytes_trim(reply);
   reply->length = 0;
-  uint8_t status = mmdb_execute(&database->db, line.at, line.length);
-  if (status == MMDB_MEMORY || status == MMDB_MISUSE || !add_text(&database->db, reply, most_bytes)) return ANSWER_MEMORY;
+  columns[0] = 0;
+  uint8_t status = mmdb_prepare(db, line.at, line.length, &statement);
+  if (status != MMDB_DONE) return refuse_line(database, status);
+  write_columns(db, statement, columns);
+  bool has_holes = mmdb_parameters(db, statement, &holes) != MMDB_DONE || holes;
+  status = has_holes ? MMDB_SYNTAX : mmdb_run(db, statement, NULL, 0);
+  mmdb_finalize(db, statement);
+  if (has_holes) return refuse_line(database, status);
+  if (status == MMDB_MEMORY || status == MMDB_MISUSE || !add_text(db, reply, most_bytes)) return ANSWER_MEMORY;
   if (!reply->length) return ANSWER_TOO_LARGE;
   return status < MMDB_LINE_TOO_LONG ? ANSWER_DONE : ANSWER_REFUSED;
 }
 
-bool database_columns(struct database *database, struct text line, char *text, size_t room) {
-  mmdb_column columns[MOST_COLUMNS];
-  size_t count = 0, length = 0;
-  bool is_done = mmdb_columns(&database->db, line.at, line.length, columns, MOST_COLUMNS, &count) == MMDB_DONE;
-  if (!is_done || !count || count > MOST_COLUMNS) return false;
-  for (size_t i = 0; i < count; i++) {
-    const char *type = columns[i].type == MMDB_NUMBER ? "INT" : "TEXT";
-    int more = snprintf(text + length, room - length, "%s%.*s %s", i ? ", " : "", (int)columns[i].len, (const char *)columns[i].name, type);
-    if (more < 0 || (size_t)more >= room - length) return false;
-    length += (size_t)more;
-  }
-  return true;
-}
-
 bool database_restore(struct database *database, struct text line) {
-  if (!prepare_standing(database, line)) return false;
-  uint8_t status = mmdb_execute(&database->db, line.at, line.length);
-  if ((status != MMDB_DONE && status != MMDB_COUNT) || mmdb_in_transaction(&database->db)) return false;
-  keep_standing(database, line);
-  return true;
+  uint8_t kind = MMDB_KIND_NOTHING;
+  database->replies.length = 0;
+  uint8_t status = run_line(database, line, &kind);
+  return (status == MMDB_DONE || status == MMDB_COUNT) && !mmdb_in_transaction(&database->db);
 }
 
 bool database_text(struct database *database, const char *line, struct bytes *text) {

@@ -7,6 +7,7 @@
 #include <mmdb.h>
 
 enum { LOG_FORMAT = 2, MOST_STANDING = 32, CHAINS = 8192, IDENTITY_DIGITS = 16, IDENTITY_BYTES = IDENTITY_DIGITS + 1 };
+enum { COLUMNS_BYTES = 2048 };
 
 /* The line that made a standing query. TABLES does not return it, and a snapshot needs it. */
 struct standing {
@@ -83,11 +84,11 @@ const struct digest *database_chain_at(const struct database *database, uint64_t
 /* Computes the digest of a script and its flags, under which its id is kept. */
 bool database_digest(struct database *database, struct text script, unsigned flags, struct digest *digest);
 
-/* Answers a line that asks. The reply is in replies, except in the last two cases. Nothing else changes. */
-enum answer database_ask(struct database *database, struct text line, size_t most_bytes);
-
-/* Writes the columns of the rows that a line returns, as "name INT, name TEXT". Returns false if it has none, or if they do not fit. */
-bool database_columns(struct database *database, struct text line, char *text, size_t room);
+/*
+ * Answers a line that asks. The reply is in replies, except in the last two cases. columns gets the columns of its rows, as
+ * "name INT, name TEXT", or nothing. Nothing else changes.
+ */
+enum answer database_ask(struct database *database, struct text line, size_t most_bytes, char columns[COLUMNS_BYTES]);
 
 /* Runs a line of a snapshot. Returns false unless it is done. */
 bool database_restore(struct database *database, struct text line);

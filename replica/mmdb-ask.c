@@ -7,6 +7,8 @@
  */
 #include "bytes.h"
 #include "connect.h"
+#include "database.h"
+#include "script.h"
 #include <errno.h>
 #include <getopt.h>
 #include <inttypes.h>
@@ -21,7 +23,7 @@
  * replicas to tell their status. */
 enum { TRY_WAIT = 2500, MOST_TRY_WAIT = 20000, PAUSE = 100, STATUS_WAIT = 1000 };
 
-enum { RANDOM_BYTES = 12, MOST_PREFIX_BYTES = MOST_ID_BYTES - 21, IDENTITY_DIGITS = 16, DIGITS_BYTES = 24, LOG_FORMAT = 2 };
+enum { RANDOM_BYTES = 12, MOST_PREFIX_BYTES = MOST_ID_BYTES - 21, DIGITS_BYTES = 24 };
 
 /* With --load, lines of INSERT are sent in scripts of at most this many bytes. */
 enum { LOAD_BYTES = 256 * 1024 };
@@ -38,8 +40,10 @@ struct asker {
   const char *name, *replica, *prefix, *inbox;
   struct login login;
   enum action action;
-  char random[2 * RANDOM_BYTES + 1], identity[IDENTITY_DIGITS + 1];
+  char random[2 * RANDOM_BYTES + 1], identity[IDENTITY_BYTES];
   natsConnection *connection;
+  mmdb reader;                      /* a database that only reads lines */
+  bool is_inside;                   /* the script that is gathered began with BEGIN */
   uint64_t number, changes, copies; /* the number to demand; how many changes there were; the copies of a log to make */
   uint64_t since;
   int64_t wait;
@@ -158,7 +162,7 @@ static void take_place(struct asker *asker, natsMsg *answer) {
   const char *identity = header_of(answer, LOG_HEADER);
   uint64_t number;
   if (!identity || strlen(identity) != IDENTITY_DIGITS || !number_in_header(answer, SEQUENCE_HEADER, &number)) return;
-  if (!*asker->identity) memcpy(asker->identity, identity, IDENTITY_DIGITS + 1);
+  if (!*asker->identity) memcpy(asker->identity, identity, IDENTITY_BYTES);
   if (number > asker->number) asker->number = number;
 }
 
@@ -231,15 +235,18 @@ static bool send_script(struct asker *asker, struct bytes *script) {
   return is_done;
 }
 
-/* Sends what a line ends: itself, or the script since BEGIN. */
+/* Sends what a line ends: itself, or the script since BEGIN. A line without a reading is a question, which a replica refuses as mmdb does.
+ */
 static bool take_line(struct asker *asker, struct bytes *script, struct text line) {
-  enum line_kind kind = kind_of_line(line);
-  if (!script->length && kind == LINE_OF_NOTHING) return true;
-  if (!script->length && kind == LINE_OF_QUESTION) return ask(asker, line);
+  struct reading reading = read_line(&asker->reader, line);
+  if (reading.status == MMDB_MEMORY) return false;
+  bool has_kind = reading.status == MMDB_DONE;
+  if (!script->length && has_kind && reading.kind == MMDB_KIND_NOTHING) return true;
+  if (!script->length && (!has_kind || is_question(reading.kind))) return ask(asker, line);
+  if (!script->length) asker->is_inside = reading.kind == MMDB_KIND_BEGIN;
   if (!bytes_add(script, line.at, line.length) || !bytes_add(script, "\n", 1)) return false;
-  struct text whole = {script->at, script->length}, first;
-  if (!next_line(&whole, &first) || (kind_of_line(first) == LINE_OF_BEGIN && kind != LINE_OF_END)) return true;
-  return send_script(asker, script);
+  bool is_end = has_kind && (reading.kind == MMDB_KIND_COMMIT || reading.kind == MMDB_KIND_ROLLBACK);
+  return (asker->is_inside && !is_end) || send_script(asker, script);
 }
 
 static bool end_load(struct asker *asker, struct bytes *script) {
@@ -249,9 +256,11 @@ static bool end_load(struct asker *asker, struct bytes *script) {
 
 /* Gathers lines of INSERT into transactions, and sends each other line alone. A snapshot is loaded like that. */
 static bool load_line(struct asker *asker, struct bytes *script, struct text line) {
-  enum line_kind kind = kind_of_line(line);
-  if (kind == LINE_OF_NOTHING) return true;
-  if (kind != LINE_OF_CHANGE) return end_load(asker, script) && change(asker, line) && !asker->was_refused;
+  struct reading reading = read_line(&asker->reader, line);
+  if (reading.status == MMDB_MEMORY) return false;
+  if (reading.status == MMDB_DONE && reading.kind == MMDB_KIND_NOTHING) return true;
+  bool is_insert = reading.status == MMDB_DONE && reading.kind == MMDB_KIND_INSERT;
+  if (!is_insert) return end_load(asker, script) && change(asker, line) && !asker->was_refused;
   if (script->length + line.length > LOAD_BYTES && !end_load(asker, script)) return false;
   if (!script->length && !bytes_add(script, "BEGIN\n", 6)) return false;
   return bytes_add(script, line.at, line.length) && bytes_add(script, "\n", 1);
@@ -261,7 +270,7 @@ static bool take_script(struct asker *asker) {
   struct bytes script = {NULL, 0, 0};
   char *bytes = NULL;
   size_t room = 0;
-  bool is_done = true;
+  bool is_done = mmdb_open(&asker->reader) == MMDB_DONE;
   for (ssize_t length; is_done && (length = getline(&bytes, &room, stdin)) > 0;) {
     struct text rest = {(const uint8_t *)bytes, (size_t)length}, line;
     if (!next_line(&rest, &line)) continue;
@@ -272,20 +281,21 @@ static bool take_script(struct asker *asker) {
   is_done = is_done && !script.length && !ferror(stdin);
   free(bytes);
   bytes_free(&script);
+  mmdb_close(&asker->reader);
   return is_done;
 }
 
 /* The log. */
 
-static bool make_identity(char identity[IDENTITY_DIGITS + 1]) {
+static bool make_identity(char identity[IDENTITY_BYTES]) {
   uint64_t number;
   if (getrandom(&number, sizeof number, 0) != sizeof number) return false;
-  snprintf(identity, IDENTITY_DIGITS + 1, "%016" PRIx64, number);
+  snprintf(identity, IDENTITY_BYTES, "%016" PRIx64, number);
   return true;
 }
 
 static bool make_log(struct asker *asker) {
-  char subject[MOST_SUBJECT_BYTES], identity[IDENTITY_DIGITS + 1], description[64];
+  char subject[MOST_SUBJECT_BYTES], identity[IDENTITY_BYTES], description[64];
   const char *subjects[] = {subject};
   jsCtx *jetstream = NULL;
   jsStreamConfig config;

@@ -84,12 +84,12 @@ static const char *words_of_answer(const struct replica *replica, enum answer an
 static void answer_question(struct replica *replica, natsMsg *request) {
   struct database *database = &replica->database;
   struct text script = body_of(request), line;
-  char columns[REPLY_HEAD_BYTES / 2];
+  char columns[COLUMNS_BYTES];
   if (!next_line(&script, &line)) line = script;
-  enum answer answer = database_ask(database, line, answers_payload(&replica->answers));
+  enum answer answer = database_ask(database, line, answers_payload(&replica->answers), columns);
   struct reply reply = {.status = words_of_answer(replica, answer), .number = database->applied};
   if (answer == ANSWER_DONE || answer == ANSWER_REFUSED) reply.body = (struct text){database->replies.at, database->replies.length};
-  if (answer == ANSWER_DONE && database_columns(database, line, columns, sizeof columns)) reply.columns = columns;
+  if (answer == ANSWER_DONE && columns[0]) reply.columns = columns;
   finish(replica, request, &reply);
 }
 

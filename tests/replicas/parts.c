@@ -231,7 +231,8 @@ static bool applies(struct database *database, const char *id, const char *scrip
 
 static bool answers(struct database *database, const char *question, const char *reply) {
   struct text wanted = text_of(reply);
-  enum answer answer = database_ask(database, text_of(question), 1 << 20);
+  char columns[COLUMNS_BYTES];
+  enum answer answer = database_ask(database, text_of(question), 1 << 20, columns);
   return (answer == ANSWER_DONE || answer == ANSWER_REFUSED) && database->replies.length == wanted.length &&
          !memcmp(database->replies.at, wanted.at, wanted.length);
 }
@@ -269,14 +270,15 @@ static void fill(struct database *database) {
 
 static void applied(void) {
   struct database database;
-  char columns[64];
+  char columns[COLUMNS_BYTES];
   fill(&database);
   MUST(answers(&database, "SCAN t", "(-2, '-- id x')\n(1, 'it''s')\n(3, '')\nrows 3\n"));
   MUST(answers(&database, "SCAN u", "('\t\r', 3)\nrows 1\n"));
   MUST(answers(&database, "SHOW gone", "error 23 no such standing query\n"));
-  MUST(database_ask(&database, text_of("SCAN t"), 43) == ANSWER_TOO_LARGE && database_ask(&database, text_of("SCAN t"), 44) == ANSWER_DONE);
-  MUST(database_columns(&database, text_of("SCAN t"), columns, sizeof columns) && !strcmp(columns, "id INT, s TEXT"));
-  MUST(!database_columns(&database, text_of("SCAN t"), columns, 14) && !database_columns(&database, text_of("TABLES"), columns, 64));
+  MUST(answers(&database, "SELECT", "error 11 syntax\n") && answers(&database, "SELECT a.id FROM t a WHERE a.id = ?", "error 11 syntax\n"));
+  MUST(database_ask(&database, text_of("SCAN t"), 43, columns) == ANSWER_TOO_LARGE);
+  MUST(database_ask(&database, text_of("SCAN t"), 44, columns) == ANSWER_DONE && !strcmp(columns, "id INT, s TEXT"));
+  MUST(database_ask(&database, text_of("TABLES"), 1000, columns) == ANSWER_DONE && !*columns);
   database_close(&database);
 }
 
