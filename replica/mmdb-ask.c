@@ -140,7 +140,8 @@ static natsMsg *answer_to(struct asker *asker, const struct demand *demand, stru
   int64_t until = now() + asker->wait, wait = TRY_WAIT;
   for (;;) {
     natsMsg *answer = NULL;
-    natsStatus status = request(asker, demand, body, wait, &answer);
+    int64_t left = until - now(), most = left > PAUSE ? left : PAUSE;
+    natsStatus status = request(asker, demand, body, wait < most ? wait : most, &answer);
     const char *said = status == NATS_OK ? header_of(answer, STATUS_HEADER) : natsStatus_GetText(status), *end = hopeless(asker, status);
     if (!said) said = "the answer has no status";
     bool is_answer = status == NATS_OK && header_of(answer, STATUS_HEADER);
