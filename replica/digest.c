@@ -17,12 +17,12 @@ void digester_close(struct digester *digester) {
 void digester_begin(struct digester *digester) { digester->has_failed = !EVP_DigestInit_ex(digester->context, NULL, NULL); }
 
 void digester_add(struct digester *digester, const void *from, size_t length) {
-  if (!EVP_DigestUpdate(digester->context, from, length)) digester->has_failed = true;
+  if (!digester->has_failed) digester->has_failed = !EVP_DigestUpdate(digester->context, from, length);
 }
 
 bool digester_end(struct digester *digester, struct digest *digest) {
   uint8_t whole[EVP_MAX_MD_SIZE];
-  if (!EVP_DigestFinal_ex(digester->context, whole, NULL)) digester->has_failed = true;
+  if (!digester->has_failed) digester->has_failed = !EVP_DigestFinal_ex(digester->context, whole, NULL);
   if (!digester->has_failed) memcpy(digest->at, whole, DIGEST_BYTES);
   return !digester->has_failed;
 }

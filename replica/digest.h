@@ -20,11 +20,11 @@ struct digester {
   bool has_failed;
 };
 
-/* Returns false if an allocation fails. Otherwise, no later call allocates. */
+/* Returns false if an allocation fails. */
 bool digester_open(struct digester *digester);
 void digester_close(struct digester *digester);
 
-/* Begins a digest. Adds bytes to it. Writes it, and returns false if libcrypto failed since it began. */
+/* Begins a digest. Adds bytes to it. Writes it, and returns false if libcrypto failed since it began: OpenSSL 3.0 allocates then. */
 void digester_begin(struct digester *digester);
 void digester_add(struct digester *digester, const void *from, size_t length);
 bool digester_end(struct digester *digester, struct digest *digest);

@@ -202,6 +202,14 @@ static bool read_options(struct options *options, int count, char **words) {
   return optind == count && options->replica && (options->folder || (!options->snapshot_every && !options->keep));
 }
 
+/* Initializes libcrypto, which does not try again if an allocation fails at its first use. */
+static bool open_crypto(void) {
+  struct digester digester;
+  if (!digester_open(&digester)) return false;
+  digester_close(&digester);
+  return true;
+}
+
 static bool open_replica(struct replica *replica) {
   const struct options *options = &replica->options;
   waiters_open(&replica->waiting);
@@ -211,7 +219,8 @@ static bool open_replica(struct replica *replica) {
   replica->started = clock_now();
   replica->pause = PAUSE;
   replica->distrust_after = UINT64_MAX;
-  return queue_open(&replica->queue) && start_signal_thread(&replica->queue) && member_open(&replica->member, &replica->answers);
+  return open_crypto() && queue_open(&replica->queue) && start_signal_thread(&replica->queue) &&
+         member_open(&replica->member, &replica->answers);
 }
 
 int main(int count, char **words) {

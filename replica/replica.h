@@ -20,9 +20,12 @@ enum {
   LONGEST_PAUSE = 30000
 };
 
-/* Changes gather into a message until it has this many bytes, or for a millisecond while another one is on its way. One of which nothing is
- * heard, because an allocation failed, is forgotten after 10 s. */
-enum { GATHERED_BYTES = 64 * 1024, GATHER_WAIT = 1, MOST_BATCHES = 64, LONGEST_PUBLISHED = 10000 };
+/*
+ * Changes gather into a message: while another one is on its way, until they have so many bytes or for GATHER_WAIT; otherwise, until there
+ * are as many of them as there were lately, or for a millisecond. A message of which nothing is heard, because an allocation failed, is
+ * forgotten after 10 s.
+ */
+enum { GATHERED_BYTES = 64 * 1024, GATHER_WAIT = 20, SHORT_WAIT = 1, MOST_BATCHES = 64, LONGEST_PUBLISHED = 10000 };
 
 enum { LEAST_PAYLOAD = 8192, REPLY_HEAD_BYTES = 4096, MOST_INBOX_BYTES = 256, MOST_WHY_BYTES = 200 };
 
@@ -94,6 +97,7 @@ struct batch {
   uint64_t checked; /* the number at which the first of its ids was checked */
   struct digest chain;
   int64_t since;
+  size_t count; /* of its changes */
 };
 
 struct replica {
@@ -107,6 +111,7 @@ struct replica {
   struct sums sums;
   struct batch *open, *published; /* the batch that gathers, or NULL; those that the log has not yet taken */
   size_t published_count;
+  size_t changes, usual;  /* how many changes wait for an answer; how many did lately, when one was published */
   struct waiters waiting; /* those that wait for a number, which ascends */
   natsMsg *pending;       /* a message of the log that an allocation failed for */
   enum state state;

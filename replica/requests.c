@@ -64,12 +64,18 @@ static void put_in(struct waiters *waiters, struct waiter *waiter) {
 }
 
 /* Returns false if an allocation fails, and then the request stays the caller's. */
-static bool add_waiter(struct waiters *waiters, struct waiter waiter) {
+static bool add_waiter(struct replica *replica, struct waiters *waiters, struct waiter waiter) {
   struct waiter *added = malloc(sizeof *added);
   if (!added) return false;
   *added = waiter;
   put_in(waiters, added);
+  replica->changes += waiter.is_change;
   return true;
+}
+
+static void free_waiter(struct replica *replica, struct waiter *waiter) {
+  replica->changes -= waiter->is_change;
+  free(waiter);
 }
 
 /* Questions. */
@@ -110,7 +116,7 @@ static void on_good_question(struct replica *replica, const struct event *event,
   if (!is_of_log(replica, event->message, number)) reply_bare(replica, event->message, "other-log");
   else if (number <= replica->database.applied) answer_question(replica, event->message);
   else if (replica->state == STATE_ORPHANED) reply_bare(replica, event->message, "behind");
-  else if (!add_waiter(&replica->waiting, waiter)) reply_bare(replica, event->message, "memory");
+  else if (!add_waiter(replica, &replica->waiting, waiter)) reply_bare(replica, event->message, "memory");
 }
 
 void on_question(struct replica *replica, const struct event *event) {
@@ -190,14 +196,16 @@ static void answer_waiters(struct replica *replica, struct waiters *waiters, int
     if (waiter->until > now) continue;
     take_out(waiter);
     reply_bare(replica, waiter->request, waiter->is_change ? to_change : to_question);
-    free(waiter);
+    free_waiter(replica, waiter);
   }
 }
 
 /* Publishes the batch that gathers. Whether the log has it is known at EVENT_PUBLISHED. */
 static void publish_open(struct replica *replica) {
   struct batch *batch = replica->open;
+  size_t less = replica->usual ? replica->usual - 1 : 0;
   replica->open = NULL;
+  replica->usual = replica->changes > less ? replica->changes : less;
   struct text body = {batch->body.at, batch->body.length};
   if (!body.length || log_publish(&replica->log, body, batch->checked, &batch->chain, &batch->published) != NATS_OK) {
     answer_waiters(replica, &batch->waiters, INT64_MAX, "unavailable", "unavailable");
@@ -222,9 +230,10 @@ static bool gather(struct replica *replica, const struct event *event, const str
     replica->open->body.length = before;
     return false;
   }
-  if (add_waiter(&replica->open->waiters, waiter)) return true;
-  replica->open->body.length = before;
-  return false;
+  bool is_done = add_waiter(replica, &replica->open->waiters, waiter);
+  if (is_done) replica->open->count++;
+  else replica->open->body.length = before;
+  return is_done;
 }
 
 static void on_good_change(struct replica *replica, const struct event *event, struct entry *entry) {
@@ -269,12 +278,15 @@ void on_change(struct replica *replica, const struct event *event) {
 
 /* Batches that are on their way. */
 
-int64_t flush_time(const struct replica *replica) { return replica->open ? replica->open->since + GATHER_WAIT : INT64_MAX; }
+int64_t flush_time(const struct replica *replica) {
+  return replica->open ? replica->open->since + (replica->published ? GATHER_WAIT : SHORT_WAIT) : INT64_MAX;
+}
 
 void flush_changes(struct replica *replica) {
-  if (!replica->open) return;
-  bool is_time = !replica->published || replica->open->body.length >= GATHERED_BYTES || clock_now() >= flush_time(replica);
-  if (is_time) publish_open(replica);
+  const struct batch *batch = replica->open;
+  if (!batch) return;
+  bool has_usual = !replica->published && batch->count >= replica->usual;
+  if (has_usual || batch->body.length >= GATHERED_BYTES || clock_now() >= flush_time(replica)) publish_open(replica);
 }
 
 /* Takes the batch out whose message this is. Returns NULL if there is none: the connection was made anew meanwhile. */
@@ -315,7 +327,7 @@ void answer_applied(struct replica *replica) {
     take_out(waiter);
     if (waiter->is_change) answer_change(replica, waiter->request, waiter->number);
     else answer_question(replica, waiter->request);
-    free(waiter);
+    free_waiter(replica, waiter);
   }
 }
 
