@@ -70,11 +70,15 @@ static uint64_t word_at(const uint8_t *from) {
 
 static void sip_rounds(struct sip *sip, int count) {
   for (; count; count--) {
-    sip->v0 += sip->v1, sip->v2 += sip->v3;
-    sip->v1 = rotate(sip->v1, 13) ^ sip->v0, sip->v3 = rotate(sip->v3, 16) ^ sip->v2;
+    sip->v0 += sip->v1;
+    sip->v2 += sip->v3;
+    sip->v1 = rotate(sip->v1, 13) ^ sip->v0;
+    sip->v3 = rotate(sip->v3, 16) ^ sip->v2;
     sip->v0 = rotate(sip->v0, 32);
-    sip->v2 += sip->v1, sip->v0 += sip->v3;
-    sip->v1 = rotate(sip->v1, 17) ^ sip->v2, sip->v3 = rotate(sip->v3, 21) ^ sip->v0;
+    sip->v2 += sip->v1;
+    sip->v0 += sip->v3;
+    sip->v1 = rotate(sip->v1, 17) ^ sip->v2;
+    sip->v3 = rotate(sip->v3, 21) ^ sip->v0;
     sip->v2 = rotate(sip->v2, 32);
   }
 }

@@ -76,7 +76,7 @@ static bool is_shorter(struct follower *follower, uint64_t last) {
   return follower->short_since && clock_now() - follower->short_since > LONGEST_SHORT;
 }
 
-/* Looks where the log ends. It is followed anew if it has more than came, and nothing has come for a time. */
+/* Looks where the log ends. It is followed again if it has more than came, and nothing has come for a time. */
 static void look(struct follower *follower) {
   struct log *log = follower->log;
   struct extent extent;
@@ -115,7 +115,7 @@ static void look_into_gap(struct follower *follower) {
   else if (status == NATS_NOT_FOUND) tell_missing(follower, MISSING_HOLE);
 }
 
-/* Passes a message on if it is the next one. One that was passed on before is dropped; after a gap, the log is followed anew. */
+/* Passes a message on if it is the next one. One that was passed on before is dropped; after a gap, the log is followed again. */
 static void pass_on(struct follower *follower, natsMsg *message) {
   struct log *log = follower->log;
   uint64_t number = 0;

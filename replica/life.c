@@ -66,18 +66,18 @@ static bool connect_all(struct replica *replica) {
   return false;
 }
 
-/* Returns why the connections have to be made anew, or NULL. libnats closes one for good if the servers refuse its login again and again.
+/* Returns why the connections have to be made again, or NULL. libnats closes one for good if the servers refuse its login again and again.
  */
 static const char *refuse_connections(struct replica *replica) {
   if (natsConnection_IsClosed(replica->log.connection) || natsConnection_IsClosed(replica->answers.connection)) return "is closed";
   return atomic_load(&replica->answers.is_stuck) ? "takes no answers" : NULL;
 }
 
-/* Makes connections anew that are of no more use. The rows stay. */
+/* Makes connections again that are of no more use. The rows stay. */
 static void check_connections(struct replica *replica) {
   const char *wrong = replica->state == STATE_UNCONNECTED ? NULL : refuse_connections(replica);
   if (!wrong) return;
-  tell(replica, "a connection %s: it connects anew", wrong);
+  tell(replica, "a connection %s: it connects again", wrong);
   close_connections(replica);
   at_once(replica);
 }

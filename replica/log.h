@@ -7,7 +7,7 @@
 #include "snapshot.h"
 #include <stdatomic.h>
 
-/* Milliseconds: for a call of JetStream; between two looks at the end of the log; without progress until the log is followed anew; for
+/* Milliseconds: for a call of JetStream; between two looks at the end of the log; without progress until the log is followed again; for
  * which the log may be shorter than it was; for the next message. */
 enum { CALL_WAIT = 1000, LOOK_EVERY = 1000, LONGEST_QUIET = 1000, LONGEST_SHORT = 10000, NEXT_WAIT = 200 };
 

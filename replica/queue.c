@@ -43,16 +43,20 @@ static bool is_allowed(const struct queue *queue, const struct event *event) {
 
 static void count_in(struct queue *queue, const struct event *event) {
   size_t bytes = bytes_of(event->message);
-  if (event->kind == EVENT_MESSAGE) queue->messages++, queue->message_bytes += bytes;
-  if (event->kind == EVENT_SUM) queue->sums++;
-  if (is_request(event)) queue->requests++, queue->request_bytes += bytes;
+  bool is_message = event->kind == EVENT_MESSAGE, is_one = is_request(event);
+  queue->messages += is_message;
+  queue->message_bytes += is_message ? bytes : 0;
+  queue->sums += event->kind == EVENT_SUM;
+  queue->requests += is_one;
+  queue->request_bytes += is_one ? bytes : 0;
 }
 
 /* A request is counted until queue_release. */
 static void count_out(struct queue *queue, const struct event *event) {
-  bool was_full = !has_room(queue);
-  if (event->kind == EVENT_MESSAGE) queue->messages--, queue->message_bytes -= bytes_of(event->message);
-  if (event->kind == EVENT_SUM) queue->sums--;
+  bool was_full = !has_room(queue), is_message = event->kind == EVENT_MESSAGE;
+  queue->messages -= is_message;
+  queue->message_bytes -= is_message ? bytes_of(event->message) : 0;
+  queue->sums -= event->kind == EVENT_SUM;
   if (was_full && has_room(queue)) pthread_cond_signal(&queue->has_room);
 }
 

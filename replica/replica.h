@@ -210,7 +210,7 @@ void end_life(struct replica *replica);
 void step_aside(struct replica *replica);
 void join_if_fresh(struct replica *replica);
 
-/* Another replica has other rows, and is right: drops the rows, and begins anew. */
+/* Another replica has other rows, and is right: drops the rows, and begins again. */
 void drop_rows(struct replica *replica, const char *why);
 
 #endif

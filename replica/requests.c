@@ -289,7 +289,7 @@ void flush_changes(struct replica *replica) {
   if (has_usual || batch->body.length >= GATHERED_BYTES || clock_now() >= flush_time(replica)) publish_open(replica);
 }
 
-/* Takes the batch out whose message this is. Returns NULL if there is none: the connection was made anew meanwhile. */
+/* Takes the batch out whose message this is. Returns NULL if there is none: the connection was made again meanwhile. */
 static struct batch *take_batch(struct replica *replica, const natsMsg *message) {
   for (struct batch **place = &replica->published; *place; place = &(*place)->next) {
     struct batch *batch = *place;

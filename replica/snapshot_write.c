@@ -138,7 +138,9 @@ static bool write_part(char path[PATH_MAX], const struct snapshots *snapshots, s
   int descriptor = length > 0 && length < PATH_MAX ? mkostemps(path, sizeof part_ending - 1, O_CLOEXEC) : -1;
   FILE *file = descriptor < 0 ? NULL : fdopen(descriptor, "w");
   if (!file) {
-    if (descriptor >= 0) close(descriptor), unlink(path);
+    if (descriptor < 0) return false;
+    close(descriptor);
+    unlink(path);
     return false;
   }
   bool is_done = snapshot_put(file, snapshots, database, identity) && fsync(descriptor) == 0;
