@@ -34,7 +34,7 @@ void publish_sum(struct replica *replica) {
   char subject[MOST_SUBJECT_BYTES], text[MOST_SUM_BYTES];
   struct sum sum = {.number = applied};
   if (!every || applied % every) return;
-  if (!database_sum(&replica->database, (size_t)(applied / every), &sum.sum)) {
+  if (!database_sum_part(&replica->database, (size_t)(applied / every), applied - every, &sum.sum)) {
     tell(replica, "no sum at number %" PRIu64 ": an allocation failed", applied);
     return;
   }

@@ -320,8 +320,11 @@ bool next_table(struct text *tables, struct text *line, char name[MOST_NAME_BYTE
 
 /* Sums. */
 
-static void sum_recents(struct database *database, struct digester *sum) {
-  for (size_t i = 0; i < database->recents.count; i++) {
+/* Adds the ids of messages past a number, which are the newest ones. */
+static void sum_recents(struct database *database, uint64_t after, struct digester *sum) {
+  size_t first = database->recents.count;
+  while (first && recents_at(&database->recents, first - 1)->sequence > after) first--;
+  for (size_t i = first; i < database->recents.count; i++) {
     const struct recent *recent = recents_at(&database->recents, i);
     uint64_t numbers[] = {recent->sequence, (uint64_t)recent->outcome, recent->replies.length};
     digester_add(sum, recent->id, strlen(recent->id) + 1);
@@ -358,7 +361,7 @@ static bool sum_tables(struct database *database, size_t table, struct digester 
   return is_done && bytes_reserve(rows, MOST_REPLY_BYTES);
 }
 
-bool database_sum(struct database *database, size_t table, struct digest *sum) {
+bool database_sum_part(struct database *database, size_t table, uint64_t after, struct digest *sum) {
   struct digester *digester = &database->digester;
   uint64_t place[] = {database->applied, database->recents.forgotten};
   digester_begin(digester);
@@ -367,6 +370,8 @@ bool database_sum(struct database *database, size_t table, struct digest *sum) {
   bool is_done = sum_tables(database, table, digester);
   for (size_t i = 0; i < database->standing_count; i++)
     digester_add(digester, database->standing[i].line.at, database->standing[i].line.length);
-  sum_recents(database, digester);
+  sum_recents(database, after, digester);
   return digester_end(digester, sum) && is_done;
 }
+
+bool database_sum(struct database *database, size_t table, struct digest *sum) { return database_sum_part(database, table, 0, sum); }

@@ -108,6 +108,9 @@ bool database_text(struct database *database, const char *line, struct bytes *te
  */
 bool database_sum(struct database *database, size_t table, struct digest *sum);
 
+/* Computes the same of the ids of messages past a number alone. */
+bool database_sum_part(struct database *database, size_t table, uint64_t after, struct digest *sum);
+
 /* Takes lines off the text of TABLES up to the next one of a table, and writes its name. Returns false if there is none. */
 bool next_table(struct text *tables, struct text *line, char name[MOST_NAME_BYTES + 1]);
 
