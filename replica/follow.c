@@ -139,16 +139,17 @@ static void pass_on(struct follower *follower, natsMsg *message) {
 
 static void *follow(void *closure) {
   struct follower follower = {.log = closure, .looked = INT64_MIN / 2};
+  int64_t look_every = follower.log->look_every, next_wait = look_every < NEXT_WAIT ? look_every : NEXT_WAIT;
   follower.next_then = follower.log->next;
   while (!is_ending(&follower)) {
     natsMsg *message = NULL;
-    if (clock_now() - follower.looked >= LOOK_EVERY) look(&follower);
+    if (clock_now() - follower.looked >= look_every) look(&follower);
     if (!follower.subscription && !is_ending(&follower)) subscribe(&follower);
     if (!follower.subscription) {
       nats_Sleep(NEXT_WAIT); /* it may have failed at once, and nothing says when it would not */
       continue;
     }
-    natsStatus status = natsSubscription_NextMsg(&message, follower.subscription, NEXT_WAIT);
+    natsStatus status = natsSubscription_NextMsg(&message, follower.subscription, next_wait);
     if (status == NATS_OK) pass_on(&follower, message);
     else if (status != NATS_TIMEOUT) unsubscribe(&follower);
   }

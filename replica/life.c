@@ -38,6 +38,12 @@ static void close_connections(struct replica *replica) {
   log_close(&replica->log);
 }
 
+/* Several looks fit into the time for which a replica answers without knowing the end of the log. */
+static int64_t look_every(int64_t lost_after) {
+  if (lost_after / 4 < LEAST_LOOK_EVERY) return LEAST_LOOK_EVERY;
+  return lost_after / 4 < LOOK_EVERY ? lost_after / 4 : LOOK_EVERY;
+}
+
 /* Returns why the connections cannot be used, or NULL. */
 static const char *open_connections(struct replica *replica) {
   const struct options *options = &replica->options;
@@ -48,6 +54,7 @@ static const char *open_connections(struct replica *replica) {
   memcpy(identity, log->identity, sizeof identity);
   natsStatus status = log_open(log, &connecting, options->name, options->replica, &replica->queue);
   memcpy(log->identity, identity, sizeof identity);
+  log->look_every = look_every(options->lost_after);
   if (status != NATS_OK) return natsStatus_GetText(status);
   connecting.inbox = NULL;
   connecting.login = &options->answer_login;

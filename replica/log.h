@@ -7,9 +7,9 @@
 #include "snapshot.h"
 #include <stdatomic.h>
 
-/* Milliseconds: for a call of JetStream; between two looks at the end of the log; without progress until the log is followed again; for
- * which the log may be shorter than it was; for the next message. */
-enum { CALL_WAIT = 1000, LOOK_EVERY = 1000, LONGEST_QUIET = 1000, LONGEST_SHORT = 10000, NEXT_WAIT = 200 };
+/* Milliseconds: for a call of JetStream; between two looks at the end of the log, at least and at most; without progress until the log is
+ * followed again; for which the log may be shorter than it was; for the next message. */
+enum { CALL_WAIT = 1000, LEAST_LOOK_EVERY = 10, LOOK_EVERY = 1000, LONGEST_QUIET = 1000, LONGEST_SHORT = 10000, NEXT_WAIT = 200 };
 
 /* What log->last is before the first look. */
 #define NOT_LOOKED UINT64_MAX
@@ -19,6 +19,7 @@ struct log {
   jsCtx *jetstream;
   const char *name, *replica;
   struct queue *queue;
+  int64_t look_every;
   pthread_t follower;
   bool is_followed;
   atomic_bool is_ending;
