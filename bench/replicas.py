@@ -7,7 +7,7 @@ PROGRAMS is the folder of mmdb-replica and mmdb-ask, which `replicas` beside thi
 
     changes     changes a second, with one and with three servers, three replicas and 16 writers with one change each
     answers     look-ups by key a second, with one, two and three replicas, one server and 16 askers, over 10^5 rows
-    start       seconds until a replica is ready, from a snapshot of 10^6 rows behind which the log was cut off
+    start       seconds until a replica is ready, from a snapshot of 10^6 rows
     a message   processor time of a replica for a change, beside that of the program for its line, and bytes of the log
 
 All processes share the processors of the machine, also the servers, the writers and the askers.
@@ -121,7 +121,7 @@ def start(programs: str) -> tuple[float, float]:
     with Bench(programs, 1, 0) as bench:
         folder = ["--snapshots", str(bench.cluster.snapshots)]
         messages = 1 + MANY_ROWS // ROWS_IN_LINE // LINES_IN_SCRIPT
-        bench.add_replica("writes", *folder, "--snapshot-every", str(messages), "--keep", "1")
+        bench.add_replica("writes", *folder, "--snapshot-every", str(messages))
         bench.define()
         bench.fill(MANY_ROWS)
         while not list(bench.cluster.snapshots.glob("*.snapshot")):

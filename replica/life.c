@@ -376,20 +376,20 @@ static enum said ask_log_at(struct replica *replica, uint64_t number) {
 
 /*
  * Returns whether the log has another message than this replica applied under a number or shortly before it. What it lost may lie before
- * messages that it has, so it is asked for several, for half a second at most and once a second.
+ * messages that it has, so it is asked for several, for half a second at most.
  */
 static bool contradicts_log(struct replica *replica, uint64_t number) {
   int64_t began = clock_now();
-  if (began - replica->asked_log < PAUSE) return false;
-  replica->asked_log = began;
   enum said said = SAID_YES;
   for (uint64_t back = 0; said == SAID_YES && back < number && clock_now() - began < MOST_BUSY; back++)
     said = ask_log_at(replica, number - back);
   return said == SAID_NO;
 }
 
-/* Another replica had another history at a number. Either this one is wrong, or the other. */
+/* Another replica had another history at a number. Either this one is wrong, or the other. It is looked into once a second. */
 static void on_other_history(struct replica *replica, const char *publisher, uint64_t number) {
+  if (clock_now() - replica->asked_log < PAUSE) return;
+  replica->asked_log = clock_now();
   alarm_all(replica, "OTHER HISTORY: replica %s has another one at number %" PRIu64, publisher, number);
   if (contradicts_log(replica, number)) {
     lose_rows(replica, "the log has another history than its rows");

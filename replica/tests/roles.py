@@ -6,6 +6,7 @@
 PROGRAMS is the folder of mmdb-replica and mmdb-ask. Requires nats-server and openssl. The status is 0 only if all passed.
 """
 
+import base64
 import json
 import os
 import socket
@@ -218,6 +219,49 @@ def matrix(cluster: Cluster) -> int:
     return len(ROLES) * (len(to_publish) + len(to_hear))
 
 
+def encode_nkey(prefix: bytes, key: bytes) -> str:
+    """A key as NATS writes it: a prefix, the key and a CRC-16, in base 32."""
+    crc = 0
+    for byte in prefix + key:
+        crc ^= byte << 8
+        for _ in range(8):
+            crc = crc << 1 ^ (0x1021 if crc & 0x8000 else 0)
+        crc &= 0xFFFF
+    return base64.b32encode(prefix + key + crc.to_bytes(2, "little")).decode().rstrip("=")
+
+
+def nkeys(folder: Path, programs: Path) -> None:
+    """A user with an nkey makes a log; one with another key does not."""
+
+    def openssl(*words: str) -> bytes:
+        return subprocess.run(["openssl", *words], check=True, capture_output=True).stdout
+
+    def make_login(name: str) -> str:
+        pem = folder / f"{name}.pem"
+        pem.write_bytes(openssl("genpkey", "-algorithm", "ed25519"))
+        seed = openssl("pkey", "-in", str(pem), "-outform", "DER")[-32:]
+        public = encode_nkey(b"\xa0", openssl("pkey", "-in", str(pem), "-pubout", "-outform", "DER")[-32:])
+        (folder / f"{name}.seed").write_text(encode_nkey(b"\x95\x00", seed) + "\n")
+        login = folder / f"{name}.login"
+        login.write_text(f"nkey {public} {folder}/{name}.seed\n")
+        login.chmod(0o600)
+        return public
+
+    public = make_login("right")
+    make_login("wrong")
+    port = free_ports(1)[0]
+    (folder / "nkey.conf").write_text(f"jetstream {{ store_dir: {folder}/nkey }}\nauthorization {{ users: [ {{ nkey: {public} }} ] }}\n")
+    server = Process("nkey", ["nats-server", "-c", str(folder / "nkey.conf"), "-a", "127.0.0.1", "-p", str(port)], folder)
+    server.start()
+    try:
+        for name, wanted in (("right", 0), ("wrong", 1)):
+            words = [str(programs / "mmdb-ask"), "--servers", f"nats://127.0.0.1:{port}", "--login", str(folder / f"{name}.login")]
+            made = subprocess.run([*words, "--make-log", "1", "--wait", "5000"], capture_output=True, text=True, timeout=30)
+            must(made.returncode == wanted, f"the {name} nkey: {made}")
+    finally:
+        server.kill()
+
+
 def main() -> int:
     programs = Path(sys.argv[1]).resolve()
     tries = 0
@@ -230,13 +274,14 @@ def main() -> int:
                 if not is_encrypted:
                     tries = matrix(cluster)
                     passwords(cluster)
+                    nkeys(Path(folder), programs)
             except Failed as wrong:
                 print(f"{'encrypted: ' if is_encrypted else ''}{wrong}")
                 print("\n".join(replica.said()[-600:] for replica in cluster.replicas))
                 return 1
             finally:
                 cluster.close()
-    print(f"six roles did their work, in clear and encrypted, and {tries} tries had the outcome of their permissions")
+    print(f"six roles did their work, in clear and encrypted, and {tries} tries had the outcome of their permissions; nkeys work")
     return 0
 
 

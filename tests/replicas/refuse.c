@@ -1,9 +1,11 @@
-/* Preloaded, it refuses libmmdb all growths of memory for a while, each time that the process gets SIGUSR1, as a system that has no more would:
-
-     cc -shared -fPIC -o refuse.so refuse.c
-     LD_PRELOAD=./refuse.so mmdb-replica ..
-
-   A growth is a call of malloc, calloc or realloc out of libmmdb.so. All others go to the C library. */
+/*
+ * Preloaded into a process, it fails all allocations of libmmdb for 0.3 s each time that the process gets SIGUSR1:
+ *
+ *     cc -shared -fPIC -o refuse.so refuse.c
+ *     LD_PRELOAD=./refuse.so mmdb-replica ..
+ *
+ * An allocation of libmmdb is a call of malloc, calloc or realloc from libmmdb.so. All others go to the C library.
+ */
 #include <errno.h>
 #include <link.h>
 #include <signal.h>
@@ -48,8 +50,8 @@ static int look(struct dl_phdr_info *object, size_t size, void *closure) {
   if (!strstr(object->dlpi_name, "libmmdb")) return 0;
   first = end = object->dlpi_addr;
   for (int i = 0; i < object->dlpi_phnum; i++) {
-    uintptr_t behind = object->dlpi_addr + object->dlpi_phdr[i].p_vaddr + object->dlpi_phdr[i].p_memsz;
-    if (object->dlpi_phdr[i].p_type == PT_LOAD && behind > end) end = behind;
+    uintptr_t after = object->dlpi_addr + object->dlpi_phdr[i].p_vaddr + object->dlpi_phdr[i].p_memsz;
+    if (object->dlpi_phdr[i].p_type == PT_LOAD && after > end) end = after;
   }
   return 1;
 }
