@@ -6,6 +6,8 @@
 #include "recent.h"
 #include <mmdb.h>
 
+/* The format of a log. It has to become greater whenever messages change, or what libmmdb replies to a line: then two versions never apply
+ * the same log. */
 enum { LOG_FORMAT = 2, MOST_STANDING = 32, CHAINS = 8192, IDENTITY_DIGITS = 16, IDENTITY_BYTES = IDENTITY_DIGITS + 1 };
 enum { COLUMNS_BYTES = 2048 };
 

@@ -26,8 +26,9 @@ static bool print_status(struct replica *replica, struct bytes *text) {
                      last > applied ? last - applied : 0, age, replica->lives) &&
          bytes_print(text, "\"queued_messages\": %zu, \"queued_requests\": %zu, \"queued_bytes\": %zu, ", load.messages, load.requests,
                      load.bytes) &&
-         bytes_print(text, "\"snapshot\": %" PRIu64 ", \"doubted\": %s, \"format\": %d, \"uptime_ms\": %" PRId64 "}\n", replica->written,
-                     replica->is_doubted ? "true" : "false", LOG_FORMAT, clock_now() - replica->started);
+         bytes_print(text,
+                     "\"snapshot\": %" PRIu64 ", \"doubted\": %s, \"format\": %d, \"library\": %" PRIu32 ", \"uptime_ms\": %" PRId64 "}\n",
+                     replica->written, replica->is_doubted ? "true" : "false", LOG_FORMAT, mmdb_version(), clock_now() - replica->started);
 }
 
 void on_status(struct replica *replica, natsMsg *request) {
