@@ -20,8 +20,8 @@
 #include <time.h>
 
 /* Milliseconds: for an answer until the request is sent again, at first and at most; before that if nobody could answer yet; for all
- * replicas to tell their status. */
-enum { TRY_WAIT = 2500, MOST_TRY_WAIT = 20000, PAUSE = 100, STATUS_WAIT = 1000 };
+ * replicas to report their status; for which the number of the last answer serves as the one before which an id was not sent. */
+enum { TRY_WAIT = 2500, MOST_TRY_WAIT = 20000, PAUSE = 100, STATUS_WAIT = 1000, NUMBER_LIFE = 1000 };
 
 enum { RANDOM_BYTES = 12, MOST_PREFIX_BYTES = MOST_ID_BYTES - 21, DIGITS_BYTES = 24 };
 
@@ -46,7 +46,7 @@ struct asker {
   bool is_inside;                   /* the script that is gathered began with BEGIN */
   uint64_t number, changes, copies; /* the number to demand; how many changes there were; the copies of a log to make */
   uint64_t since;
-  int64_t wait;
+  int64_t wait, seen;       /* for how long to try; when the last answer came */
   atomic_bool is_forbidden; /* the servers do not permit what was sent */
   bool shows_numbers, was_refused, has_since, is_linearizable, demands_rows, loads;
 };
@@ -165,6 +165,7 @@ static void take_place(struct asker *asker, natsMsg *answer) {
   if (!identity || strlen(identity) != IDENTITY_DIGITS || !number_in_header(answer, SEQUENCE_HEADER, &number)) return;
   if (!*asker->identity) memcpy(asker->identity, identity, IDENTITY_BYTES);
   if (number > asker->number) asker->number = number;
+  asker->seen = now();
 }
 
 /* Prints an answer, and frees it. Returns false if there is none, or if it cannot be printed. */
@@ -190,7 +191,7 @@ static bool print_answer(struct asker *asker, natsMsg *answer) {
   return is_done;
 }
 
-/* Asks for the number of the log, before the first change: an id that is made after that was not sent before it. */
+/* Asks for the number of the log: an id that is made after that was not sent before it. */
 static bool learn_number(struct asker *asker) {
   static const char question[] = "TABLES";
   natsMsg *answer = answer_to(asker, &(struct demand){.has_number = false}, (struct text){(const uint8_t *)question, sizeof question - 1});
@@ -203,7 +204,8 @@ static bool learn_number(struct asker *asker) {
 static natsMsg *send_change(struct asker *asker, struct text script) {
   char id[MOST_ID_BYTES + 1];
   bool is_own_id = asker->prefix == asker->random;
-  if (is_own_id && !asker->number && !learn_number(asker)) return NULL;
+  /* While this program waited for its input, so many ids may have passed that an older number says nothing. */
+  if (is_own_id && now() - asker->seen > NUMBER_LIFE && !learn_number(asker)) return NULL;
   snprintf(id, sizeof id, "%s-%" PRIu64, asker->prefix, ++asker->changes);
   struct demand demand = {.id = id, .number = is_own_id ? asker->number : asker->since, .has_number = is_own_id || asker->has_since};
   return answer_to(asker, &demand, script);
@@ -214,12 +216,15 @@ static bool change(struct asker *asker, struct text script) { return print_answe
 /* Puts an empty change into the log, so that a question at its number sees all that was answered before now. */
 static bool reach_end(struct asker *asker) {
   static const char nothing[] = "BEGIN\nCOMMIT\n";
-  natsMsg *answer = send_change(asker, (struct text){(const uint8_t *)nothing, sizeof nothing - 1});
-  if (!answer) return false;
-  bool is_done = !strcmp(header_of(answer, STATUS_HEADER), "done");
-  if (is_done) take_place(asker, answer);
-  natsMsg_Destroy(answer);
-  return is_done;
+  for (int64_t until = now() + asker->wait;;) {
+    natsMsg *answer = send_change(asker, (struct text){(const uint8_t *)nothing, sizeof nothing - 1});
+    if (!answer) return false;
+    bool is_done = !strcmp(header_of(answer, STATUS_HEADER), "done");
+    if (is_done) take_place(asker, answer);
+    natsMsg_Destroy(answer);
+    if (is_done || now() >= until) return is_done;
+    asker->seen = 0; /* it was forgotten: nothing is lost with it, and the next one has a newer number */
+  }
 }
 
 static bool ask(struct asker *asker, struct text line) {

@@ -108,7 +108,7 @@ class Replicas:
 
 def main() -> None:
     host, port = sys.argv[1].split(":")
-    replicas = Replicas(host, int(port), *sys.argv[2:3])
+    replicas = Replicas(host, int(port), sys.argv[2] if len(sys.argv) > 2 else "mmdb")
     for line in sys.stdin:
         if line.split(" ")[0].strip() in ("SELECT", "SCAN", "SHOW"):
             found = replicas.ask(line)

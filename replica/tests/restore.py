@@ -53,7 +53,7 @@ class Trial:
 
     def state(self, name: str) -> str:
         said = [json.loads(line) for line in self.ask("--status").stdout.splitlines()]
-        return next((one["state"] for one in said if one["replica"] == name), "")
+        return next((str(one["state"]) for one in said if one["replica"] == name), "")
 
     def lose_log(self) -> None:
         """The server loses its files, and the log is made again."""
