@@ -42,15 +42,15 @@ class Replicas:
     def __init__(self, host: str, port: int, log: str = "mmdb", wait: float = 30.0):
         self.address, self.log, self.wait = (host, port), log, wait
         self.socket: Union[socket.socket, None] = None
-        self.number, self.identity, self.inbox = 0, "", "_INBOX." + secrets.token_hex(11)
+        self.number, self.seen, self.identity, self.inbox = 0, 0.0, "", "_INBOX." + secrets.token_hex(11)
 
     def change(self, script: str, must_match: bool = False) -> list[str]:
         """Applies a script once, and returns its replies. With must_match, each UPDATE and DELETE must match a row."""
         headers = {"Mmdb-Id": secrets.token_hex(12)}
         if must_match:
             headers["Mmdb-Condition"] = "rows"
-        if not self.number:
-            self.ask("TABLES")
+        if time.monotonic() - self.seen > 1:
+            self.ask("TABLES")  # an id is new after a number that is no older than the ids that replicas keep
         return self.request("change", script, {**headers, "Mmdb-Since": str(self.number)}).body.splitlines()
 
     def ask(self, question: str) -> Rows:
@@ -76,7 +76,7 @@ class Replicas:
             status = answer.headers.get("Mmdb-Status", "")
             if status == "done":
                 self.identity = answer.headers["Mmdb-Log"]
-                self.number = max(self.number, int(answer.headers["Mmdb-Sequence"]))
+                self.number, self.seen = max(self.number, int(answer.headers["Mmdb-Sequence"])), time.monotonic()
                 return answer
             if status not in NOT_NOW:
                 raise Refused(f"{status}: {answer.body}")

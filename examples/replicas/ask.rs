@@ -37,6 +37,7 @@ pub struct Replicas {
     log: String,
     identity: String,
     number: u64,
+    seen: Option<Instant>,
     sent: u64,
     inbox: String,
     connection: Option<BufReader<TcpStream>>,
@@ -50,33 +51,73 @@ impl Replicas {
         let mut bytes = [0; 12];
         std::fs::File::open("/dev/urandom")?.read_exact(&mut bytes)?;
         let random: String = bytes.iter().map(|byte| format!("{byte:02x}")).collect();
-        let (address, log, inbox) = (address.to_string(), log.to_string(), format!("_INBOX.{random}"));
-        Ok(Replicas { address, log, identity: String::new(), number: 0, sent: 0, inbox, connection: None })
+        let (address, log, inbox) = (
+            address.to_string(),
+            log.to_string(),
+            format!("_INBOX.{random}"),
+        );
+        Ok(Replicas {
+            address,
+            log,
+            identity: String::new(),
+            number: 0,
+            seen: None,
+            sent: 0,
+            inbox,
+            connection: None,
+        })
     }
 
     /// Applies a script once, and returns its replies.
     pub fn change(&mut self, script: &str) -> io::Result<Vec<String>> {
-        if self.number == 0 {
+        // An id is new after a number that is no older than the ids that replicas keep.
+        if self
+            .seen
+            .map_or(true, |seen| seen.elapsed() > Duration::from_secs(1))
+        {
             self.ask("TABLES")?;
         }
         let id = format!("{}-{}", &self.inbox[7..], self.sent);
-        let answer = self.request("change", script, &[("Mmdb-Id", id), ("Mmdb-Since", self.number.to_string())])?;
+        let answer = self.request(
+            "change",
+            script,
+            &[("Mmdb-Id", id), ("Mmdb-Since", self.number.to_string())],
+        )?;
         Ok(answer.body.lines().map(String::from).collect())
     }
 
     /// Returns the rows of a question. They contain all that this object has seen before.
     pub fn ask(&mut self, question: &str) -> io::Result<Rows> {
-        let answer = self.request("ask", question, &[("Mmdb-At-Least", self.number.to_string())])?;
+        let answer = self.request(
+            "ask",
+            question,
+            &[("Mmdb-At-Least", self.number.to_string())],
+        )?;
         let columns: Vec<String> = match answer.headers.get("Mmdb-Columns") {
             Some(columns) => columns.split(", ").map(String::from).collect(),
-            None => return Ok(Rows { columns: Vec::new(), rows: Vec::new() }),
+            None => {
+                return Ok(Rows {
+                    columns: Vec::new(),
+                    rows: Vec::new(),
+                })
+            }
         };
-        let rows = answer.body.lines().filter(|line| line.starts_with('(')).map(values_of).collect();
+        let rows = answer
+            .body
+            .lines()
+            .filter(|line| line.starts_with('('))
+            .map(values_of)
+            .collect();
         Ok(Rows { columns, rows })
     }
 
     /// Sends a request again until it is answered.
-    fn request(&mut self, word: &str, body: &str, headers: &[(&str, String)]) -> io::Result<Answer> {
+    fn request(
+        &mut self,
+        word: &str,
+        body: &str,
+        headers: &[(&str, String)],
+    ) -> io::Result<Answer> {
         let until = Instant::now() + Self::WAIT;
         let mut head = String::from("NATS/1.0\r\n");
         for (name, value) in headers {
@@ -94,7 +135,10 @@ impl Replicas {
                         return self.take_place(answer);
                     }
                     if !NOT_NOW.contains(&status) {
-                        return Err(Error::new(ErrorKind::InvalidInput, format!("{status}: {}", answer.body)));
+                        return Err(Error::new(
+                            ErrorKind::InvalidInput,
+                            format!("{status}: {}", answer.body),
+                        ));
                     }
                 }
                 Err(_) => self.connection = None,
@@ -105,10 +149,20 @@ impl Replicas {
     }
 
     fn take_place(&mut self, answer: Answer) -> io::Result<Answer> {
-        let wrong = || Error::new(ErrorKind::InvalidData, "an answer without a place in the log");
-        let number: u64 = answer.headers.get("Mmdb-Sequence").and_then(|number| number.parse().ok()).ok_or_else(wrong)?;
+        let wrong = || {
+            Error::new(
+                ErrorKind::InvalidData,
+                "an answer without a place in the log",
+            )
+        };
+        let number: u64 = answer
+            .headers
+            .get("Mmdb-Sequence")
+            .and_then(|number| number.parse().ok())
+            .ok_or_else(wrong)?;
         self.identity = answer.headers.get("Mmdb-Log").ok_or_else(wrong)?.clone();
         self.number = self.number.max(number);
+        self.seen = Some(Instant::now());
         Ok(answer)
     }
 
@@ -120,7 +174,11 @@ impl Replicas {
         self.sent += 1;
         let reply = format!("{}.{}", self.inbox, self.sent);
         let (length, whole) = (head.len(), head.len() + body.len());
-        write!(connection.get_mut(), "HPUB {}.{word} {reply} {length} {whole}\r\n{head}{body}\r\n", self.log)?;
+        write!(
+            connection.get_mut(),
+            "HPUB {}.{word} {reply} {length} {whole}\r\n{head}{body}\r\n",
+            self.log
+        )?;
         loop {
             let mut line = String::new();
             connection.read_line(&mut line)?;
@@ -143,7 +201,8 @@ impl Replicas {
 fn connect(address: &str, inbox: &str) -> io::Result<BufReader<TcpStream>> {
     let mut stream = TcpStream::connect(address)?;
     stream.set_read_timeout(Some(Duration::from_millis(2500)))?;
-    let said = r#"{"verbose":false,"headers":true,"no_responders":true,"lang":"rust","version":"1"}"#;
+    let said =
+        r#"{"verbose":false,"headers":true,"no_responders":true,"lang":"rust","version":"1"}"#;
     write!(stream, "CONNECT {said}\r\nSUB {inbox}.* 1\r\n")?;
     Ok(BufReader::new(stream))
 }
@@ -152,13 +211,23 @@ fn connect(address: &str, inbox: &str) -> io::Result<BufReader<TcpStream>> {
 fn read_answer(connection: &mut BufReader<TcpStream>, words: &[&str]) -> io::Result<Answer> {
     let wrong = |_| Error::new(ErrorKind::InvalidData, "a message without a length");
     let whole: usize = words[words.len() - 1].parse().map_err(wrong)?;
-    let head: usize = if words[0] == "HMSG" { words[words.len() - 2].parse().map_err(wrong)? } else { 0 };
+    let head: usize = if words[0] == "HMSG" {
+        words[words.len() - 2].parse().map_err(wrong)?
+    } else {
+        0
+    };
     let mut block = vec![0; whole + 2];
     connection.read_exact(&mut block)?;
     let text = |bytes: &[u8]| String::from_utf8_lossy(bytes).into_owned();
     let pairs = text(&block[..head.min(whole)]);
-    let headers = pairs.lines().filter_map(|line| line.split_once(':')).map(|(name, value)| (name.into(), value.trim().into()));
-    Ok(Answer { headers: headers.collect(), body: text(&block[head.min(whole)..whole]) })
+    let headers = pairs
+        .lines()
+        .filter_map(|line| line.split_once(':'))
+        .map(|(name, value)| (name.into(), value.trim().into()));
+    Ok(Answer {
+        headers: headers.collect(),
+        body: text(&block[head.min(whole)..whole]),
+    })
 }
 
 /// Reads a row as replies show it: `(1, 'it''s')`.
@@ -168,7 +237,10 @@ fn values_of(line: &str) -> Vec<Value> {
     while let Some(sign) = signs.next() {
         let mut text = String::new();
         if sign == '\'' {
-            while let Some(next) = signs.next_if(|&next| next != '\'').or_else(|| quote(&mut signs)) {
+            while let Some(next) = signs
+                .next_if(|&next| next != '\'')
+                .or_else(|| quote(&mut signs))
+            {
                 text.push(next);
             }
             values.push(Value::Text(text));

@@ -28,8 +28,8 @@ ok 3
 ok 1
 ['s', 'id']
 ('', -2)
-('y', 1)
 ("(4, 'x'), é", 3)
+('y', 1)
 ['id', 's']
 (-2, '')
 (1, 'y')
@@ -41,8 +41,8 @@ ok 3
 ok 1
 ["s TEXT", "id INT"]
 [Text(""), Int(-2)]
-[Text("y"), Int(1)]
 [Text("(4, 'x'), é"), Int(3)]
+[Text("y"), Int(1)]
 ["id INT", "s TEXT"]
 [Int(-2), Text("")]
 [Int(1), Text("y")]
