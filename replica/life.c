@@ -77,7 +77,7 @@ static bool connect_all(struct replica *replica) {
  */
 static const char *refuse_connections(struct replica *replica) {
   if (natsConnection_IsClosed(replica->log.connection) || natsConnection_IsClosed(replica->answers.connection)) return "is closed";
-  return atomic_load(&replica->answers.is_stuck) ? "takes no answers" : NULL;
+  return replica->log.is_stuck || atomic_load(&replica->answers.is_stuck) ? "takes no messages" : NULL;
 }
 
 /* Makes connections again that are of no more use. The rows stay. */

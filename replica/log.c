@@ -117,6 +117,7 @@ natsStatus log_publish(struct log *log, struct text body, uint64_t checked, cons
   if (status == NATS_OK) status = natsMsgHeader_Set(message, REPLICA_HEADER, log->replica);
   *published = message;
   if (status == NATS_OK) status = js_PublishMsgAsync(log->jetstream, &message, &options);
+  if (status == NATS_TIMEOUT || status == NATS_IO_ERROR || status == NATS_SSL_ERROR) log->is_stuck = true;
   natsMsg_Destroy(message);
   return status;
 }

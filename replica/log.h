@@ -21,7 +21,7 @@ struct log {
   struct queue *queue;
   int64_t look_every;
   pthread_t follower;
-  bool is_followed;
+  bool is_followed, is_stuck; /* whether it has a follower; whether a write failed though there was a server */
   atomic_bool is_ending;
   atomic_llong heard; /* when the leader of the stream surely led it, as it said last */
   atomic_ullong last; /* the greatest number of a message, as it said then or later; NOT_LOOKED at first */
