@@ -134,6 +134,29 @@ class Connection:
             self.close()
             raise ConnectionError(str(wrong)) from wrong
 
+    def gather(self, subject: str, bodies: list[bytes], wait: float = 5.0) -> list[Message]:
+        """The answers of many requests that are under way at the same time, in the order of the requests."""
+        until = time.monotonic() + wait
+        try:
+            if not self.socket:
+                self.connect(until)
+            first = self.requests + 1
+            self.requests += len(bodies)
+            for number, body in enumerate(bodies, first):
+                self.publish(subject, body, None, f"{self.inbox}.{number}")
+            answers: dict[int, Message] = {}
+            while len(answers) < len(bodies):
+                message = self.message(until)
+                number = int(message.subject.rpartition(".")[2]) if message.subject.startswith(self.inbox) else 0
+                if number >= first:
+                    answers[number] = message
+            return [answers[number] for number in range(first, first + len(bodies))]
+        except TimeoutError:
+            raise
+        except OSError as wrong:
+            self.close()
+            raise ConnectionError(str(wrong)) from wrong
+
     def api(self, call: str, said: object = None, wait: float = 2.5) -> dict:
         """The answer of a call of JetStream. ConnectionError where it is refused, or nobody is there to answer."""
         answer = self.request("$JS.API." + call, json.dumps(said).encode() if said is not None else b"", wait=wait)

@@ -1,0 +1,197 @@
+"""Clients that call replicas and record each call, and a witness that reads the log while it grows."""
+
+import json
+import threading
+import time
+from base64 import b64decode
+from typing import Callable, Optional
+
+from history import Answer, Change, History, Logged, Question, text_of
+from network import Network
+from schedule import WITNESS, Call, Calls
+from wire import Connection, Message, headers_in
+
+NOT_NOW = ("unready", "unavailable", "behind", "memory")
+AT_ONCE = 200  # messages that are read at a time
+NO_MESSAGE = 404
+
+
+def answer_of(message: Message, end: float) -> Answer:
+    """What a message says. Its status is None where it is no answer of a replica."""
+    headers = message.headers
+    return Answer(
+        end=end,
+        status=headers.get("Mmdb-Status"),
+        number=int(headers.get("Mmdb-Sequence", 0)),
+        replies=text_of(message.body),
+        replica=headers.get("Mmdb-Replica", ""),
+        log=headers.get("Mmdb-Log", ""),
+        chain=headers.get("Mmdb-Chain", ""),
+        chain_number=int(headers.get("Mmdb-Chain-Sequence", 0)),
+    )
+
+
+class Board:
+    """What clients pass on to each other: the newest number that was answered, and whether the run is over."""
+
+    def __init__(self) -> None:
+        self.newest = 0
+        self.is_over = threading.Event()
+        self.give_up = float("inf")  # the time from when on no call is tried again
+        self.refused = 0  # how often no one could answer
+
+    def saw(self, number: int) -> None:
+        self.newest = max(self.newest, number)
+
+
+class Caller:
+    """A client. It demands the number of its last answer, or the newest number that any client told it."""
+
+    def __init__(self, host: str, client: str, log: str, network: Network, history: History, board: Board):
+        self.host, self.client, self.log = host, client, log
+        self.network, self.history, self.board = network, history, board
+        self.connection = Connection(network.addresses(host))
+        self.number = self.count = 0
+
+    def run(self, calls: Calls) -> None:
+        self.network.enter(self.host)
+        while not self.board.is_over.is_set():
+            call = calls.next()
+            self.board.is_over.wait(call.pause)
+            self.make(call)
+        self.connection.close()
+
+    def make(self, call: Call) -> None:
+        if call.script:
+            self.change(call.script, call.wait)
+            return
+        demanded = max(self.number, self.board.newest if call.passed_on else 0)
+        begin = time.monotonic()
+        if call.linearizable:
+            empty = self.change("BEGIN\nCOMMIT\n", call.wait)
+            if empty.answer.status != "done":
+                return
+            demanded = max(demanded, empty.answer.number)
+        self.ask(call.question, demanded, call.wait, begin, call.linearizable)
+
+    def try_once(self, subject: str, body: bytes, headers: dict[str, str], wait: float) -> Optional[Answer]:
+        """An answer that is not about to change, or None."""
+        try:
+            message = self.connection.request(subject, body, {**headers, "Mmdb-Wait": str(int(wait * 1000))}, wait)
+        except OSError:
+            self.connection.close()  # the server may be cut off, and only another one leads on
+            self.board.refused += 1
+            return None
+        answer = answer_of(message, time.monotonic())
+        if answer.status and answer.status not in NOT_NOW:
+            return answer
+        self.board.refused += 1
+        return None
+
+    def is_hopeless(self) -> bool:
+        return time.monotonic() > self.board.give_up
+
+    def change(self, script: str, wait: float, has_condition: bool = False) -> Change:
+        """Sends a change until it is answered, each time with the same id."""
+        self.count += 1
+        change = Change(self.client, f"{self.client}-{self.count}", script, time.monotonic(), has_condition)
+        self.history.add(change)
+        headers = {"Mmdb-Id": change.name, "Mmdb-Since": str(self.number)}
+        if has_condition:
+            headers["Mmdb-Condition"] = "rows"
+        while not self.is_hopeless():
+            change.tries += 1
+            answer = self.try_once(self.log + ".change", script.encode(), headers, wait)
+            if answer:
+                change.answer = answer
+                self.saw(answer)
+                break
+            time.sleep(0.05)
+        return change
+
+    def ask(self, question: str, demanded: int, wait: float, begin: float, linearizable: bool = False, replica: str = "") -> Question:
+        """Asks until it is answered, or the run is over."""
+        asked = Question(self.client, question, demanded, begin, linearizable)
+        self.history.add(asked)
+        subject = f"{self.log}.ask.{replica}" if replica else f"{self.log}.ask"
+        while not self.is_hopeless():
+            answer = self.try_once(subject, question.encode(), {"Mmdb-At-Least": str(demanded)}, wait)
+            if answer:
+                asked.answer = answer
+                self.saw(answer)
+                break
+            time.sleep(0.05)
+        return asked
+
+    def saw(self, answer: Answer) -> None:
+        if answer.status in ("done", "refused", "unmet"):
+            self.number = max(self.number, answer.number)
+            self.board.saw(answer.number)
+
+
+class Witness:
+    """Reads each message of the log soon after it came, from a host that is never cut off."""
+
+    def __init__(self, log: str, network: Network, history: History, board: Board):
+        self.log, self.network, self.history, self.board = log, network, history, board
+        self.connection = Connection(network.addresses(WITNESS))
+        self.next = 1
+
+    def run(self) -> None:
+        self.network.enter(WITNESS)
+        while not self.board.is_over.wait(0.03):
+            try:
+                self.next = self.read(self.connection, self.next, "witness")
+            except OSError:
+                self.connection.close()
+        self.connection.close()
+
+    def read(self, connection: Connection, number: int, seen: str) -> int:
+        """Reads the log from a number on. Returns the number behind the last message that was there."""
+        while True:
+            bodies = [json.dumps({"seq": one}).encode() for one in range(number, number + (AT_ONCE if seen == "end" else 8))]
+            answers = connection.gather("$JS.API.STREAM.MSG.GET." + self.log, bodies)
+            for answer in answers:
+                told = json.loads(answer.body) if answer.body else {"error": {"code": 0}}
+                if "error" in told:
+                    return self.number_after(number, told["error"], connection)
+                self.history.add(message_of(told["message"], seen))
+                number += 1
+
+    def number_after(self, number: int, error: dict, connection: Connection) -> int:
+        """The number to go on with where a message is not there: the same one, or the first one where older ones were dropped."""
+        if error.get("code") != NO_MESSAGE:
+            raise ConnectionError(str(error))
+        state = connection.api("STREAM.INFO." + self.log)["state"]
+        return max(number, state["first_seq"]) if state["messages"] else number
+
+
+def message_of(told: dict, seen: str) -> Logged:
+    headers = headers_in(b64decode(told["hdrs"]))[1] if told.get("hdrs") else {}
+    return Logged(told["seq"], headers, text_of(b64decode(told.get("data", ""))), seen, time.monotonic())
+
+
+def read_log(connection: Connection, log: str, history: History, network: Network) -> int:
+    """Adds the whole log to the history. Returns the number of its last message."""
+    state = connection.api("STREAM.INFO." + log)["state"]
+    witness = Witness(log, network, history, Board())
+    number = state["first_seq"]
+    while number <= state["last_seq"]:
+        before, number = number, witness.read(connection, number, "end")
+        if number == before:
+            break
+    return state["last_seq"]
+
+
+def guarded(work: Callable[[], None], wrong: list[str], board: Board) -> Callable[[], None]:
+    """The work of a thread, of which a failure ends the run."""
+
+    def guard() -> None:
+        try:
+            work()
+        except Exception as failure:  # noqa: BLE001: each failure counts, whatever it is
+            wrong.append(f"{type(failure).__name__}: {failure}")
+            board.is_over.set()
+
+    return guard
+

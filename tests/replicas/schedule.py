@@ -1,0 +1,202 @@
+"""What a seed decides: the faults with their times, how replicas are started, and what each client calls.
+
+A seed gives the same schedule each time. Names such as "leader" are resolved while the run goes on, since the servers choose their leader.
+"""
+
+import random
+from dataclasses import dataclass, field
+
+SERVERS = ["s0", "s1", "s2"]
+REPLICAS = ["r0", "r1", "r2"]
+CLIENTS = ["c0", "c1"]
+WITNESS = "w0"
+HOSTS = [*SERVERS, *REPLICAS, *CLIENTS, WITNESS]
+
+# Faults of hosts and links that leave most servers and their leader alone, and those that do not.
+LIGHT = ["cut", "cut-one-way", "slow", "lossy", "stop", "kill", "end", "clock", "memory", "no-room-for-snapshots", "bad-snapshot", "junk"]
+HEAVY = ["cut", "cut-one-way", "slow", "stop", "kill", "kill-all-replicas", "lose-files", "full", "split", "kill-most"]
+OF_SERVERS = ["kill", "stop", "cut", "cut-one-way", "lose-files", "full", "kill-most", "split"]
+HEAVY_OF = 3  # one seed of so many has heavy faults
+
+
+@dataclass
+class Fault:
+    """A fault, when it begins and for how long it lasts, in seconds of the run."""
+
+    at: float
+    lasts: float
+    kind: str
+    host: str
+    other: str = ""  # the other end of a link; empty for all others
+    value: float = 0.0
+
+    def __str__(self) -> str:
+        link = f" and {self.other}" if self.other else ""
+        return f"{self.at:.2f} s: {self.kind} {self.host}{link} for {self.lasts:.2f} s ({self.value:.3f})"
+
+
+@dataclass
+class Schedule:
+    """All that a seed decides, but for the calls of the clients."""
+
+    seed: int
+    length: float
+    is_heavy: bool
+    faults: list[Fault]
+    replicas: dict[str, list[str]] = field(default_factory=dict)  # the options of each
+
+    def describe(self) -> str:
+        kind = "heavy" if self.is_heavy else "light"
+        lines = [f"seed {self.seed}: {self.length:.2f} s, {kind}"]
+        lines += [f"  {name} {' '.join(options)}" for name, options in self.replicas.items()]
+        return "\n".join([*lines, *(f"  {fault}" for fault in self.faults)])
+
+
+def draw_light(rng: random.Random, length: float) -> Fault:
+    kind = rng.choice(LIGHT)
+    lasts = rng.uniform(0.2, length * 0.6)
+    host = rng.choice(REPLICAS)
+    other = ""
+    if kind in ("cut", "cut-one-way", "slow", "lossy"):
+        host = rng.choice([*REPLICAS, *CLIENTS, "follower"])
+        other = rng.choice(["", *SERVERS]) if host != "follower" else rng.choice(["", *REPLICAS])
+    if kind in ("kill", "stop") and rng.random() < 0.3:
+        host = "follower"
+    return Fault(rng.uniform(0.2, length * 0.7), lasts, kind, host, other, value_of(rng, kind))
+
+
+def draw_heavy(rng: random.Random, length: float) -> Fault:
+    kind = rng.choice(HEAVY)
+    host = rng.choice(["leader", "leader", "follower", *REPLICAS])
+    if kind in ("lose-files", "full"):
+        host = rng.choice(["leader", "follower"])
+    lasts = rng.uniform(1.0, length * 0.6)
+    return Fault(rng.uniform(0.3, length * 0.5), lasts, kind, host, "", value_of(rng, kind))
+
+
+def value_of(rng: random.Random, kind: str) -> float:
+    """How slow, how lossy, how far the clock jumps, or which bytes are changed."""
+    if kind == "slow":
+        return rng.choice([0.005, 0.03, 0.1, 0.3])
+    if kind == "lossy":
+        return rng.choice([0.02, 0.1, 0.3])
+    if kind == "clock":
+        return rng.choice([-86400.0, -3600.0, -5.0, 5.0, 3600.0, 86400.0 * 400])
+    return rng.random()
+
+
+def options_of(rng: random.Random, place: int) -> list[str]:
+    """How a replica is started. All must agree on --sum-every; the first always writes snapshots."""
+    options = ["--sum-every", "40", "--lost-after", str(rng.choice([1500, 3000, 15000]))]
+    if place == 0 or rng.random() < 0.3:
+        options += ["--snapshot-every", str(rng.choice([20, 60, 150]))]
+        if rng.random() < 0.4:
+            options += ["--keep", str(rng.choice([100, 300]))]
+    return options
+
+
+def schedule_of(seed: int) -> Schedule:
+    rng = random.Random(seed)
+    is_heavy = seed % HEAVY_OF == 0
+    length = rng.uniform(6.0, 10.0) if is_heavy else rng.uniform(1.5, 3.5)
+    faults = [draw_heavy(rng, length) for _ in range(rng.randint(1, 2))] if is_heavy else []
+    faults += [draw_light(rng, length) for _ in range(rng.randint(1, 4))]
+    schedule = Schedule(seed, length, is_heavy, sorted(faults, key=lambda fault: fault.at))
+    schedule.replicas = {name: options_of(rng, place) for place, name in enumerate(REPLICAS)}
+    return schedule
+
+
+# Calls.
+
+ACCOUNTS, MONEY, COUNTERS = 12, 100, 4
+DEFINITIONS = [
+    "TABLE account (id INT KEY, money INT)\n",
+    "TABLE entry (id TEXT KEY, payer INT REF account, payee INT REF account, amount INT)\n",
+    "TABLE counter (id INT KEY, value INT)\n",
+    "INDEX by_payer ON entry (payer) TREE\n",
+    "WATCH rich SELECT a.id, a.money FROM account a WHERE a.money > 100\n",
+    "INSERT account " + ", ".join(f"({number}, {MONEY})" for number in range(1, ACCOUNTS + 1)) + "\n",
+    "INSERT counter " + ", ".join(f"({number}, 0)" for number in range(1, COUNTERS + 1)) + "\n",
+]
+QUESTIONS_AT_END = ["TABLES", "SCAN account", "SCAN entry", "SCAN counter", "SCAN INDEX by_payer", "SHOW rich"]
+NO_SCRIPTS = [
+    b"BEGIN\nINSERT account (900, 1)\n",
+    b"INSERT account (901, 1)\nINSERT account (902, 1)\n",
+    b"BEGIN\nINSERT account (903, 1)\nBEGIN\nCOMMIT\n",
+    b"INSERT account (905, ?)\n",
+    b"SCAN account\n",
+    b"\x00\xff\n",
+    b"",
+]
+
+
+@dataclass
+class Call:
+    """What a client does next: a change or a question, how long it waits for an answer, and what it does before."""
+
+    script: str = ""
+    question: str = ""
+    linearizable: bool = False
+    passed_on: bool = False  # whether it demands the newest number of any client, not only its own
+    wait: float = 1.0
+    pause: float = 0.0
+
+
+class Calls:
+    """The calls of one client, one after another."""
+
+    def __init__(self, seed: int, client: str):
+        self.rng = random.Random(f"{seed} {client}")
+        self.client = client
+        self.count = 0
+
+    def next(self) -> Call:
+        rng = self.rng
+        call = Call(wait=rng.choice([0.3, 0.6, 1.2, 2.5]), pause=rng.choice([0.0, 0.0, 0.002, 0.02]))
+        if rng.random() < 0.45:
+            call.script = self.script()
+        else:
+            call.question = self.question()
+            call.passed_on = rng.random() < 0.5
+            call.linearizable = rng.random() < 0.2
+        return call
+
+    def script(self) -> str:
+        rng = self.rng
+        self.count += 1
+        kind = rng.random()
+        if kind < 0.03:
+            return rng.choice(["INSERT account (1\n", "SCAN account\n", "BEGIN\nDELETE entry\n", "COMMIT\n"])
+        if kind < 0.35:
+            return f"UPDATE counter SET value = value + 1 WHERE id = {rng.randint(1, COUNTERS)}\n"
+        if kind < 0.40:
+            return "DELETE entry WHERE amount = 9\n"
+        return self.transfer()
+
+    def transfer(self) -> str:
+        rng = self.rng
+        payer, payee = rng.sample(range(1, ACCOUNTS + 1), 2)
+        amount = rng.randint(1, 9)
+        name = f"{self.client}-{self.count if rng.random() < 0.9 else rng.randint(1, self.count)}"
+        lines = ["BEGIN"]
+        lines.append(f"UPDATE account SET money = money - {amount} WHERE id = {payer}")
+        lines.append(f"UPDATE counter SET value = value + 1 WHERE id = {rng.randint(1, COUNTERS)}")
+        if rng.random() < 0.2:
+            lines += ["SAVEPOINT s", "DELETE entry WHERE payer = 1", "ROLLBACK TO s"]
+        lines.append(f"UPDATE account SET money = money + {amount} WHERE id = {payee}")
+        lines.append(f"INSERT entry ('{name}', {payer}, {payee}, {amount})")
+        lines.append("ROLLBACK" if rng.random() < 0.05 else "COMMIT")
+        return "\n".join(lines) + "\n"
+
+    def question(self) -> str:
+        rng = self.rng
+        return rng.choice(
+            [
+                "SCAN account",
+                "SCAN counter",
+                "SHOW rich",
+                f"SELECT e.id, e.amount FROM entry e WHERE e.payer = {rng.randint(1, ACCOUNTS)}",
+                f"SELECT c.value FROM counter c WHERE c.id = {rng.randint(1, COUNTERS)}",
+                "SCAN nothing",
+            ]
+        )

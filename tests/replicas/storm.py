@@ -1,0 +1,273 @@
+#!/usr/bin/env python3
+"""Runs seeds: servers, replicas and clients on hosts of their own, with the faults that each seed decides, and checks each history.
+
+    storm.py PROGRAMS LIBRARY REFUSE FOLDER SEEDS [--lanes N] [--for SECONDS] [--kept-ids N] [--loopback] [--show]
+
+PROGRAMS is the folder of mmdb-replica and mmdb-ask, LIBRARY is libmmdb.so, and REFUSE the library that refuse.c makes, or "-". SEEDS is
+FIRST-LAST or one number. Each lane has three servers of its own and runs one seed after another; with --for no seed begins after so many
+seconds. FOLDER gets the history of each seed with findings, and what its programs said: SEED.history and SEED.said.
+
+--kept-ids says how many ids the replicas keep, if it is not 65,536. --loopback runs without namespaces, with proxies in place of a
+network. --show prints what the seeds decide, and runs nothing.
+
+A seed decides the faults, their times and the calls of each client. A real network and real processes do the rest, so a seed that found
+something may need some tries to find it again. The status is 0 only if nothing was found.
+"""
+
+import argparse
+import json
+import os
+import shutil
+import subprocess
+import sys
+import tempfile
+import threading
+import time
+from functools import partial
+from pathlib import Path
+from typing import Iterator, Optional
+
+from callers import Board, Caller, Witness, guarded, read_log
+from check import Checker
+from cluster import Failed
+from history import Event, History
+from injector import Injector
+from network import why_no_sandbox, words_in_sandbox
+from replay import Library, Replay
+from schedule import CLIENTS, DEFINITIONS, QUESTIONS_AT_END, REPLICAS, WITNESS, Calls, Schedule, schedule_of
+from stage import Programs, Stage, make_network
+
+CALLERS = 4
+LONGEST_START, LONGEST_RECOVERY, LONGEST_END = 60.0, 60.0, 40.0  # seconds
+LOG_RULE = "log"  # the rule that NATS may break, and replicas cannot
+
+
+class Run:
+    """A seed on a stage."""
+
+    def __init__(self, stage: Stage, schedule: Schedule):
+        self.stage, self.schedule = stage, schedule
+        self.history, self.board = History(), Board()
+        self.wrong: list[str] = []
+        self.checker: Optional[Checker] = None
+        self.log = f"seed{schedule.seed}"
+
+    def caller(self, host: str, client: str) -> Caller:
+        return Caller(host, client, self.log, self.stage.network, self.history, self.board)
+
+    def begin(self) -> None:
+        self.stage.network.command(seed=self.schedule.seed)
+        self.stage.make_log(self.log, time.monotonic() + LONGEST_START)
+        self.stage.start_replicas(self.schedule)
+        first = self.caller(WITNESS, "first")
+        self.board.give_up = time.monotonic() + LONGEST_START
+        for line in DEFINITIONS:
+            status = first.change(line, 2.5).answer.status
+            if status != "done":
+                raise Failed(f"{line!r} was {status}")
+        first.connection.close()
+        self.board.give_up = float("inf")
+
+    def storm(self) -> None:
+        """Lets clients call while faults happen, and waits until all calls have their answers."""
+        work = [partial(Witness(self.log, self.stage.network, self.history, self.board).run)]
+        for place in range(CALLERS):
+            client = f"k{place}"
+            caller = self.caller(CLIENTS[place % len(CLIENTS)], client)
+            work.append(partial(caller.run, Calls(self.schedule.seed, client)))
+        threads = [threading.Thread(target=guarded(one, self.wrong, self.board), daemon=True) for one in work]
+        for thread in threads:
+            thread.start()
+        injector = Injector(self.stage, self.schedule, self.history)
+        guarded(partial(injector.run, self.board), self.wrong, self.board)()
+        injector.heal()
+        self.history.add(Event(time.monotonic(), "healed"))
+        self.board.give_up = time.monotonic() + LONGEST_RECOVERY
+        self.board.is_over.set()
+        for thread in threads:
+            thread.join(LONGEST_RECOVERY + 10)
+        if any(thread.is_alive() for thread in threads):
+            self.wrong.append("liveness: a client did not end")
+
+    def end(self) -> None:
+        """After the faults: a change goes through, and each replica has the state at the last number."""
+        self.stage.wait_for_servers(time.monotonic() + LONGEST_RECOVERY)
+        self.board.give_up = time.monotonic() + LONGEST_END
+        last = self.caller(WITNESS, "last")
+        if last.change("BEGIN\nCOMMIT\n", 2.5).answer.status != "done":
+            self.wrong.append("liveness: no change goes through after the faults")
+        number = last.number
+        for name in REPLICAS:
+            for question in QUESTIONS_AT_END:
+                asked = last.ask(question, number, 2.5, time.monotonic(), replica=name)
+                if not asked.answer.status:
+                    self.wrong.append(f"liveness: {name} does not answer at number {number} after the faults")
+                    break
+        read_log(last.connection, self.log, self.history, self.stage.network)
+        last.connection.close()
+
+    def check(self) -> list[str]:
+        """What was found, one line each."""
+        programs = self.stage.programs
+        self.checker = Checker(self.history.records, lambda: Replay(Library(programs.library), programs.kept_ids))
+        return [*self.wrong, *(str(finding) for finding in self.checker.check())]
+
+    def run(self) -> list[str]:
+        try:
+            self.begin()
+            self.storm()
+            self.end()
+        except (Failed, OSError) as failure:
+            self.wrong.append(f"run: {type(failure).__name__}: {failure}")
+        self.said = {name: replica.said() for name, replica in self.stage.replicas.items()}
+        self.wrong += [f"end: {wrong}" for wrong in self.stage.end_replicas()]
+        self.stage.delete_log()
+        found = self.check()
+        return found + self.alarms(found)
+
+    def alarms(self, found: list[str]) -> list[str]:
+        """Sums differ only where the log changed under the replicas."""
+        has_alarm = any("DIFFERENT SUMS" in said for said in self.said.values())
+        return ["sums: replicas told of DIFFERENT SUMS"] if has_alarm and not any(line.startswith(LOG_RULE + ":") for line in found) else []
+
+    def keep(self, folder: Path) -> None:
+        self.history.write(folder / f"{self.schedule.seed}.history")
+        said = [f"==== {name}\n{text}" for name, text in self.said.items()]
+        (folder / f"{self.schedule.seed}.said").write_text("\n".join([self.schedule.describe(), *said]))
+
+
+# Lanes.
+
+
+def lane(programs: Programs, keep: Path, is_loopback: bool) -> None:
+    """Runs the seeds that come as lines on standard input, and writes a line of JSON for each."""
+    folder = Path(tempfile.mkdtemp(prefix="storm"))
+    stage = Stage(folder, programs, make_network(is_loopback))
+    try:
+        stage.start_servers()
+        for line in sys.stdin:
+            run = Run(stage, schedule_of(int(line)))
+            began = time.monotonic()
+            found = run.run()
+            if found:
+                run.keep(keep)
+            if any(line.startswith(("run:", "liveness:")) for line in found):
+                stage.restart_servers()
+            checker = run.checker
+            assert checker
+            told = {"seed": int(line), "found": found, "seconds": time.monotonic() - began, "heavy": run.schedule.is_heavy}
+            told.update(judged=checker.judged, unjudged=checker.unjudged, messages=checker.last, refused=run.board.refused)
+            print(json.dumps(told), flush=True)
+    finally:
+        stage.close()
+        shutil.rmtree(folder, ignore_errors=True)
+
+
+class Storm:
+    """All seeds, on some lanes."""
+
+    def __init__(self, options: argparse.Namespace):
+        self.options = options
+        self.seeds: Iterator[int] = iter(options.seeds)
+        self.lock = threading.Lock()
+        self.done: list[dict] = []
+        self.stops_at = time.monotonic() + options.seconds
+
+    def next_seed(self) -> Optional[int]:
+        with self.lock:
+            return next(self.seeds, None) if time.monotonic() < self.stops_at else None
+
+    def start_lane(self) -> subprocess.Popen[bytes]:
+        words = [sys.executable, __file__, *sys.argv[1:], "--lane"]
+        words = words if self.options.loopback else words_in_sandbox(words)
+        return subprocess.Popen(words, stdin=subprocess.PIPE, stdout=subprocess.PIPE)
+
+    def run_lane(self) -> None:
+        running = self.start_lane()
+        assert running.stdin and running.stdout
+        while (seed := self.next_seed()) is not None:
+            running.stdin.write(f"{seed}\n".encode())
+            running.stdin.flush()
+            line = running.stdout.readline()
+            if not line:
+                self.tell({"seed": seed, "found": ["run: the lane ended"], "seconds": 0.0})
+                running.wait()
+                running = self.start_lane()
+                assert running.stdin and running.stdout
+                continue
+            self.tell(json.loads(line))
+        running.stdin.close()
+        running.wait()
+
+    def tell(self, told: dict) -> None:
+        with self.lock:
+            self.done.append(told)
+        for line in told["found"][:8]:
+            print(f"seed {told['seed']}: {line}", flush=True)
+        if self.options.verbose:
+            print(json.dumps({**told, "found": len(told["found"])}), flush=True)
+
+    def run(self) -> int:
+        lanes = [threading.Thread(target=self.run_lane) for _ in range(self.options.lanes)]
+        for one in lanes:
+            one.start()
+        for one in lanes:
+            one.join()
+        return self.sum_up()
+
+    def sum_up(self) -> int:
+        bad = [told["seed"] for told in self.done if any(not line.startswith(LOG_RULE + ":") for line in told["found"])]
+        lost = [told["seed"] for told in self.done if any(line.startswith(LOG_RULE + ":") for line in told["found"])]
+        seeds, heavy = len(self.done), sum(told.get("heavy", False) for told in self.done)
+        judged, unjudged = (sum(told.get(key, 0) for told in self.done) for key in ("judged", "unjudged"))
+        messages, refused = (sum(told.get(key, 0) for told in self.done) for key in ("messages", "refused"))
+        print(f"{seeds} seeds, {heavy} of them with faults of servers: {judged} answers were judged; the logs have {messages} messages")
+        print(f"{refused} times nobody could answer; {unjudged} answers were not judged, as the log itself had changed")
+        if lost:
+            print(f"NATS lost or changed messages that it had acknowledged with the seeds {' '.join(map(str, sorted(lost)))}")
+        if bad:
+            print(f"the replicas are wrong with the seeds {' '.join(map(str, sorted(bad)))}; see {self.options.folder}")
+        return 1 if bad or not judged else 0
+
+
+def seeds_in(word: str) -> range:
+    first, _, last = word.partition("-")
+    return range(int(first), int(last or first) + 1)
+
+
+def read_options() -> argparse.Namespace:
+    parser = argparse.ArgumentParser(description=__doc__, formatter_class=argparse.RawDescriptionHelpFormatter)
+    for name in ("programs", "library", "refuse", "folder"):
+        parser.add_argument(name, type=Path)
+    parser.add_argument("seeds", type=seeds_in)
+    parser.add_argument("--lanes", type=int, default=2)
+    parser.add_argument("--for", dest="seconds", type=float, default=float("inf"))
+    parser.add_argument("--kept-ids", type=int, default=65536)
+    for name in ("--loopback", "--show", "--lane", "--verbose"):
+        parser.add_argument(name, action="store_true")
+    return parser.parse_args()
+
+
+def main() -> int:
+    options = read_options()
+    if options.show:
+        print("\n".join(schedule_of(seed).describe() for seed in options.seeds))
+        return 0
+    refuse = None if str(options.refuse) == "-" else options.refuse.resolve()
+    programs = Programs(options.programs.resolve(), options.library.resolve(), refuse, options.kept_ids)
+    if options.lane:
+        lane(programs, options.folder, options.loopback)
+        return 0
+    refusal = "" if options.loopback else why_no_sandbox()
+    if refusal:
+        print(f"The kernel refuses network namespaces ({refusal}): the seeds run on loopback, with proxies that cut and delay.")
+        print("No packet is lost or reordered, no device is full, and no server is cut off from the others.")
+        sys.argv.append("--loopback")
+        options.loopback = True
+    options.folder.mkdir(exist_ok=True)
+    return Storm(options).run()
+
+
+if __name__ == "__main__":
+    os.environ["PYTHONDONTWRITEBYTECODE"] = "1"
+    sys.exit(main())
