@@ -34,6 +34,7 @@ from replay import KEPT_IDS, Library, Outcome, Replay, chain_after, chain_begin,
 APPLIED = ("done", "refused", "unmet")
 ANSWERED = ("done", "refused", "orphaned")  # of questions
 SERVER_FAULT = "a server fails: "  # how the event of a fault begins after which NATS may have lost a message
+JUNK = "junk"  # who publishes messages that were made wrong on purpose
 MOST_LINES_SHOWN = 6
 
 Call = Union[Change, Question]
@@ -88,7 +89,9 @@ class Checker:
         return {**before, **at_end}, witnessed
 
     def names_in_log(self) -> set[str]:
-        return {entry.name for message in self.log.values() for entry in entries_of(message) or []}
+        """The ids of changes that replicas published. Junk may have an id that a client uses later."""
+        messages = [message for message in self.log.values() if message.headers.get("Mmdb-Replica") != JUNK]
+        return {entry.name for message in messages for entry in entries_of(message) or []}
 
     def first_broken(self) -> Optional[int]:
         """The first number at which the log does not have what it had."""

@@ -6,11 +6,11 @@ import time
 from typing import Iterable
 
 from callers import Board
-from check import SERVER_FAULT
+from check import JUNK, SERVER_FAULT
 from cluster import must
 from history import Event, History, Logged, bytes_of
 from network import Pair
-from schedule import HOSTS, NO_SCRIPTS, OF_SERVERS, REPLICAS, SERVERS, Fault, Schedule
+from schedule import HOSTS, NO_SCRIPTS, OF_SERVERS, REPLICAS, SERVERS, WITNESS, Fault, Schedule
 from stage import FILLER, Stage
 from wire import Connection
 
@@ -202,14 +202,16 @@ class Injector:
     # Messages.
 
     def begin_junk(self, place: int, fault: Fault) -> None:
-        """Puts messages into the log that change nothing: no scripts, and copies of earlier messages, as a slow network passes them on."""
-        connection = Connection(self.stage.network.addresses("w0"))
+        """Publishes messages that no replica would: no scripts, copies of earlier messages as a slow network delivers them, and spoilt ones."""
+        connection = Connection(self.stage.network.addresses(WITNESS))
         try:
             connection.connect(time.monotonic() + 1)
             for body in self.random.sample(NO_SCRIPTS, 3):
-                connection.publish(self.stage.log + ".log", body, {"Mmdb-Format": "2"})
+                connection.publish(self.stage.log + ".log", body, {"Mmdb-Format": "2", "Mmdb-Replica": JUNK})
             for message in self.copies():
                 connection.publish(self.stage.log + ".log", bytes_of(message.body), message.headers)
+            for message in self.copies():
+                connection.publish(self.stage.log + ".log", *self.spoil(message))
         except OSError:
             pass  # a server fails at the same time
         connection.close()
@@ -217,7 +219,21 @@ class Injector:
     def copies(self) -> list[Logged]:
         with self.history.lock:
             messages = [one for one in self.history.records if isinstance(one, Logged)]
-        return self.random.sample(messages, min(len(messages), 5))
+        return self.random.sample(messages, min(len(messages), 8))
+
+    def spoil(self, message: Logged) -> tuple[bytes, dict[str, str]]:
+        """A message with some bytes changed, and now and then a header. No header claims a newer format, which stops replicas for good."""
+        rng = self.random
+        body = bytearray(bytes_of(message.body))
+        headers = {**message.headers, "Mmdb-Replica": JUNK}
+        for _ in range(rng.choice([0, 1, 1, 3])):
+            at = rng.randrange(len(body) + 1)
+            body[at : at + rng.choice([0, 1])] = rng.choice([b"", b" ", b"0", b"7", b"\n", bytes([rng.randrange(256)])])
+        if rng.random() < 0.4:
+            headers["Mmdb-Checked"] = rng.choice(["", "0", "999999999 " + "0" * 32, "01 " + "0" * 32, "1 " + "a" * 31, "0 " + "A" * 32])
+        if rng.random() < 0.2:
+            headers["Mmdb-Format"] = rng.choice(["", "0", "1", "two", "-2"])
+        return bytes(body), headers
 
     # The end.
 
@@ -236,4 +252,5 @@ class Injector:
             if not process.running:
                 process.start()
         for name in REPLICAS:
-            self.stage.clock_file(name).exists() and self.stage.set_clock(name, 0)
+            if self.stage.clock_file(name).exists():
+                self.stage.set_clock(name, 0)

@@ -47,17 +47,18 @@ def checked_in(message: Logged) -> Optional[tuple[int, str]]:
 def entries_of(message: Logged) -> Optional[list[Entry]]:
     """The scripts of a message; None where it is malformed."""
     checked = checked_in(message)
-    if message.headers.get("Mmdb-Format") != FORMAT or not checked or checked[0] >= message.number or "Mmdb-Replica" not in message.headers:
+    if message.headers.get("Mmdb-Format") != FORMAT or not checked or checked[0] >= message.number:
         return None
     rest = bytes_of(message.body)
-    entries = []
+    entries: list[Entry] = []
     while rest or not entries:
         head = ENTRY.match(rest)
         if not head:
             return None
         since, flags, length = (int(one) for one in head.groups()[1:])
         script = rest[head.end() : head.end() + length]
-        if len(script) < length or rest[head.end() + length : head.end() + length + 1] != b"\n" or flags & ~CONDITION:
+        has_end = rest[head.end() + length : head.end() + length + 1] == b"\n"
+        if length > MOST_SCRIPT_BYTES or not has_end or flags & ~CONDITION:
             return None
         entries.append(Entry(head[1].decode(), since, flags, script))
         rest = rest[head.end() + length + 1 :]

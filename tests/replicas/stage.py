@@ -185,12 +185,20 @@ class Stage:
             self.replicas[name] = Process(f"{name}-{self.log}", self.network.words(name, words), self.folder, environment)
             self.replicas[name].start()
 
+    def crashes(self) -> list[str]:
+        """What was wrong with replicas that ended by themselves. They are started again later."""
+        ended = [one for one in self.replicas.values() if one.running and one.running.poll() is not None]
+        wrong = [f"crash: {one.name} ended by itself: {one.running.poll() if one.running else 0}: {one.said()[-600:]}" for one in ended]
+        for one in ended:
+            one.kill()
+        return wrong
+
     def end_replicas(self) -> list[str]:
         """Ends all replicas. Returns what was wrong with how they ended."""
         wrong = []
         for name, replica in self.replicas.items():
             try:
-                status = replica.stop()
+                status = replica.stop() if replica.running else 0
                 if status:
                     wrong.append(f"{name} ended with status {status}: {replica.said()[-400:]}")
             except Failed as failed:

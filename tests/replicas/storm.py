@@ -1,14 +1,15 @@
 #!/usr/bin/env python3
 """Runs seeds: servers, replicas and clients on hosts of their own, with the faults that each seed decides, and checks each history.
 
-    storm.py PROGRAMS LIBRARY REFUSE FOLDER SEEDS [--lanes N] [--for SECONDS] [--kept-ids N] [--loopback] [--show]
+    storm.py PROGRAMS LIBRARY REFUSE FOLDER SEEDS [--forgetful FOLDER] [--lanes N] [--for SECONDS] [--keep-all] [--loopback] [--show]
 
 PROGRAMS is the folder of mmdb-replica and mmdb-ask, LIBRARY is libmmdb.so, and REFUSE the library that refuse.c makes, or "-". SEEDS is
 FIRST-LAST or one number. Each lane has three servers of its own and runs one seed after another; with --for no seed begins after so many
-seconds. FOLDER gets the history of each seed with findings, and what its programs said: SEED.history and SEED.said.
+seconds. FOLDER gets the history of each seed with findings, and what its programs said: SEED.history and SEED.said; with --keep-all that
+of each seed.
 
---kept-ids says how many ids the replicas keep, if it is not 65,536. --loopback runs without namespaces, with proxies in place of a
-network. --show prints what the seeds decide, and runs nothing.
+--forgetful has the programs for odd seeds: they keep 64 ids in place of 65,536, so a run is long enough to forget some. --loopback runs
+without namespaces, with proxies in place of a network. --show prints what the seeds decide, and runs nothing.
 
 A seed decides the faults, their times and the calls of each client. A real network and real processes do the rest, so a seed that found
 something may need some tries to find it again. The status is 0 only if nothing was found.
@@ -33,11 +34,11 @@ from cluster import Failed
 from history import Event, History
 from injector import Injector
 from network import why_no_sandbox, words_in_sandbox
-from replay import Library, Replay
+from replay import KEPT_IDS, Library, Replay
 from schedule import CLIENTS, DEFINITIONS, QUESTIONS_AT_END, REPLICAS, WITNESS, Calls, Schedule, schedule_of
 from stage import Programs, Stage, make_network
 
-CALLERS = 4
+CALLERS, FEW_IDS = 4, 64
 LONGEST_START, LONGEST_RECOVERY, LONGEST_END = 60.0, 60.0, 40.0  # seconds
 LOG_RULE = "log"  # the rule that NATS may break, and replicas cannot
 
@@ -45,8 +46,10 @@ LOG_RULE = "log"  # the rule that NATS may break, and replicas cannot
 class Run:
     """A seed on a stage."""
 
-    def __init__(self, stage: Stage, schedule: Schedule):
+    def __init__(self, stage: Stage, schedule: Schedule, programs: Programs):
         self.stage, self.schedule = stage, schedule
+        self.stage.programs = programs
+        self.said: dict[str, str] = {}
         self.history, self.board = History(), Board()
         self.wrong: list[str] = []
         self.checker: Optional[Checker] = None
@@ -80,6 +83,7 @@ class Run:
             thread.start()
         injector = Injector(self.stage, self.schedule, self.history)
         guarded(partial(injector.run, self.board), self.wrong, self.board)()
+        self.wrong += self.stage.crashes()
         injector.heal()
         self.history.add(Event(time.monotonic(), "healed"))
         self.board.give_up = time.monotonic() + LONGEST_RECOVERY
@@ -96,15 +100,18 @@ class Run:
         last = self.caller(WITNESS, "last")
         if last.change("BEGIN\nCOMMIT\n", 2.5).answer.status != "done":
             self.wrong.append("liveness: no change goes through after the faults")
-        number = last.number
         for name in REPLICAS:
-            for question in QUESTIONS_AT_END:
-                asked = last.ask(question, number, 2.5, time.monotonic(), replica=name)
-                if not asked.answer.status:
-                    self.wrong.append(f"liveness: {name} does not answer at number {number} after the faults")
-                    break
+            self.ask_all(last, last.number, name)
+        self.wrong += self.stage.crashes()
         read_log(last.connection, self.log, self.history, self.stage.network)
         last.connection.close()
+
+    def ask_all(self, caller: Caller, number: int, replica: str) -> None:
+        self.board.give_up = time.monotonic() + LONGEST_END
+        for question in QUESTIONS_AT_END:
+            if not caller.ask(question, number, 2.5, time.monotonic(), replica=replica).answer.status:
+                self.wrong.append(f"liveness: {replica} does not answer at number {number} after the faults")
+                return
 
     def check(self) -> list[str]:
         """What was found, one line each."""
@@ -128,7 +135,8 @@ class Run:
     def alarms(self, found: list[str]) -> list[str]:
         """Sums differ only where the log changed under the replicas."""
         has_alarm = any("DIFFERENT SUMS" in said for said in self.said.values())
-        return ["sums: replicas told of DIFFERENT SUMS"] if has_alarm and not any(line.startswith(LOG_RULE + ":") for line in found) else []
+        is_log_broken = any(line.startswith(LOG_RULE + ":") for line in found)
+        return ["sums: replicas told of DIFFERENT SUMS"] if has_alarm and not is_log_broken else []
 
     def keep(self, folder: Path) -> None:
         self.history.write(folder / f"{self.schedule.seed}.history")
@@ -139,28 +147,39 @@ class Run:
 # Lanes.
 
 
-def lane(programs: Programs, keep: Path, is_loopback: bool) -> None:
+def lane(options: argparse.Namespace) -> None:
     """Runs the seeds that come as lines on standard input, and writes a line of JSON for each."""
     folder = Path(tempfile.mkdtemp(prefix="storm"))
-    stage = Stage(folder, programs, make_network(is_loopback))
+    stage = Stage(folder, programs_of(options, 0), make_network(options.loopback))
     try:
         stage.start_servers()
         for line in sys.stdin:
-            run = Run(stage, schedule_of(int(line)))
-            began = time.monotonic()
-            found = run.run()
-            if found:
-                run.keep(keep)
-            if any(line.startswith(("run:", "liveness:")) for line in found):
-                stage.restart_servers()
-            checker = run.checker
-            assert checker
-            told = {"seed": int(line), "found": found, "seconds": time.monotonic() - began, "heavy": run.schedule.is_heavy}
-            told.update(judged=checker.judged, unjudged=checker.unjudged, messages=checker.last, refused=run.board.refused)
-            print(json.dumps(told), flush=True)
+            run = Run(stage, schedule_of(int(line)), programs_of(options, int(line)))
+            print(json.dumps(run_one(run, options)), flush=True)
     finally:
         stage.close()
         shutil.rmtree(folder, ignore_errors=True)
+
+
+def programs_of(options: argparse.Namespace, seed: int) -> Programs:
+    refuse = None if str(options.refuse) == "-" else options.refuse.resolve()
+    is_forgetful = bool(options.forgetful and seed % 2)
+    folder = options.forgetful if is_forgetful else options.programs
+    return Programs(folder.resolve(), options.library.resolve(), refuse, FEW_IDS if is_forgetful else KEPT_IDS)
+
+
+def run_one(run: Run, options: argparse.Namespace) -> dict:
+    """Runs a seed. Returns what to tell of it."""
+    began = time.monotonic()
+    found = run.run()
+    if found or options.keep_all:
+        run.keep(options.folder)
+    if any(line.startswith(("run:", "liveness:")) for line in found):
+        run.stage.restart_servers()
+    assert run.checker
+    told = {"seed": run.schedule.seed, "found": found, "seconds": time.monotonic() - began, "heavy": run.schedule.is_heavy}
+    told.update(judged=run.checker.judged, unjudged=run.checker.unjudged, messages=run.checker.last, refused=run.board.refused)
+    return told
 
 
 class Storm:
@@ -196,8 +215,7 @@ class Storm:
                 assert running.stdin and running.stdout
                 continue
             self.tell(json.loads(line))
-        running.stdin.close()
-        running.wait()
+        running.communicate()
 
     def tell(self, told: dict) -> None:
         with self.lock:
@@ -242,8 +260,8 @@ def read_options() -> argparse.Namespace:
     parser.add_argument("seeds", type=seeds_in)
     parser.add_argument("--lanes", type=int, default=2)
     parser.add_argument("--for", dest="seconds", type=float, default=float("inf"))
-    parser.add_argument("--kept-ids", type=int, default=65536)
-    for name in ("--loopback", "--show", "--lane", "--verbose"):
+    parser.add_argument("--forgetful", type=Path)
+    for name in ("--keep-all", "--loopback", "--show", "--lane", "--verbose"):
         parser.add_argument(name, action="store_true")
     return parser.parse_args()
 
@@ -253,10 +271,8 @@ def main() -> int:
     if options.show:
         print("\n".join(schedule_of(seed).describe() for seed in options.seeds))
         return 0
-    refuse = None if str(options.refuse) == "-" else options.refuse.resolve()
-    programs = Programs(options.programs.resolve(), options.library.resolve(), refuse, options.kept_ids)
     if options.lane:
-        lane(programs, options.folder, options.loopback)
+        lane(options)
         return 0
     refusal = "" if options.loopback else why_no_sandbox()
     if refusal:

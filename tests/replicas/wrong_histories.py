@@ -235,7 +235,8 @@ WRONG: list[tuple[Callable[[Writer], None], str]] = [
 def window() -> list[str]:
     """A copy that comes after its id was forgotten is skipped, unless its publisher had checked the id later."""
     wrong = []
-    for checked, wanted in ((1, set()), (4, {"once"})):
+    cases: list[tuple[int, set[str]]] = [(1, set()), (4, {"once"})]
+    for checked, wanted in cases:
         writer = Writer()
         for name in "abcd":
             writer.change(name, "UPDATE\n", "done", "ok 1\n")
