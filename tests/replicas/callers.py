@@ -6,14 +6,17 @@ import time
 from base64 import b64decode
 from typing import Callable, Optional
 
+from cluster import Asker, must
 from history import Answer, Change, History, Logged, Question, text_of
 from network import Network
 from schedule import WITNESS, Call, Calls
+from stage import Stage
 from wire import Connection, Message, headers_in
 
 NOT_NOW = ("unready", "unavailable", "behind", "memory")
 AT_ONCE = 200  # messages that are read at a time
 NO_MESSAGE = 404
+LONGEST_WAIT_MS = 90000  # milliseconds that mmdb-ask tries
 
 
 def answer_of(message: Message, end: float) -> Answer:
@@ -127,6 +130,48 @@ class Caller:
         if answer.status in ("done", "refused", "unmet"):
             self.number = max(self.number, answer.number)
             self.board.saw(answer.number)
+
+
+    def send_again(self, change: Change) -> None:
+        """Sends a change again that was answered, and records it as another call with the same id."""
+        again = Change(self.client, change.name, change.script, change.begin, change.has_condition, 1)
+        self.history.add(again)
+        headers = {"Mmdb-Id": change.name, **({"Mmdb-Condition": "rows"} if change.has_condition else {})}
+        answer = self.try_once(self.log + ".change", change.script.encode(), headers, 2.5)
+        if answer:
+            again.answer = answer
+
+
+class ProgramCaller:
+    """A client that is an mmdb-ask, which is held open and gets one script or question after another."""
+
+    def __init__(self, host: str, client: str, stage: Stage, history: History, board: Board):
+        words = stage.ask_words(host, "--numbers", "--id", client, "--wait", str(LONGEST_WAIT_MS))
+        self.client, self.history, self.board = client, history, board
+        self.asker = Asker(words)
+        self.number = self.count = 0
+
+    def run(self, calls: Calls) -> None:
+        try:
+            while not self.board.is_over.is_set():
+                call = calls.next()
+                self.board.is_over.wait(call.pause)
+                if call.question:
+                    asked = Question(self.client, call.question, self.number, time.monotonic())
+                    self.record(asked, call.question + "\n")
+                elif call.is_valid:
+                    self.count += 1
+                    self.record(Change(self.client, f"{self.client}-{self.count}", call.script, time.monotonic(), False, 1), call.script)
+            must(self.asker.close() == 0, "mmdb-ask did not end well")
+        finally:
+            self.asker.kill()
+
+    def record(self, call: Change | Question, script: str) -> None:
+        self.history.add(call)
+        status, number, replies, replica = self.asker.send(script.encode(), isinstance(call, Question))
+        call.answer = Answer(time.monotonic(), status, number, text_of(replies), replica)
+        self.number = max(self.number, number)
+        self.board.saw(self.number)
 
 
 class Witness:

@@ -1,6 +1,7 @@
 """Lets faults happen on a stage, and takes them back."""
 
 import random
+import re
 import signal
 import time
 from typing import Iterable
@@ -13,6 +14,9 @@ from network import Pair
 from schedule import HOSTS, NO_SCRIPTS, OF_SERVERS, REPLICAS, SERVERS, WITNESS, Fault, Schedule
 from stage import FILLER, Stage
 from wire import Connection
+
+
+IDS = re.compile(rb"^([a-z0-9]+)-([0-9]+(?: [0-9]+){3}\n)", re.MULTILINE)
 
 
 def both_ways(one: str, others: Iterable[str]) -> list[Pair]:
@@ -202,7 +206,7 @@ class Injector:
     # Messages.
 
     def begin_junk(self, place: int, fault: Fault) -> None:
-        """Publishes messages that no replica would: no scripts, copies of earlier messages as a slow network delivers them, and spoilt ones."""
+        """Publishes messages that no replica would: no scripts, late copies of earlier messages, and spoilt ones."""
         connection = Connection(self.stage.network.addresses(WITNESS))
         try:
             connection.connect(time.monotonic() + 1)
@@ -222,9 +226,9 @@ class Injector:
         return self.random.sample(messages, min(len(messages), 8))
 
     def spoil(self, message: Logged) -> tuple[bytes, dict[str, str]]:
-        """A message with some bytes changed, and now and then a header. No header claims a newer format, which stops replicas for good."""
+        """A message with other ids, some bytes changed and now and then a header. None claims a newer format, which stops replicas."""
         rng = self.random
-        body = bytearray(bytes_of(message.body))
+        body = bytearray(IDS.sub(rb"\1~\2", bytes_of(message.body)))
         headers = {**message.headers, "Mmdb-Replica": JUNK}
         for _ in range(rng.choice([0, 1, 1, 3])):
             at = rng.randrange(len(body) + 1)

@@ -18,6 +18,10 @@ HEAVY = ["cut", "cut-one-way", "slow", "stop", "kill", "kill-all-replicas", "los
 OF_SERVERS = ["kill", "stop", "cut", "cut-one-way", "lose-files", "full", "kill-most", "split"]
 HEAVY_OF = 3  # one seed of so many has heavy faults
 
+# The builds of the programs. A forgetful one keeps 64 ids in place of 65,536, so a run is long enough to forget some.
+BUILD_OF = ["plain", "forgetful", "plain", "forgetful", "address", "forgetful", "plain", "forgetful", "thread"]
+SANITIZED, FEW_IDS = ("address", "thread"), 64
+
 
 @dataclass
 class Fault:
@@ -44,10 +48,11 @@ class Schedule:
     is_heavy: bool
     faults: list[Fault]
     replicas: dict[str, list[str]] = field(default_factory=dict)  # the options of each
+    build: str = "plain"
 
     def describe(self) -> str:
         kind = "heavy" if self.is_heavy else "light"
-        lines = [f"seed {self.seed}: {self.length:.2f} s, {kind}"]
+        lines = [f"seed {self.seed}: {self.length:.2f} s, {kind}, {self.build}"]
         lines += [f"  {name} {' '.join(options)}" for name, options in self.replicas.items()]
         return "\n".join([*lines, *(f"  {fault}" for fault in self.faults)])
 
@@ -102,6 +107,7 @@ def schedule_of(seed: int) -> Schedule:
     faults = [draw_heavy(rng, length) for _ in range(rng.randint(1, 2))] if is_heavy else []
     faults += [draw_light(rng, length) for _ in range(rng.randint(1, 4))]
     schedule = Schedule(seed, length, is_heavy, sorted(faults, key=lambda fault: fault.at))
+    schedule.build = BUILD_OF[seed // HEAVY_OF % len(BUILD_OF)]
     schedule.replicas = {name: options_of(rng, place) for place, name in enumerate(REPLICAS)}
     return schedule
 
@@ -119,6 +125,7 @@ DEFINITIONS = [
     "INSERT counter " + ", ".join(f"({number}, 0)" for number in range(1, COUNTERS + 1)) + "\n",
 ]
 QUESTIONS_AT_END = ["TABLES", "SCAN account", "SCAN entry", "SCAN counter", "SCAN INDEX by_payer", "SHOW rich"]
+NOT_VALID = ["INSERT account (1\n", "SCAN account\n", "BEGIN\nDELETE entry\n", "COMMIT\n"]
 NO_SCRIPTS = [
     b"BEGIN\nINSERT account (900, 1)\n",
     b"INSERT account (901, 1)\nINSERT account (902, 1)\n",
@@ -135,6 +142,7 @@ class Call:
     """What a client does next: a change or a question, how long it waits for an answer, and what it does before."""
 
     script: str = ""
+    is_valid: bool = True
     question: str = ""
     linearizable: bool = False
     passed_on: bool = False  # whether it demands the newest number of any client, not only its own
@@ -154,7 +162,8 @@ class Calls:
         rng = self.rng
         call = Call(wait=rng.choice([0.3, 0.6, 1.2, 2.5]), pause=rng.choice([0.0, 0.0, 0.002, 0.02]))
         if rng.random() < 0.45:
-            call.script = self.script()
+            call.is_valid = rng.random() >= 0.03
+            call.script = self.script() if call.is_valid else rng.choice(NOT_VALID)
         else:
             call.question = self.question()
             call.passed_on = rng.random() < 0.5
@@ -165,8 +174,6 @@ class Calls:
         rng = self.rng
         self.count += 1
         kind = rng.random()
-        if kind < 0.03:
-            return rng.choice(["INSERT account (1\n", "SCAN account\n", "BEGIN\nDELETE entry\n", "COMMIT\n"])
         if kind < 0.35:
             return f"UPDATE counter SET value = value + 1 WHERE id = {rng.randint(1, COUNTERS)}\n"
         if kind < 0.40:

@@ -171,7 +171,8 @@ class Stage:
         if has_clock and library_of_clocks():
             self.set_clock(name, 0)
             preloaded.append(str(library_of_clocks()))
-            environment = {"FAKETIME_TIMESTAMP_FILE": str(self.clock_file(name)), "DONT_FAKE_MONOTONIC": "1", "FAKETIME_CACHE_DURATION": "1"}
+            environment = {"FAKETIME_TIMESTAMP_FILE": str(self.clock_file(name)), "FAKETIME_CACHE_DURATION": "1"}
+            environment["DONT_FAKE_MONOTONIC"] = "1"
         return {**environment, **({"LD_PRELOAD": " ".join(preloaded)} if preloaded else {})}
 
     def start_replicas(self, schedule: Schedule) -> None:

@@ -1,15 +1,15 @@
 #!/usr/bin/env python3
 """Runs seeds: servers, replicas and clients on hosts of their own, with the faults that each seed decides, and checks each history.
 
-    storm.py PROGRAMS LIBRARY REFUSE FOLDER SEEDS [--forgetful FOLDER] [--lanes N] [--for SECONDS] [--keep-all] [--loopback] [--show]
+    storm.py BUILDS LIBRARY REFUSE FOLDER SEEDS [--lanes N] [--for SECONDS] [--only BUILD] [--keep-all] [--loopback] [--show]
 
-PROGRAMS is the folder of mmdb-replica and mmdb-ask, LIBRARY is libmmdb.so, and REFUSE the library that refuse.c makes, or "-". SEEDS is
-FIRST-LAST or one number. Each lane has three servers of its own and runs one seed after another; with --for no seed begins after so many
-seconds. FOLDER gets the history of each seed with findings, and what its programs said: SEED.history and SEED.said; with --keep-all that
-of each seed.
+BUILDS has a folder for each build of mmdb-replica and mmdb-ask, as `build` beside this file makes them; a seed decides which one it uses.
+LIBRARY is libmmdb.so, and REFUSE the library that refuse.c makes. SEEDS is FIRST-LAST or one number. Each lane has three servers of its
+own and runs one seed after another; with --for no seed begins after so many seconds. FOLDER gets the history of each seed with findings,
+and what its programs said: SEED.history and SEED.said; with --keep-all those of each seed.
 
---forgetful has the programs for odd seeds: they keep 64 ids in place of 65,536, so a run is long enough to forget some. --loopback runs
-without namespaces, with proxies in place of a network. --show prints what the seeds decide, and runs nothing.
+--only lets all seeds use one build. --loopback runs without namespaces, with proxies in place of a network. --show prints what the seeds
+decide, and runs nothing.
 
 A seed decides the faults, their times and the calls of each client. A real network and real processes do the rest, so a seed that found
 something may need some tries to find it again. The status is 0 only if nothing was found.
@@ -18,6 +18,7 @@ something may need some tries to find it again. The status is 0 only if nothing 
 import argparse
 import json
 import os
+import re
 import shutil
 import subprocess
 import sys
@@ -28,17 +29,18 @@ from functools import partial
 from pathlib import Path
 from typing import Iterator, Optional
 
-from callers import Board, Caller, Witness, guarded, read_log
-from check import Checker
+from callers import Board, Caller, ProgramCaller, Witness, guarded, read_log
+from check import APPLIED, Checker
 from cluster import Failed
-from history import Event, History
+from history import Change, Event, History
 from injector import Injector
 from network import why_no_sandbox, words_in_sandbox
 from replay import KEPT_IDS, Library, Replay
-from schedule import CLIENTS, DEFINITIONS, QUESTIONS_AT_END, REPLICAS, WITNESS, Calls, Schedule, schedule_of
+from schedule import CLIENTS, DEFINITIONS, FEW_IDS, QUESTIONS_AT_END, REPLICAS, SANITIZED, WITNESS, Calls, Schedule, schedule_of
 from stage import Programs, Stage, make_network
 
-CALLERS, FEW_IDS = 4, 64
+CALLERS, ASKERS = 4, 1
+AGAIN = 8  # changes that are sent again at the end
 LONGEST_START, LONGEST_RECOVERY, LONGEST_END = 60.0, 60.0, 40.0  # seconds
 LOG_RULE = "log"  # the rule that NATS may break, and replicas cannot
 
@@ -50,6 +52,7 @@ class Run:
         self.stage, self.schedule = stage, schedule
         self.stage.programs = programs
         self.said: dict[str, str] = {}
+        self.statuses: list[dict] = []
         self.history, self.board = History(), Board()
         self.wrong: list[str] = []
         self.checker: Optional[Checker] = None
@@ -78,6 +81,9 @@ class Run:
             client = f"k{place}"
             caller = self.caller(CLIENTS[place % len(CLIENTS)], client)
             work.append(partial(caller.run, Calls(self.schedule.seed, client)))
+        for place in range(ASKERS):
+            asker = ProgramCaller(CLIENTS[place % len(CLIENTS)], f"a{place}", self.stage, self.history, self.board)
+            work.append(partial(asker.run, Calls(self.schedule.seed, f"a{place}")))
         threads = [threading.Thread(target=guarded(one, self.wrong, self.board), daemon=True) for one in work]
         for thread in threads:
             thread.start()
@@ -100,11 +106,19 @@ class Run:
         last = self.caller(WITNESS, "last")
         if last.change("BEGIN\nCOMMIT\n", 2.5).answer.status != "done":
             self.wrong.append("liveness: no change goes through after the faults")
+        self.send_again(last)
         for name in REPLICAS:
             self.ask_all(last, last.number, name)
         self.wrong += self.stage.crashes()
+        self.statuses = [json.loads(one.body) for one in last.connection.collect(self.log + ".status", len(REPLICAS), 2.0) if one.body]
         read_log(last.connection, self.log, self.history, self.stage.network)
         last.connection.close()
+
+    def send_again(self, caller: Caller) -> None:
+        """Changes that were answered have the same answer when they are sent again, unless their ids are forgotten by now."""
+        answered = [one for one in self.history.records if isinstance(one, Change) and one.answer.status in APPLIED]
+        for change in answered[:: max(1, len(answered) // AGAIN)]:
+            caller.send_again(change)
 
     def ask_all(self, caller: Caller, number: int, replica: str) -> None:
         self.board.give_up = time.monotonic() + LONGEST_END
@@ -130,13 +144,23 @@ class Run:
         self.wrong += [f"end: {wrong}" for wrong in self.stage.end_replicas()]
         self.stage.delete_log()
         found = self.check()
-        return found + self.alarms(found)
-
-    def alarms(self, found: list[str]) -> list[str]:
-        """Sums differ only where the log changed under the replicas."""
-        has_alarm = any("DIFFERENT SUMS" in said for said in self.said.values())
         is_log_broken = any(line.startswith(LOG_RULE + ":") for line in found)
-        return ["sums: replicas told of DIFFERENT SUMS"] if has_alarm and not is_log_broken else []
+        return found if is_log_broken else found + list(self.alarms())
+
+    def alarms(self) -> Iterator[str]:
+        """What no replica may say unless the log changed under it."""
+        if any("DIFFERENT SUMS" in said for said in self.said.values()):
+            yield "sums: replicas told of DIFFERENT SUMS"
+        for name, said in self.said.items():
+            if report := re.search(r"(ERROR|WARNING): \w+Sanitizer.*|.*runtime error:.*|.*LeakSanitizer.*", said):
+                yield f"sanitizer: {name}: {report[0]}"
+        for status in self.statuses:
+            if status["lives"] > 1:
+                yield f"lives: {status['replica']} dropped its rows, and had no reason to"
+            if status["doubted"]:
+                yield f"sums: {status['replica']} is in doubt"
+        if not self.wrong and len(self.statuses) < len(REPLICAS):
+            yield f"liveness: only {len(self.statuses)} replicas say their status"
 
     def keep(self, folder: Path) -> None:
         self.history.write(folder / f"{self.schedule.seed}.history")
@@ -150,22 +174,23 @@ class Run:
 def lane(options: argparse.Namespace) -> None:
     """Runs the seeds that come as lines on standard input, and writes a line of JSON for each."""
     folder = Path(tempfile.mkdtemp(prefix="storm"))
-    stage = Stage(folder, programs_of(options, 0), make_network(options.loopback))
+    stage = Stage(folder, programs_of(options, "plain"), make_network(options.loopback))
     try:
         stage.start_servers()
         for line in sys.stdin:
-            run = Run(stage, schedule_of(int(line)), programs_of(options, int(line)))
+            schedule = schedule_of(int(line))
+            run = Run(stage, schedule, programs_of(options, schedule.build))
             print(json.dumps(run_one(run, options)), flush=True)
     finally:
         stage.close()
         shutil.rmtree(folder, ignore_errors=True)
 
 
-def programs_of(options: argparse.Namespace, seed: int) -> Programs:
-    refuse = None if str(options.refuse) == "-" else options.refuse.resolve()
-    is_forgetful = bool(options.forgetful and seed % 2)
-    folder = options.forgetful if is_forgetful else options.programs
-    return Programs(folder.resolve(), options.library.resolve(), refuse, FEW_IDS if is_forgetful else KEPT_IDS)
+def programs_of(options: argparse.Namespace, build: str) -> Programs:
+    build = options.only or build
+    refuse = None if build in SANITIZED else options.refuse.resolve()
+    kept_ids = FEW_IDS if build == "forgetful" else KEPT_IDS
+    return Programs((options.builds / build).resolve(), options.library.resolve(), refuse, kept_ids)
 
 
 def run_one(run: Run, options: argparse.Namespace) -> dict:
@@ -255,12 +280,12 @@ def seeds_in(word: str) -> range:
 
 def read_options() -> argparse.Namespace:
     parser = argparse.ArgumentParser(description=__doc__, formatter_class=argparse.RawDescriptionHelpFormatter)
-    for name in ("programs", "library", "refuse", "folder"):
+    for name in ("builds", "library", "refuse", "folder"):
         parser.add_argument(name, type=Path)
     parser.add_argument("seeds", type=seeds_in)
     parser.add_argument("--lanes", type=int, default=2)
     parser.add_argument("--for", dest="seconds", type=float, default=float("inf"))
-    parser.add_argument("--forgetful", type=Path)
+    parser.add_argument("--only", default="")
     for name in ("--keep-all", "--loopback", "--show", "--lane", "--verbose"):
         parser.add_argument(name, action="store_true")
     return parser.parse_args()

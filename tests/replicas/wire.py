@@ -11,8 +11,11 @@ from base64 import b64decode
 from typing import NamedTuple, Optional
 
 
+NO_RESPONDERS = "503"
+
+
 class Message(NamedTuple):
-    """A message, with the status of its header: "503" says that nobody listens to the subject of a request."""
+    """A message, with the status of its header: NO_RESPONDERS says that nobody listens to the subject of a request."""
 
     subject: str
     status: str
@@ -156,6 +159,26 @@ class Connection:
         except OSError as wrong:
             self.close()
             raise ConnectionError(str(wrong)) from wrong
+
+    def collect(self, subject: str, most: int, wait: float) -> list[Message]:
+        """The answers of all who listen to a subject: as many as that, or those that come in time."""
+        until = time.monotonic() + wait
+        answers: list[Message] = []
+        try:
+            if not self.socket:
+                self.connect(until)
+            self.requests += 1
+            inbox = f"{self.inbox}.{self.requests}"
+            self.publish(subject, b"", None, inbox)
+            while len(answers) < most:
+                message = self.message(until)
+                if message.subject == inbox and message.status != NO_RESPONDERS:
+                    answers.append(message)
+        except TimeoutError:
+            pass
+        except OSError:
+            self.close()
+        return answers
 
     def api(self, call: str, said: object = None, wait: float = 2.5) -> dict:
         """The answer of a call of JetStream. ConnectionError where it is refused, or nobody is there to answer."""
