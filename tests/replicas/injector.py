@@ -237,7 +237,8 @@ class Injector:
             headers["Mmdb-Checked"] = rng.choice(["", "0", "999999999 " + "0" * 32, "01 " + "0" * 32, "1 " + "a" * 31, "0 " + "A" * 32])
         if rng.random() < 0.2:
             headers["Mmdb-Format"] = rng.choice(["", "0", "1", "two", "-2"])
-        return bytes(body), headers
+        # libnats 3.4 reads the line after an empty header as its value, so an empty one is left out.
+        return bytes(body), {name: value for name, value in headers.items() if value}
 
     # The end.
 

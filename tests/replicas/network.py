@@ -10,6 +10,7 @@ import ctypes
 import fcntl
 import json
 import os
+import shutil
 import socket
 import struct
 import subprocess
@@ -29,6 +30,11 @@ Pair = tuple[str, str]
 def words_in_sandbox(words: list[str]) -> list[str]:
     """The words that run a program in a sandbox. Whoever is not root becomes root of a namespace of users."""
     return [*SANDBOX, *([] if os.geteuid() == 0 else USER), *words]
+
+
+def missing_programs() -> list[str]:
+    """The programs of a sandbox that are not installed."""
+    return [name for name in ("unshare", "nsenter", "ip", "mount", "umount") if not shutil.which(name)]
 
 
 def why_no_sandbox() -> str:

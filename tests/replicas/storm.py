@@ -34,7 +34,7 @@ from check import APPLIED, Checker
 from cluster import Failed
 from history import Change, Event, History
 from injector import Injector
-from network import why_no_sandbox, words_in_sandbox
+from network import missing_programs, why_no_sandbox, words_in_sandbox
 from replay import KEPT_IDS, Library, Replay
 from schedule import CLIENTS, DEFINITIONS, FEW_IDS, QUESTIONS_AT_END, REPLICAS, SANITIZED, WITNESS, Calls, Schedule, schedule_of
 from stage import Programs, Stage, make_network
@@ -299,14 +299,23 @@ def main() -> int:
     if options.lane:
         lane(options)
         return 0
-    refusal = "" if options.loopback else why_no_sandbox()
-    if refusal:
-        print(f"The kernel refuses network namespaces ({refusal}): the seeds run on loopback, with proxies that cut and delay.")
-        print("No packet is lost or reordered, no device is full, and no server is cut off from the others.")
+    if not options.loopback and not may_have_hosts():
         sys.argv.append("--loopback")
         options.loopback = True
     options.folder.mkdir(exist_ok=True)
     return Storm(options).run()
+
+
+def may_have_hosts() -> bool:
+    """Whether hosts can have network namespaces. Where the kernel refuses them, says so; under CI, a missing program is a failure."""
+    missing = missing_programs()
+    if missing and os.environ.get("CI"):
+        raise SystemExit(f"{', '.join(missing)} is not there")
+    refusal = f"{', '.join(missing)} is not there" if missing else why_no_sandbox()
+    if refusal:
+        print(f"No network namespaces ({refusal}): the seeds run on loopback, with proxies that cut and delay.")
+        print("No packet is lost or reordered, no device is full, and no server is cut off from the others.")
+    return not refusal
 
 
 if __name__ == "__main__":
