@@ -139,7 +139,8 @@ class Injector:
         """Ends a replica by SIGTERM, as an operator does."""
         for process in self.processes(self.hosts[place]):
             if process.running and not self.is_struck_elsewhere(place):
-                must(process.stop() == 0, f"{process.name} did not end well: {process.said()[-400:]}")
+                status = process.stop()
+                must(status == 0, f"{process.name} ended at SIGTERM with status {status}: {process.said()[-400:]}")
 
     end_end = end_kill
 
