@@ -4,6 +4,7 @@ import json
 import threading
 import time
 from base64 import b64decode
+from dataclasses import replace
 from typing import Callable, Optional
 
 from cluster import Asker, must
@@ -34,6 +35,11 @@ def answer_of(message: Message, end: float) -> Answer:
     )
 
 
+def headers_of(change: Change) -> dict[str, str]:
+    headers = {"Mmdb-Id": change.name, "Mmdb-Since": str(change.since)}
+    return {**headers, "Mmdb-Condition": "rows"} if change.has_condition else headers
+
+
 class Board:
     """What clients pass on to each other: the newest number that was answered, and whether the run is over."""
 
@@ -54,7 +60,7 @@ class Caller:
         self.host, self.client, self.log = host, client, log
         self.network, self.history, self.board = network, history, board
         self.connection = Connection(network.addresses(host))
-        self.number = self.count = 0
+        self.number, self.count = board.newest, 0
 
     def run(self, calls: Calls) -> None:
         self.network.enter(self.host)
@@ -66,7 +72,7 @@ class Caller:
 
     def make(self, call: Call) -> None:
         if call.script:
-            self.change(call.script, call.wait)
+            self.change(call.script, call.wait, call.has_condition)
             return
         demanded = max(self.number, self.board.newest if call.passed_on else 0)
         begin = time.monotonic()
@@ -97,11 +103,9 @@ class Caller:
     def change(self, script: str, wait: float, has_condition: bool = False) -> Change:
         """Sends a change until it is answered, each time with the same id."""
         self.count += 1
-        change = Change(self.client, f"{self.client}-{self.count}", script, time.monotonic(), has_condition)
+        change = Change(self.client, f"{self.client}-{self.count}", script, time.monotonic(), has_condition, self.number)
         self.history.add(change)
-        headers = {"Mmdb-Id": change.name, "Mmdb-Since": str(self.number)}
-        if has_condition:
-            headers["Mmdb-Condition"] = "rows"
+        headers = headers_of(change)
         while not self.is_hopeless():
             change.tries += 1
             answer = self.try_once(self.log + ".change", script.encode(), headers, wait)
@@ -134,10 +138,9 @@ class Caller:
 
     def send_again(self, change: Change) -> None:
         """Sends a change again that was answered, and records it as another call with the same id."""
-        again = Change(self.client, change.name, change.script, change.begin, change.has_condition, 1)
+        again = replace(change, client=self.client, answer=Answer())
         self.history.add(again)
-        headers = {"Mmdb-Id": change.name, **({"Mmdb-Condition": "rows"} if change.has_condition else {})}
-        answer = self.try_once(self.log + ".change", change.script.encode(), headers, 2.5)
+        answer = self.try_once(self.log + ".change", change.script.encode(), headers_of(change), 2.5)
         if answer:
             again.answer = answer
 
@@ -159,9 +162,10 @@ class ProgramCaller:
                 if call.question:
                     asked = Question(self.client, call.question, self.number, time.monotonic())
                     self.record(asked, call.question + "\n")
-                elif call.is_valid:
+                elif call.is_valid and not call.has_condition:
                     self.count += 1
-                    self.record(Change(self.client, f"{self.client}-{self.count}", call.script, time.monotonic(), False, 1), call.script)
+                    name = f"{self.client}-{self.count}"
+                    self.record(Change(self.client, name, call.script, time.monotonic(), False, self.number), call.script)
             must(self.asker.close() == 0, "mmdb-ask did not end well")
         finally:
             self.asker.kill()

@@ -33,6 +33,7 @@ class Change:
     script: str
     begin: float
     has_condition: bool = False
+    since: int = 0  # a number of the log before which the id was not sent
     tries: int = 0
     answer: Answer = field(default_factory=Answer)
     kind: str = "change"

@@ -143,6 +143,7 @@ class Call:
 
     script: str = ""
     is_valid: bool = True
+    has_condition: bool = False  # whether it is refused if an UPDATE or DELETE of it matches no row
     question: str = ""
     linearizable: bool = False
     passed_on: bool = False  # whether it demands the newest number of any client, not only its own
@@ -164,6 +165,7 @@ class Calls:
         if rng.random() < 0.45:
             call.is_valid = rng.random() >= 0.03
             call.script = self.script() if call.is_valid else rng.choice(NOT_VALID)
+            call.has_condition = rng.random() < 0.1
         else:
             call.question = self.question()
             call.passed_on = rng.random() < 0.5

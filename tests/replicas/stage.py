@@ -28,7 +28,10 @@ write_deadline: "2s"
 
 
 class Programs(NamedTuple):
-    """What is tested: the folder of mmdb-replica and mmdb-ask, libmmdb.so, the library of refuse.c, and how many ids replicas keep."""
+    """What is tested: the folder of mmdb-replica and mmdb-ask, libmmdb.so, the library of refuse.c, and how many ids replicas keep.
+
+    Programs with sanitizers take no other library before their own, so they have none of refuse.c and their clocks do not jump.
+    """
 
     folder: Path
     library: Path
@@ -166,7 +169,9 @@ class Stage:
         written.rename(self.clock_file(name))
 
     def environment(self, name: str, has_clock: bool, has_refusals: bool) -> dict[str, str]:
-        preloaded = [str(self.programs.refuse)] if has_refusals and self.programs.refuse else []
+        if not self.programs.refuse:
+            return {}
+        preloaded = [str(self.programs.refuse)] if has_refusals else []
         environment = {}
         if has_clock and library_of_clocks():
             self.set_clock(name, 0)

@@ -116,7 +116,8 @@ class Run:
 
     def send_again(self, caller: Caller) -> None:
         """Changes that were answered have the same answer when they are sent again, unless their ids are forgotten by now."""
-        answered = [one for one in self.history.records if isinstance(one, Change) and one.answer.status in APPLIED]
+        changes = [one for one in self.history.records if isinstance(one, Change)]
+        answered = [one for one in changes if one.answer.status in APPLIED]
         for change in answered[:: max(1, len(answered) // AGAIN)]:
             caller.send_again(change)
 
