@@ -1,15 +1,16 @@
 #!/usr/bin/env python3
 """Runs seeds: servers, replicas and clients on hosts of their own, with the faults that each seed decides, and checks each history.
 
-    storm.py BUILDS LIBRARY REFUSE FOLDER SEEDS [--lanes N] [--for SECONDS] [--only BUILD] [--keep-all] [--loopback] [--show]
+    storm.py BUILDS LIBRARY REFUSE FOLDER SEEDS [--lanes N] [--for SECONDS] [--only BUILD] [--until-found] [--keep-all]
+        [--loopback] [--show]
 
 BUILDS has a folder for each build of mmdb-replica and mmdb-ask, as `build` beside this file makes them; a seed decides which one it uses.
 LIBRARY is libmmdb.so, and REFUSE the library that refuse.c makes. SEEDS is FIRST-LAST or one number. Each lane has three servers of its
 own and runs one seed after another; with --for no seed begins after so many seconds. FOLDER gets the history of each seed with findings,
 and what its programs said: SEED.history and SEED.said; with --keep-all those of each seed.
 
---only lets all seeds use one build. --loopback runs without namespaces, with proxies in place of a network. --show prints what the seeds
-decide, and runs nothing.
+--only lets all seeds use one build. With --until-found no seed begins after one that found something. --loopback runs without namespaces,
+with proxies in place of a network. --show prints what the seeds decide, and runs nothing.
 
 A seed decides the faults, their times and the calls of each client. A real network and real processes do the rest, so a seed that found
 something may need some tries to find it again. The status is 0 only if nothing was found.
@@ -246,6 +247,8 @@ class Storm:
     def tell(self, told: dict) -> None:
         with self.lock:
             self.done.append(told)
+            if self.options.until_found and self.is_bad(told):
+                self.stops_at = 0.0
         for line in told["found"][:8]:
             print(f"seed {told['seed']}: {line}", flush=True)
         if self.options.verbose:
@@ -259,8 +262,12 @@ class Storm:
             one.join()
         return self.sum_up()
 
+    @staticmethod
+    def is_bad(told: dict) -> bool:
+        return any(not line.startswith(LOG_RULE + ":") for line in told["found"])
+
     def sum_up(self) -> int:
-        bad = [told["seed"] for told in self.done if any(not line.startswith(LOG_RULE + ":") for line in told["found"])]
+        bad = [told["seed"] for told in self.done if self.is_bad(told)]
         lost = [told["seed"] for told in self.done if any(line.startswith(LOG_RULE + ":") for line in told["found"])]
         seeds, heavy = len(self.done), sum(told.get("heavy", False) for told in self.done)
         judged, unjudged = (sum(told.get(key, 0) for told in self.done) for key in ("judged", "unjudged"))
@@ -287,7 +294,7 @@ def read_options() -> argparse.Namespace:
     parser.add_argument("--lanes", type=int, default=2)
     parser.add_argument("--for", dest="seconds", type=float, default=float("inf"))
     parser.add_argument("--only", default="")
-    for name in ("--keep-all", "--loopback", "--show", "--lane", "--verbose"):
+    for name in ("--until-found", "--keep-all", "--loopback", "--show", "--lane", "--verbose"):
         parser.add_argument(name, action="store_true")
     return parser.parse_args()
 

@@ -5,6 +5,7 @@
 #include "database.h"
 #include "snapshot.h"
 #include <stdint.h>
+#include <stdio.h>
 #include <stdlib.h>
 #include <string.h>
 

@@ -38,10 +38,10 @@ static void check_questions(struct database *database, struct text question) {
   struct bytes why = {NULL, 0, 0};
   struct digest before, after;
   struct text line;
-  if (check_question(question, &why) == VERDICT_GOOD && next_line(&question, &line)) {
-    MUST(database_sum(database, &before));
+  if (check_question(&database->db, question, &why) == VERDICT_GOOD && next_line(&question, &line)) {
+    MUST(database_sum(database, ALL_TABLES, &before));
     MUST(database_ask(database, line, 1024 * 1024) != ANSWER_MEMORY);
-    MUST(database_sum(database, &after) && is_same_digest(&before, &after));
+    MUST(database_sum(database, ALL_TABLES, &after) && is_same_digest(&before, &after));
   }
   bytes_free(&why);
 }
