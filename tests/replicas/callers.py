@@ -146,11 +146,15 @@ class Caller:
 
 
 class ProgramCaller:
-    """A client that is an mmdb-ask, which is held open and gets one script or question after another."""
+    """A client that is an mmdb-ask, which is held open and gets one script or question after another.
 
-    def __init__(self, host: str, client: str, stage: Stage, history: History, board: Board):
-        words = stage.ask_words(host, "--numbers", "--id", client, "--wait", str(LONGEST_WAIT_MS))
-        self.client, self.history, self.board = client, history, board
+    A linearizable one only asks: its empty changes take the ids that its scripts would have.
+    """
+
+    def __init__(self, host: str, client: str, stage: Stage, history: History, board: Board, is_linearizable: bool):
+        options = ["--numbers", "--id", client, "--wait", str(LONGEST_WAIT_MS), *(["--linearizable"] if is_linearizable else [])]
+        words = stage.ask_words(host, *options)
+        self.client, self.history, self.board, self.is_linearizable = client, history, board, is_linearizable
         self.asker = Asker(words)
         self.number = self.count = 0
 
@@ -160,9 +164,9 @@ class ProgramCaller:
                 call = calls.next()
                 self.board.is_over.wait(call.pause)
                 if call.question:
-                    asked = Question(self.client, call.question, self.number, time.monotonic())
+                    asked = Question(self.client, call.question, self.number, time.monotonic(), self.is_linearizable)
                     self.record(asked, call.question + "\n")
-                elif call.is_valid and not call.has_condition:
+                elif call.is_valid and not call.has_condition and not self.is_linearizable:
                     self.count += 1
                     name = f"{self.client}-{self.count}"
                     self.record(Change(self.client, name, call.script, time.monotonic(), False, self.number), call.script)

@@ -120,7 +120,7 @@ FAULTS = [
     ),
     Fault(
         "requests whose askers have gone are worked off",
-        [Edit("requests.c", "if (event->until < clock_now()) {", "if (!event->message) {")],
+        [Edit("answers.c", "return clock_now() + (int64_t)(wait <", "return INT64_MAX / 2 + (int64_t)(wait <")],
         "dead_requests",
     ),
     Fault(
@@ -159,7 +159,7 @@ FAULTS = [
     ),
     Fault(
         "the second try of a change is applied again",
-        [Edit("database.c", "|| recents_find(&database->recents, entry->id)", "|| (number % 2 && recents_find(&database->recents, entry->id))")],
+        [Edit("database.c", "|| recents_find(&database->recents", "|| number % 2 && recents_find(&database->recents")],
     ),
     Fault(
         "a snapshot lacks the ids",

@@ -40,7 +40,7 @@ from replay import KEPT_IDS, Library, Replay
 from schedule import CLIENTS, DEFINITIONS, FEW_IDS, QUESTIONS_AT_END, REPLICAS, SANITIZED, WITNESS, Calls, Schedule, schedule_of
 from stage import Programs, Stage, make_network
 
-CALLERS, ASKERS = 4, 1
+CALLERS, ASKERS = 4, 2
 AGAIN = 8  # changes that are sent again at the end
 LONGEST_START, LONGEST_RECOVERY, LONGEST_END = 60.0, 60.0, 40.0  # seconds
 LOG_RULE = "log"  # the rule that NATS may break, and replicas cannot
@@ -83,7 +83,8 @@ class Run:
             caller = self.caller(CLIENTS[place % len(CLIENTS)], client)
             work.append(partial(caller.run, Calls(self.schedule.seed, client)))
         for place in range(ASKERS):
-            asker = ProgramCaller(CLIENTS[place % len(CLIENTS)], f"a{place}", self.stage, self.history, self.board)
+            host = CLIENTS[place % len(CLIENTS)]
+            asker = ProgramCaller(host, f"a{place}", self.stage, self.history, self.board, is_linearizable=place == 1)
             work.append(partial(asker.run, Calls(self.schedule.seed, f"a{place}")))
         threads = [threading.Thread(target=guarded(one, self.wrong, self.board), daemon=True) for one in work]
         for thread in threads:
