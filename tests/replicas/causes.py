@@ -8,6 +8,7 @@ README.md beside this file says which cause each test finds.
 """
 
 import json
+import os
 import re
 import resource
 import shutil
@@ -223,16 +224,30 @@ def bad_snapshot_is_no_base(case: Case) -> None:
 
 def slow_load(case: Case) -> None:
     """A snapshot that takes longer to load than --lost-after is loaded once, while changes go on."""
-    case.replica("a", *case.snapshots, "--lost-after", "60000")
+    case.replica("a", *case.snapshots)
     case.table()
-    case.rows("t", 60000)
+    case.rows("t", 2000)
     case.request(".snapshot.a", b"")
     case.wait_until(case.snapshot_files, "no snapshot was written on demand")
+    snapshot, folder = case.snapshot_files()[-1], case.folder / "slow"
+    folder.mkdir()
+    os.mkfifo(folder / snapshot.name)
+    in_background(lambda: write_slowly(folder / snapshot.name, snapshot.read_bytes(), 4.0))
     over = threading.Event()
     in_background(lambda: write_until(case, over))
-    case.replica("b", *case.snapshots, "--lost-after", "50")
+    case.replica("b", "--snapshots", str(folder), "--lost-after", "1500")
     over.set()
     case.must_live_once("b")
+    must("is loaded" in case.cluster.replicas["b"].said(), "the snapshot was not loaded")
+
+
+def write_slowly(path: Path, data: bytes, seconds: float, pieces: int = 40) -> None:
+    """Writes a file as a slow device gives it."""
+    size = len(data) // pieces + 1
+    with open(path, "wb", buffering=0) as file:
+        for at in range(0, len(data), size):
+            file.write(data[at : at + size])
+            time.sleep(seconds / pieces)
 
 
 def write_until(case: Case, over: threading.Event, row: int = 1) -> None:
