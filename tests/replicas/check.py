@@ -12,7 +12,8 @@ The rules:
 - once: no change is applied twice, and a change that was sent many times has the number where it was applied.
 - invalid: what was answered `invalid` is not in the log.
 - state: an answer at a number is that of the library after the messages up to that number.
-- chain: the chain hash of an answer is that of the log at its number, and so is each chain hash in the log itself.
+- chain: the chain hash of an answer is that of the log at its number, and so is each chain hash in the log itself. Two answers with one
+  chain hash are the same, also where the log itself changed.
 - demanded: no answer has a number below the one that its client demanded.
 - order: a change that began after another call was answered has a higher number than that call.
 - linearizable: a linearizable question has at least the number of each call that was answered before it began.
@@ -189,10 +190,19 @@ class Checker:
 
     # Chains.
 
+    def check_same_chains(self) -> None:
+        """An answer is a function of its question and its chain hash."""
+        answers: dict[tuple[str, str], Question] = {}
+        for one in self.questions:
+            if has_ended(one) and one.answer.chain and one.answer.chain_number == one.answer.number:
+                first = answers.setdefault((one.answer.chain, one.question), one)
+                if first.answer.replies != one.answer.replies:
+                    self.find("chain", f"{first.answer.replica} and {one.answer.replica} answered {name_of(one)} in two ways")
+
     def check_chains(self) -> None:
         identities = {call.answer.log for call in self.calls() if call.answer.log}
-        if len(identities) > 1:
-            self.find("chain", f"answers name the logs {', '.join(sorted(identities))}")
+        if len(identities) != 1:
+            self.find("chain", f"answers name {len(identities)} logs: {', '.join(sorted(identities))}")
         if len(identities) != 1 or 1 not in self.log:
             return
         chains = self.chains(identities.pop())
@@ -247,6 +257,7 @@ class Checker:
     def check(self) -> list[Finding]:
         self.check_changes(self.check_states())
         self.check_chains()
+        self.check_same_chains()
         self.check_order()
         self.check_demanded()
         return self.findings

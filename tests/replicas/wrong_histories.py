@@ -192,6 +192,22 @@ def other_chain_in_message(writer: Writer) -> None:
     message.headers["Mmdb-Checked"] = logged(writer.records, 8, "witness").headers["Mmdb-Checked"] = "7 " + "0" * 32
 
 
+def two_answers(writer: Writer) -> None:
+    """Two replicas differ at a number that the log lost."""
+    for place in (2, 3):
+        questions(writer.records)[place].answer.chain = "f" * 32
+    questions(writer.records)[3].answer.replies = "(9)\nrows 1\n"
+    questions(writer.records)[2].question = questions(writer.records)[3].question
+    changed_log(writer)
+    writer.records.append(Event(writer.tick(), SERVER_FAULT + "kill s0"))
+
+
+def no_log(writer: Writer) -> None:
+    calls: list[Change | Question] = [*changes(writer.records), *questions(writer.records)]
+    for one in calls:
+        one.answer.log = ""
+
+
 def two_logs(writer: Writer) -> None:
     questions(writer.records)[0].answer.log = "fedcba9876543210"
 
@@ -225,6 +241,8 @@ WRONG: list[tuple[Callable[[Writer], None], str]] = [
     (linearizable_before_a_change, "order"),
     (other_chain, "chain"),
     (other_chain_in_message, "chain"),
+    (two_answers, "chain"),
+    (no_log, "chain"),
     (two_logs, "chain"),
     (changed_log, "log"),
     (hole_in_log, "log"),
