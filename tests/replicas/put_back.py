@@ -139,7 +139,7 @@ FAULTS = [
     ),
     Fault(
         "a condition that is not met refuses nothing",
-        [Edit("database.c", "return has_to && !mmdb_count(&database->db);", "return has_to && mmdb_count(&database->db) > 1000;")],
+        [Edit("database.c", "else if (has_to_match && !mmdb_count(&database->db))", "else if (has_to_match && mmdb_count(&database->db) > 99)")],
         "conditions",
     ),
     Fault(
@@ -231,10 +231,9 @@ def found_by(prefix: Path, fault: Fault) -> str:
 
 def main() -> int:
     prefix, names = Path(sys.argv[1]).resolve(), sys.argv[2:]
+    chosen = [fault for fault in FAULTS if not names or any(name in fault.name for name in names)]
     missed = 0
-    for fault in FAULTS:
-        if names and not any(name in fault.name for name in names):
-            continue
+    for fault in chosen:
         began = time.monotonic()
         try:
             found = found_by(prefix, fault)
@@ -243,7 +242,7 @@ def main() -> int:
             print(f"{fault.name}: {wrong}")
         missed += not found
         print(f"{fault.name}: {'found by ' + found[:160] if found else 'NOT FOUND'} ({time.monotonic() - began:.0f} s)", flush=True)
-    return 1 if missed else 0
+    return 1 if missed or not chosen else 0
 
 
 if __name__ == "__main__":
