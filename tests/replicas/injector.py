@@ -113,6 +113,8 @@ class Injector:
             if process.running:
                 process.running.send_signal(signal.SIGCONT)
 
+    end_stop_most = end_stop
+
     def begin_kill(self, place: int, fault: Fault) -> None:
         for process in self.processes(self.hosts[place]):
             self.no_crash(process)
@@ -127,11 +129,19 @@ class Injector:
         self.hosts[place] = list(REPLICAS)
         self.begin_kill(place, fault)
 
-    def begin_kill_most(self, place: int, fault: Fault) -> None:
+    def strike_most(self, place: int) -> None:
+        """Chooses the server that leads the log, and another one."""
         leader = self.stage.leader()
         self.hosts[place] = [leader, *(server for server in SERVERS if server != leader)][:2]
         self.tell(SERVER_FAULT + " ".join(self.hosts[place]))
+
+    def begin_kill_most(self, place: int, fault: Fault) -> None:
+        self.strike_most(place)
         self.begin_kill(place, fault)
+
+    def begin_stop_most(self, place: int, fault: Fault) -> None:
+        self.strike_most(place)
+        self.begin_stop(place, fault)
 
     end_kill_all_replicas = end_kill_most = end_kill
 

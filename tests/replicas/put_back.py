@@ -139,7 +139,7 @@ FAULTS = [
     ),
     Fault(
         "a condition that is not met refuses nothing",
-        [Edit("database.c", "else if (has_to_match && !mmdb_count(&database->db))", "else if (has_to_match && mmdb_count(&database->db) > 99)")],
+        [Edit("database.c", "else if (has_to_match && !mmdb_count(", "else if (has_to_match && 99 < mmdb_count(")],
         "conditions",
     ),
     Fault(

@@ -14,8 +14,8 @@ HOSTS = [*SERVERS, *REPLICAS, *CLIENTS, WITNESS]
 
 # Faults of hosts and links that leave most servers and their leader alone, and those that do not.
 LIGHT = ["cut", "cut-one-way", "slow", "lossy", "stop", "kill", "end", "clock", "memory", "no-room-for-snapshots", "bad-snapshot", "junk"]
-HEAVY = ["cut", "cut-one-way", "slow", "stop", "kill", "kill-all-replicas", "lose-files", "full", "split", "kill-most"]
-OF_SERVERS = ["kill", "stop", "cut", "cut-one-way", "lose-files", "full", "kill-most", "split"]
+HEAVY = ["cut", "cut-one-way", "slow", "stop", "kill", "kill-all-replicas", "lose-files", "full", "split", "kill-most", "stop-most"]
+OF_SERVERS = ["kill", "stop", "cut", "cut-one-way", "lose-files", "full", "kill-most", "stop-most", "split"]
 HEAVY_OF = 3  # one seed of so many has heavy faults
 
 # The builds of the programs. A forgetful one keeps 64 ids in place of 65,536, so a run is long enough to forget some.

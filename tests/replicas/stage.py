@@ -7,7 +7,7 @@ import time
 from pathlib import Path
 from typing import NamedTuple, Optional
 
-from cluster import Failed, Process, must
+from cluster import Failed, Process
 from network import Loopback, Namespaces, Network
 from schedule import HOSTS, REPLICAS, SERVERS, WITNESS, Schedule
 from wire import Connection, patient
@@ -42,6 +42,10 @@ class Programs(NamedTuple):
 def library_of_clocks() -> Optional[Path]:
     path = Path(FAKETIME.format(os.uname().machine))
     return path if path.exists() else None
+
+
+class Unrecovered(Failed):
+    """The servers do not come back, whatever the replicas do."""
 
 
 class Stage:
@@ -137,7 +141,8 @@ class Stage:
                     return
             except (OSError, KeyError):
                 self.admin.close()
-            must(time.monotonic() < until, "the servers did not agree on the log again")
+            if time.monotonic() > until:
+                raise Unrecovered("the servers did not agree on the log again")
             time.sleep(0.1)
 
     def ask_words(self, host: str, *options: str) -> list[str]:
@@ -148,7 +153,8 @@ class Stage:
     def make_log(self, log: str, until: float) -> None:
         self.log = log
         while subprocess.run(self.ask_words(WITNESS, "--make-log", "3"), stderr=subprocess.DEVNULL, timeout=30).returncode:
-            must(time.monotonic() < until, "the servers did not make a log")
+            if time.monotonic() > until:
+                raise Unrecovered("the servers did not make a log")
             time.sleep(0.1)
 
     def delete_log(self) -> None:

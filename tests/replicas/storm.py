@@ -38,7 +38,7 @@ from injector import Injector
 from network import missing_programs, why_no_sandbox, words_in_sandbox
 from replay import KEPT_IDS, Library, Replay
 from schedule import CLIENTS, DEFINITIONS, FEW_IDS, QUESTIONS_AT_END, REPLICAS, SANITIZED, WITNESS, Calls, Schedule, schedule_of
-from stage import Programs, Stage, make_network
+from stage import Programs, Stage, Unrecovered, make_network
 
 CALLERS, ASKERS = 4, 2
 AGAIN = 8  # changes that are sent again at the end
@@ -141,6 +141,8 @@ class Run:
             self.begin()
             self.storm()
             self.end()
+        except Unrecovered as failure:
+            self.wrong.append(f"{LOG_RULE}: {failure}")
         except (Failed, OSError) as failure:
             self.wrong.append(f"run: {type(failure).__name__}: {failure}")
         self.said = {name: replica.said() for name, replica in self.stage.replicas.items()}
@@ -202,7 +204,7 @@ def run_one(run: Run, options: argparse.Namespace) -> dict:
     found = run.run()
     if found or options.keep_all:
         run.keep(options.folder)
-    if any(line.startswith(("run:", "liveness:")) for line in found):
+    if any(line.startswith(("run:", "liveness:", LOG_RULE + ":")) for line in found):
         run.stage.restart_servers()
     assert run.checker
     told = {"seed": run.schedule.seed, "found": found, "seconds": time.monotonic() - began, "heavy": run.schedule.is_heavy}
@@ -276,7 +278,7 @@ class Storm:
         print(f"{seeds} seeds, {heavy} of them with faults of servers: {judged} answers were judged; the logs have {messages} messages")
         print(f"{refused} times nobody could answer; {unjudged} answers were not judged, as the log itself had changed")
         if lost:
-            print(f"NATS lost or changed messages that it had acknowledged with the seeds {' '.join(map(str, sorted(lost)))}")
+            print(f"NATS lost or changed messages, or did not recover, with the seeds {' '.join(map(str, sorted(lost)))}")
         if bad:
             print(f"the replicas are wrong with the seeds {' '.join(map(str, sorted(bad)))}; see {self.options.folder}")
         return 1 if bad or not judged else 0
