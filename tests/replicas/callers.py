@@ -10,6 +10,7 @@ from typing import Callable, Optional
 from cluster import Asker, must
 from history import Answer, Change, History, Logged, Question, text_of
 from network import Network
+from replay import KEPT_IDS
 from schedule import WITNESS, Call, Calls
 from stage import Stage
 from wire import Connection, Message, headers_in
@@ -148,13 +149,15 @@ class Caller:
 class ProgramCaller:
     """A client that is an mmdb-ask, which is held open and gets one script or question after another.
 
-    A linearizable one only asks: its empty changes take the ids that its scripts would have.
+    A linearizable one only asks, and so does one whose replicas forget ids within seconds: an id that the caller of mmdb-ask chose is sent
+    without the number before which it was new.
     """
 
     def __init__(self, host: str, client: str, stage: Stage, history: History, board: Board, is_linearizable: bool):
-        options = ["--numbers", "--id", client, "--wait", str(LONGEST_WAIT_MS), *(["--linearizable"] if is_linearizable else [])]
-        words = stage.ask_words(host, *options)
         self.client, self.history, self.board, self.is_linearizable = client, history, board, is_linearizable
+        self.only_asks = is_linearizable or stage.programs.kept_ids < KEPT_IDS
+        options = ["--linearizable"] if is_linearizable else [] if self.only_asks else ["--id", client]
+        words = stage.ask_words(host, "--numbers", "--wait", str(LONGEST_WAIT_MS), *options)
         self.asker = Asker(words)
         self.number = self.count = 0
 
@@ -166,7 +169,7 @@ class ProgramCaller:
                 if call.question:
                     asked = Question(self.client, call.question, self.number, time.monotonic(), self.is_linearizable)
                     self.record(asked, call.question + "\n")
-                elif call.is_valid and not call.has_condition and not self.is_linearizable:
+                elif call.is_valid and not call.has_condition and not self.only_asks:
                     self.count += 1
                     name = f"{self.client}-{self.count}"
                     self.record(Change(self.client, name, call.script, time.monotonic(), False, self.number), call.script)

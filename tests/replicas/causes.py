@@ -416,7 +416,9 @@ def blocked_server(case: Case) -> None:
     case.rows("t", 20000)
     flood = Connection(case.cluster.addresses[1:])
     flood.connect(time.monotonic() + 5)
-    flood.send(b"SUB _INBOX.x 9\r\n" + f"PUB {LOG}.ask.a _INBOX.x 6\r\nSCAN t\r\n".encode() * 2000)
+    flood.send(b"SUB _INBOX.x 9\r\n")
+    for _ in range(2000):
+        flood.publish(LOG + ".ask.a", b"SCAN t", {"Mmdb-Wait": "30000"}, "_INBOX.x")
 
     def swallow() -> None:
         assert flood.socket
@@ -430,7 +432,7 @@ def blocked_server(case: Case) -> None:
     in_background(swallow)
     time.sleep(0.3)
     case.cluster.servers[0].send(signal.SIGSTOP)  # the first address of the replica
-    time.sleep(6)
+    time.sleep(8)
     must(replica.stop() == 0, "the replica did not end well")
     case.cluster.servers[0].send(signal.SIGCONT)
 

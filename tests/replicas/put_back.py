@@ -100,7 +100,10 @@ FAULTS = [
     ),
     Fault(
         "a snapshot of a lost end of the log is loaded",
-        [Edit("life.c", "number, &head->before, &head->chain) == SAID_YES;", "number, &head->before, &head->chain) != SAID_NOTHING;")],
+        [
+            Edit("life.c", "number, &head->before, &head->chain) == SAID_YES;", "number, &head->before, &head->chain) != SAID_NOTHING;"),
+            Edit("life.c", "if (!is_same_digest(own, &chain)) on_other_history", "if (!own) on_other_history"),
+        ],
         "lost_end",
     ),
     Fault(

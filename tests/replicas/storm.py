@@ -82,7 +82,7 @@ class Run:
             client = f"k{place}"
             caller = self.caller(CLIENTS[place % len(CLIENTS)], client)
             work.append(partial(caller.run, Calls(self.schedule.seed, client)))
-        for place in range(ASKERS):
+        for place in range(ASKERS if self.stage.programs.kept_ids == KEPT_IDS else 1):
             host = CLIENTS[place % len(CLIENTS)]
             asker = ProgramCaller(host, f"a{place}", self.stage, self.history, self.board, is_linearizable=place == 1)
             work.append(partial(asker.run, Calls(self.schedule.seed, f"a{place}")))
