@@ -178,6 +178,18 @@ FAULTS = [
         "limited_memory",
     ),
     Fault(
+        "a linearizable question of mmdb-ask sees what its replica has",
+        [Edit("mmdb-ask.c", "asker->is_linearizable && !reach_end(asker)", "asker->is_linearizable && asker->loads")],
+    ),
+    Fault(
+        "messages are freed after libnats is closed",
+        [
+            Edit("mmdb-replica.c", "  queue_close(&replica.queue);\n", ""),
+            Edit("mmdb-replica.c", '  tell(&replica, "ends");\n', '  queue_close(&replica.queue);\n  tell(&replica, "ends");\n'),
+        ],
+        seeds="1-80",
+    ),
+    Fault(
         "the last message of a log is taken twice after a new start",
         [
             Edit("life.c", "database.applied + 1, identity)) return;", "database.applied + !replica->begun_at, identity)) return;"),
