@@ -175,7 +175,7 @@ FAULTS = [
     Fault(
         "memory that is short in a script leaves half of it",
         [Edit("database.c", "return roll_back(database) ? APPLY_MEMORY : APPLY_BROKEN;", "continue;")],
-        "limited_memory",
+        seeds="1-80",
     ),
     Fault(
         "a linearizable question of mmdb-ask sees what its replica has",

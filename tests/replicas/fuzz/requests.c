@@ -38,9 +38,10 @@ static void check_questions(struct database *database, struct text question) {
   struct bytes why = {NULL, 0, 0};
   struct digest before, after;
   struct text line;
+  char columns[COLUMNS_BYTES];
   if (check_question(&database->db, question, &why) == VERDICT_GOOD && next_line(&question, &line)) {
     MUST(database_sum(database, ALL_TABLES, &before));
-    MUST(database_ask(database, line, 1024 * 1024) != ANSWER_MEMORY);
+    MUST(database_ask(database, line, 1024 * 1024, columns) != ANSWER_MEMORY);
     MUST(database_sum(database, ALL_TABLES, &after) && is_same_digest(&before, &after));
   }
   bytes_free(&why);
@@ -61,6 +62,14 @@ static void check_headers(const char *text) {
   if (is_id(text)) MUST(strlen(text) <= MOST_ID_BYTES);
   if (is_plain_name(text)) MUST(strlen(text) <= MOST_LOG_NAME_BYTES);
   natsMsg_Destroy(message);
+}
+
+/* libnats frees messages by a collector, which it makes when it is opened. */
+int LLVMFuzzerInitialize(int *count, char ***words);
+int LLVMFuzzerInitialize(int *count, char ***words) {
+  (void)count, (void)words;
+  MUST(nats_Open(-1) == NATS_OK);
+  return 0;
 }
 
 int LLVMFuzzerTestOneInput(const uint8_t *data, size_t size) {
