@@ -411,7 +411,8 @@ def different_sums(case: Case) -> None:
 
 def blocked_server(case: Case) -> None:
     """A replica whose server is held up in the middle of answers goes to another one, and ends at SIGTERM."""
-    replica = case.replica("a", "--sum-every", "0", "--lost-after", "3000")
+    first = "nats://{}:{}".format(*case.cluster.addresses[0])  # libnats chooses among several, and learns the others from the first
+    replica = case.replica("a", "--sum-every", "0", "--lost-after", "3000", "--servers", first)
     case.table()
     case.rows("t", 20000)
     flood = Connection(case.cluster.addresses[1:])
@@ -431,7 +432,7 @@ def blocked_server(case: Case) -> None:
 
     in_background(swallow)
     time.sleep(0.3)
-    case.cluster.servers[0].send(signal.SIGSTOP)  # the first address of the replica
+    case.cluster.servers[0].send(signal.SIGSTOP)
     time.sleep(8)
     must(replica.stop() == 0, "the replica did not end well")
     case.cluster.servers[0].send(signal.SIGCONT)
