@@ -7,7 +7,8 @@ LIBRARY is libmmdb.so, and HISTORY is a file that storm.py wrote. KEPT is the nu
 The rules:
 
 - log: a message of the log never changes, no number is left out, and each acknowledged change is in it. If servers failed, NATS may have
-  broken this rule, and answers from the first broken number on are not held against the replicas.
+  broken this rule, and answers from the first broken number on are not held against the replicas. A replica with another chain hash than
+  the log counts as such a case then: the log passed on a message that it lost. If no server failed, it breaks the rule `chain`.
 - acknowledged: a change that was answered is in the log, and had the outcome and the replies of its answer.
 - once: no change is applied twice, and a change that was sent many times has the number where it was applied.
 - invalid: what was answered `invalid` is not in the log.
@@ -98,7 +99,7 @@ class Checker:
         """The first number at which the log does not have what it had."""
         broken = [*self.changed_messages(), *self.missing_messages()]
         if not self.trusts_log:
-            broken += self.lost_changes()
+            broken += [*self.lost_changes(), *self.lost_histories(min(broken, default=self.last + 1))]
         return min(broken, default=None)
 
     def changed_messages(self) -> Iterator[int]:
@@ -119,6 +120,29 @@ class Checker:
             if change.answer.status in APPLIED and change.name not in self.names:
                 self.find("log", f"{change.name} was acknowledged at number {change.answer.number}, and the log does not have it")
                 yield change.answer.number
+
+    def lost_histories(self, until: int) -> Iterator[int]:
+        """The first numbers at which replicas had messages that the log does not have: it passed them on and lost them."""
+        points = self.chain_points()
+        identities = {call.answer.log for call in self.calls() if call.answer.log}
+        if len(identities) != 1 or 1 not in self.log:
+            return
+        chains = self.chains(identities.pop(), until)
+        for replica, number, chain in points:
+            if number in chains and chains[number] != chain:
+                same = [place for name, place, own in points if name == replica and place < number and chains.get(place) == own]
+                self.find("log", f"{replica} had another message at a number from {max(same, default=0) + 1} to {number}")
+                yield max(same, default=0) + 1
+
+    def chain_points(self) -> list[tuple[str, int, str]]:
+        """The chain hashes that replicas had, as their answers and their messages say: the replica, the number, and the hash."""
+        answers = [call.answer for call in self.calls() if call.answer.chain]
+        points = [(answer.replica, answer.chain_number, answer.chain) for answer in answers]
+        for message in self.log.values():
+            checked, publisher = checked_in(message), message.headers.get("Mmdb-Replica", JUNK)
+            if checked and publisher != JUNK:
+                points.append((publisher, *checked))
+        return points
 
     def is_judged(self, call: Call) -> bool:
         """Whether the log before the number of an answer is the one that the replica had. Counts the answer."""
@@ -205,7 +229,7 @@ class Checker:
             self.find("chain", f"answers name {len(identities)} logs: {', '.join(sorted(identities))}")
         if len(identities) != 1 or 1 not in self.log:
             return
-        chains = self.chains(identities.pop())
+        chains = self.chains(identities.pop(), self.broken_at or self.last + 1)
         for call in self.calls():
             self.check_chain(chains, call.answer.chain_number, call.answer.chain, f"an answer of {call.answer.replica}")
         for message in self.log.values():
@@ -213,10 +237,10 @@ class Checker:
             if checked and entries_of(message):
                 self.check_chain(chains, *checked, f"message {message.number} of {message.headers['Mmdb-Replica']}")
 
-    def chains(self, identity: str) -> dict[int, str]:
-        """The chain hash of the log at each number before the first one that is broken."""
+    def chains(self, identity: str, until: int) -> dict[int, str]:
+        """The chain hash of the log at each number before another one."""
         chains = {0: chain_begin(identity)}
-        for number in range(1, min(self.last + 1, self.broken_at or self.last + 1)):
+        for number in range(1, min(self.last + 1, until)):
             chains[number] = chain_after(chains[number - 1], self.log[number])
         return chains
 

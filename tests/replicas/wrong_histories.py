@@ -202,6 +202,12 @@ def two_answers(writer: Writer) -> None:
     writer.records.append(Event(writer.tick(), SERVER_FAULT + "kill s0"))
 
 
+def other_history(writer: Writer) -> None:
+    """A replica applied a message that the servers passed on and lost."""
+    other_chain(writer)
+    writer.records.append(Event(writer.tick(), SERVER_FAULT + "kill s0"))
+
+
 def no_log(writer: Writer) -> None:
     calls: list[Change | Question] = [*changes(writer.records), *questions(writer.records)]
     for one in calls:
@@ -242,6 +248,7 @@ WRONG: list[tuple[Callable[[Writer], None], str]] = [
     (other_chain, "chain"),
     (other_chain_in_message, "chain"),
     (two_answers, "chain"),
+    (other_history, "log"),
     (no_log, "chain"),
     (two_logs, "chain"),
     (changed_log, "log"),
