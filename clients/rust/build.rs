@@ -24,13 +24,13 @@ fn main() {
     if env::var_os("DOCS_RS").is_some() {
         return;
     }
-    let is_static = env::var("MMDB_STATIC").is_ok_and(|value| value == "1");
+    let is_static = env::var("MMDB_STATIC").as_deref() == Ok("1");
     let file = if is_static { "libmmdb.a" } else { "libmmdb.so" };
     let folders = folders();
-    let Some(folder) = folders.iter().find(|folder| folder.join(file).is_file()) else {
-        eprintln!("The library of mmdb was not found: {file} is in none of {folders:?}.\n{HELP}");
+    let folder = folders.iter().find(|folder| folder.join(file).is_file()).unwrap_or_else(|| {
+        eprintln!("libmmdb was not found: {file} is in none of {folders:?}.\n{HELP}");
         exit(1);
-    };
+    });
     println!("cargo:rerun-if-changed={}", folder.join(file).display());
     println!("cargo:rustc-link-search=native={}", folder.display());
     println!("cargo:rustc-link-lib={}=mmdb", if is_static { "static" } else { "dylib" });

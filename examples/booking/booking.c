@@ -1,6 +1,6 @@
 /* Books seats for events. The database lives in this program, and a standing query has the free seats at any time.
 
-   What it prints is in booking.out. booking.py and booking.rs do the same in Python and in Rust. */
+   booking.out has the output. booking.py and booking.rs do the same in Python and in Rust. */
 #include <mmdb.h>
 #include <stdarg.h>
 #include <stdio.h>
@@ -35,23 +35,27 @@ typedef struct { mmdb db; size_t statements[STATEMENTS]; } service;
 
 static mmdb_cell number(int64_t number) { return (mmdb_cell){.kind = MMDB_NUMBER, .number = number}; }
 
-/* A text of at most 64 bytes. */
-static mmdb_cell text(const char *from) {
-  mmdb_cell value = {.kind = MMDB_STRING, .len = (uint8_t)strlen(from)};
-  memcpy(value.text, from, value.len);
-  return value;
-}
-
-/* Ends the program where a call is refused that should not be. */
+/* Ends the program if a call fails that should not. */
 static void must(uint8_t status, const char *line) {
   if (status < MMDB_LINE_TOO_LONG) return;
   fprintf(stderr, "%s: error %d\n", line, status);
   exit(1);
 }
 
+/* Returns whether a cell can hold a text: whether it has at most MMDB_TEXT_BYTES bytes. */
+static bool fits(const char *from) { return strlen(from) <= MMDB_TEXT_BYTES; }
+
+/* Ends the program if the text does not fit. A caller checks a text that comes from outside. */
+static mmdb_cell text(const char *from) {
+  must(fits(from) ? MMDB_DONE : MMDB_TEXT_TOO_LONG, from);
+  mmdb_cell value = {.kind = MMDB_STRING, .len = (uint8_t)strlen(from)};
+  memcpy(value.text, from, value.len);
+  return value;
+}
+
 static void execute(service *s, const char *line) { must(mmdb_execute(&s->db, (const uint8_t *)line, strlen(line)), line); }
 
-/* Runs a statement with values that are written behind it. */
+/* Runs a statement with the values that follow it. */
 #define RUN(s, statement, ...) \
   mmdb_run(&(s)->db, (s)->statements[statement], (mmdb_cell[]){__VA_ARGS__}, sizeof((mmdb_cell[]){__VA_ARGS__}) / sizeof(mmdb_cell))
 #define MUST_RUN(s, statement, ...) must(RUN(s, statement, __VA_ARGS__), LINES[statement])
@@ -70,15 +74,16 @@ static void open_service(service *s) {
   must(mmdb_run_many(&s->db, s->statements[ADD_SEAT], seats, sizeof seats / sizeof *seats, 3, &runs), LINES[ADD_SEAT]);
 }
 
-/* Books a seat inside a transaction: MMDB_DONE, MMDB_NOTHING where it is taken, or a refusal. */
+/* Books a seat inside a transaction. Returns MMDB_DONE, MMDB_NOTHING if the seat is taken, or a refusal. */
 static uint8_t book_seat(service *s, int64_t booking, int64_t seat, const char *guest) {
+  if (!fits(guest)) return MMDB_TEXT_TOO_LONG;
   MUST_RUN(s, TAKE_SEAT, number(seat));
   if (mmdb_count(&s->db) != 1) return MMDB_NOTHING;
   uint8_t status = RUN(s, ADD_BOOKING, number(booking), number(seat), text(guest));
   return status == MMDB_COUNT ? MMDB_DONE : status;
 }
 
-/* Books all these seats under numbers from booking on, or none of them. Tells what became of it, until the next call. */
+/* Books all these seats under numbers from booking on, or none of them. Returns the outcome in words, which are valid until the next call. */
 static const char *book(service *s, int64_t booking, const int64_t *seats, int count, const char *guest) {
   static char refused[16];
   uint8_t status = MMDB_DONE;
@@ -89,22 +94,24 @@ static const char *book(service *s, int64_t booking, const int64_t *seats, int c
   return status == MMDB_DONE ? "booked" : status == MMDB_NOTHING ? "taken" : refused;
 }
 
-/* Books those of the seats that are free, and tells how many they are. */
+/* Books those of the seats that are free, and returns their number. A transaction has at most 64 savepoints at a time, so each is released. */
 static int book_group(service *s, int64_t booking, const int64_t *seats, int count, const char *guest) {
   int booked = 0;
   execute(s, "BEGIN");
   for (int i = 0; i < count; i++) {
+    static const char name[] = "before_seat";
     execute(s, "SAVEPOINT before_seat");
     uint8_t status = book_seat(s, booking + booked, seats[i], guest);
     must(status, LINES[ADD_BOOKING]);
     if (status == MMDB_DONE) booked++;
     else execute(s, "ROLLBACK TO before_seat");
+    must(mmdb_release(&s->db, (const uint8_t *)name, sizeof name - 1), "release");
   }
   execute(s, "COMMIT");
   return booked;
 }
 
-/* Takes a booking back. Its seat is free again. */
+/* Cancels a booking. Its seat is free again. */
 static void cancel(service *s, int64_t booking) {
   mmdb_cell seat;
   execute(s, "BEGIN");
@@ -116,7 +123,7 @@ static void cancel(service *s, int64_t booking) {
   execute(s, "COMMIT");
 }
 
-/* Deletes an event: its bookings first, then the event, and with it its seats. Tells how many bookings it had. */
+/* Deletes the bookings of an event, and then the event with its seats. Returns the number of bookings. */
 static size_t call_off(service *s, int64_t event) {
   execute(s, "BEGIN");
   MUST_RUN(s, BOOKINGS_OF, number(event));
@@ -131,7 +138,7 @@ static size_t call_off(service *s, int64_t event) {
   return count;
 }
 
-/* Prints the places that a guest has booked. */
+/* Prints the seats that a guest has booked. */
 static void print_seats_of(service *s, const char *guest) {
   mmdb_cell place;
   printf("%s has", guest);
@@ -140,7 +147,7 @@ static void print_seats_of(service *s, const char *guest) {
   printf(".\n");
 }
 
-/* Prints what was done, and the seats that are free now. */
+/* Prints a step, and the seats that are free after it. */
 static void tell(service *s, const char *format, ...) {
   va_list values;
   va_start(values, format);

@@ -1,6 +1,6 @@
 //! Books seats for events. The database lives in this program, and a standing query has the free seats at any time.
 //!
-//! What it prints is in booking.out. booking.c and booking.py do the same in C and in Python.
+//! booking.out has the output. booking.c and booking.py do the same in C and in Python.
 
 use mmdb::{Connection, Error, Result};
 
@@ -17,7 +17,7 @@ INSERT seat (21, 2, 'B1', 0), (22, 2, 'B2', 0)";
 const FREE_SEATS: &str = "SELECT e.title, s.place, s.id FROM event e, seat s \
     WHERE s.event = e.id AND s.taken = 0";
 
-/// Books a seat inside a transaction. Tells whether it was free.
+/// Books a seat inside a transaction. Returns whether it was free.
 fn book_seat(db: &Connection, booking: i64, seat: i64, guest: &str) -> Result<bool> {
     let mut take = db.prepare_cached("UPDATE seat SET taken = 1 WHERE id = ? AND taken = 0")?;
     if take.execute([seat])? != 1 {
@@ -28,19 +28,19 @@ fn book_seat(db: &Connection, booking: i64, seat: i64, guest: &str) -> Result<bo
     Ok(true)
 }
 
-/// Books all these seats under numbers from `booking` on, or none of them. Tells whether they were free.
+/// Books all these seats under numbers from `booking` on, or none of them. Returns whether they were free.
 fn book_all(db: &mut Connection, booking: i64, seats: &[i64], guest: &str) -> Result<bool> {
     let transaction = db.transaction()?;
     for (number, &seat) in (booking..).zip(seats) {
         if !book_seat(&transaction, number, seat, guest)? {
-            return Ok(false); // The transaction is dropped here, and so it is rolled back.
+            return Ok(false); // This drops the transaction, which rolls it back.
         }
     }
     transaction.commit()?;
     Ok(true)
 }
 
-/// What became of a booking of all these seats.
+/// Books all these seats or none of them, and returns the outcome in words.
 fn book(db: &mut Connection, booking: i64, seats: &[i64], guest: &str) -> Result<String> {
     match book_all(db, booking, seats, guest) {
         Ok(true) => Ok("booked".to_owned()),
@@ -50,14 +50,14 @@ fn book(db: &mut Connection, booking: i64, seats: &[i64], guest: &str) -> Result
     }
 }
 
-/// Books those of the seats that are free, and tells how many they are.
+/// Books those of the seats that are free, and returns their number.
 fn book_group(db: &mut Connection, booking: i64, seats: &[i64], guest: &str) -> Result<i64> {
     let mut booked = 0;
     let mut transaction = db.transaction()?;
     for &seat in seats {
         let savepoint = transaction.savepoint("before_seat")?;
         if book_seat(&savepoint, booking + booked, seat, guest)? {
-            savepoint.commit();
+            savepoint.commit()?;
             booked += 1;
         }
     }
@@ -65,7 +65,7 @@ fn book_group(db: &mut Connection, booking: i64, seats: &[i64], guest: &str) -> 
     Ok(booked)
 }
 
-/// Takes a booking back. Its seat is free again.
+/// Cancels a booking. Its seat is free again.
 fn cancel(db: &mut Connection, booking: i64) -> Result<()> {
     let transaction = db.transaction()?;
     let seat_of = "SELECT b.seat FROM booking b WHERE b.id = ?";
@@ -75,7 +75,7 @@ fn cancel(db: &mut Connection, booking: i64) -> Result<()> {
     transaction.commit()
 }
 
-/// Deletes an event: its bookings first, then the event, and with it its seats. Tells how many bookings it had.
+/// Deletes the bookings of an event, and then the event with its seats. Returns the number of bookings.
 fn call_off(db: &mut Connection, event: i64) -> Result<usize> {
     let transaction = db.transaction()?;
     let bookings: Vec<i64> = transaction
@@ -90,7 +90,7 @@ fn call_off(db: &mut Connection, event: i64) -> Result<usize> {
     Ok(bookings.len())
 }
 
-/// The places that a guest has booked.
+/// Returns the seats that a guest has booked.
 fn seats_of(db: &Connection, guest: &str) -> Result<String> {
     let line = "SELECT s.place FROM booking b, seat s WHERE b.guest = ? AND b.seat = s.id";
     let mut find = db.prepare(line)?;
@@ -98,7 +98,7 @@ fn seats_of(db: &Connection, guest: &str) -> Result<String> {
     Ok(places.collect::<Result<Vec<&str>>>()?.join(" "))
 }
 
-/// Prints what was done, and the seats that are free now.
+/// Prints a step, and the seats that are free after it.
 fn tell(db: &Connection, step: &str) -> Result<()> {
     let free = db.show("free_seats", |row| {
         let (title, place): (&str, &str) = row.values()?;

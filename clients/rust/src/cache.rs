@@ -3,10 +3,10 @@
 use crate::statement::Prepared;
 use std::collections::VecDeque;
 
-/// How many statements a cache keeps unless it is told otherwise.
+/// The capacity of a new cache, in statements.
 const DEFAULT_CAPACITY: usize = 16;
 
-/// Statements that no one uses, the one that was given back last at the end.
+/// Statements that are not in use, the most recently used one last.
 #[derive(Debug)]
 pub(crate) struct Cache {
     statements: VecDeque<Prepared>,
@@ -18,15 +18,17 @@ impl Cache {
         Cache { statements: VecDeque::new(), capacity: DEFAULT_CAPACITY }
     }
 
-    /// The statement of a line, which is no longer in the cache.
+    /// Removes the statement of a line from the cache and returns it.
     pub(crate) fn take(&mut self, line: &str) -> Option<Prepared> {
         let place = self.statements.iter().rposition(|statement| statement.line == line)?;
         self.statements.remove(place)
     }
 
-    /// Keeps a statement. Answers one that is to be finalized in turn: the one that was not used for the longest time, or an equal one.
+    /// Puts a statement into the cache. Returns one to finalize: the least recently used one if the cache is full, or this one if there is
+    /// another of its line or no memory.
     pub(crate) fn give_back(&mut self, mut statement: Prepared) -> Option<Prepared> {
-        if self.capacity == 0 || self.statements.iter().any(|other| other.line == statement.line) {
+        let is_there = self.statements.iter().any(|other| other.line == statement.line);
+        if self.capacity == 0 || is_there || self.statements.try_reserve(1).is_err() {
             return Some(statement);
         }
         statement.shrink();
@@ -34,12 +36,12 @@ impl Cache {
         self.surplus()
     }
 
-    /// From now on keeps at most so many statements.
+    /// Sets the capacity. [`surplus`](Cache::surplus) then returns the statements beyond it.
     pub(crate) fn set_capacity(&mut self, capacity: usize) {
         self.capacity = capacity;
     }
 
-    /// The statement that was not used for the longest time, if there are too many.
+    /// Removes and returns the least recently used statement, if there are more than the capacity.
     pub(crate) fn surplus(&mut self) -> Option<Prepared> {
         if self.statements.len() > self.capacity {
             self.statements.pop_front()

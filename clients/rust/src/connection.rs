@@ -1,20 +1,18 @@
 //! Connections.
 
 use crate::cache::Cache;
-use crate::error::{Error, Refusal, Result};
-use crate::params::Params;
-use crate::raw::{self, Handle, Status};
-use crate::row::{Column, Row};
-use crate::statement::{Kind, Prepared, Statement};
+use crate::error::{Cause, Error, Refusal, Result};
+use crate::line::{one_line, Name};
+use crate::memory;
+use crate::params::{params_from_iter, Params};
+use crate::raw::{self, Column, Handle, Status};
+use crate::row::Row;
+use crate::statement::{Prepared, Statement};
 use crate::transaction::Transaction;
-use crate::value::Type;
 use std::cell::{Cell, RefCell};
 use std::fmt;
 
-/// A row has at most so many columns.
-const MOST_COLUMNS: usize = 16;
-
-/// A database in the program's own memory. It is gone when the connection is dropped.
+/// A database in the program's own memory. Dropping the connection frees it.
 ///
 /// ```
 /// use mmdb::{Connection, Result};
@@ -29,63 +27,75 @@ const MOST_COLUMNS: usize = 16;
 /// # }
 /// ```
 ///
-/// A connection stays on the thread that opened it: it is neither `Send` nor `Sync`. Connections share nothing, so each thread may open
-/// its own.
+/// A connection may move to another thread, and one thread at a time may use it: it is `Send` and not `Sync`. Threads share one through a
+/// `Mutex`:
 ///
-/// ```compile_fail,E0277
-/// let db = mmdb::Connection::open().unwrap();
-/// std::thread::spawn(move || db.execute("BEGIN", ())); // A connection cannot go to another thread,
+/// ```
+/// use mmdb::{Connection, Result};
+/// use std::sync::{Arc, Mutex};
+///
+/// # fn main() -> Result<()> {
+/// let db = Arc::new(Mutex::new(Connection::open()?));
+/// db.lock().unwrap().execute("TABLE t (id INT KEY)", ())?;
+/// let other = db.clone();
+/// std::thread::spawn(move || other.lock().unwrap().execute("INSERT t (1)", ())).join().unwrap()?;
+/// assert_eq!(db.lock().unwrap().prepare("SCAN t")?.query(())?.len(), 1);
+/// # Ok(())
+/// # }
 /// ```
 ///
 /// ```compile_fail,E0277
 /// let db = mmdb::Connection::open().unwrap();
 /// std::thread::scope(|scope| {
-///     scope.spawn(|| db.is_in_transaction()); // nor be used from one.
+///     scope.spawn(|| db.is_in_transaction()); // Two threads would use it at the same time.
 /// });
 /// ```
+///
+/// A line of the language may be passed as several lines: a line feed outside a text counts as a blank.
 pub struct Connection {
     pub(crate) handle: Handle,
-    /// How often the catalog may have changed.
+    /// The number of replies `ok`. Only a command with this reply can change the catalog.
     pub(crate) catalog: Cell<u64>,
+    /// The number of replies `ok` after which no transaction was open. The end of a transaction is one of them, and none comes within one.
+    pub(crate) ended_transactions: Cell<u64>,
     cache: RefCell<Cache>,
-    /// The names of the savepoints that are in use, the first one set at first.
-    pub(crate) savepoints: RefCell<Vec<String>>,
 }
 
 impl Connection {
-    /// Opens a database with nothing in it. `Refused(Memory)` if the system refuses memory.
+    /// Opens an empty database. `Refused(Memory)`, or `LibraryVersion` if libmmdb has another major version or is too old.
     pub fn open() -> Result<Connection> {
+        check_version(raw::version())?;
         Ok(Connection {
             handle: Handle::open().map_err(Error::of_status)?,
             catalog: Cell::new(0),
+            ended_transactions: Cell::new(0),
             cache: RefCell::new(Cache::new()),
-            savepoints: RefCell::new(Vec::new()),
         })
     }
 
-    /// Executes a line, with a value for each `?` in it, and answers how many rows it concerned: the number behind the reply's `ok`, or 0.
-    /// An empty line and a comment do nothing.
+    /// Executes a line, with a value for each `?` in it. Returns the number of rows that it inserted, updated or deleted, or 0 for a command
+    /// of another kind. An empty line and a comment do nothing.
     ///
     /// A line with values is prepared for this call alone. To run it often, use [`prepare`](Connection::prepare).
     ///
     /// - `WrongParameterCount`, `TextTooLong`, `TextHasLineFeed`, `NumberOutOfRange`: the values do not fit
-    /// - `ExecuteReturnedRows`: the line replies rows or a text
-    /// - `Refused`: the database refused it
+    /// - `CommentHasLineFeed`: the line is a comment and contains a line feed
+    /// - `ExecuteReturnedRows`: the line returns rows or a text
+    /// - `Refused`: the database refused the command
     pub fn execute(&self, line: &str, params: impl Params) -> Result<usize> {
         if params.are_none() {
-            let status = self.handle.execute(line.as_bytes());
-            let has_holes = status == Refusal::Syntax.number() && line.contains('?');
-            // A line with holes has no reading without values. As a statement it fails for want of them.
-            if !has_holes {
-                return self.concerned(status, Kind::of(line));
+            let status = self.handle.execute(&one_line(line)?);
+            // A line with a ? is a syntax error without values. As a statement it has parameters, and the error says so.
+            if status != raw::SYNTAX {
+                return self.changed_rows(status);
             }
         }
-        self.prepare(line)?.execute(params)
+        self.prepare_once(line)?.execute(params)
     }
 
-    /// Executes the lines of a script one after another, and drops what they reply.
+    /// Executes the lines of a script one after another, and drops their replies. Each line is a command.
     ///
-    /// The first line that is refused is the last: `InLine` has its number, and those before it stay done.
+    /// Stops at the first line that fails: `InLine` has its number, and the lines before it stay done.
     ///
     /// ```
     /// use mmdb::{Connection, Error, Result};
@@ -104,23 +114,28 @@ impl Connection {
     /// ```
     pub fn execute_batch(&self, script: &str) -> Result<()> {
         for (place, line) in script.lines().enumerate() {
-            let status = self.handle.execute(line.as_bytes());
-            self.note(status, Kind::of(line))
-                .map_err(|error| Error::InLine { line: place + 1, error: Box::new(error) })?;
+            self.define(line.as_bytes())
+                .map_err(|error| Error::InLine { line: place + 1, error: Cause::new(error) })?;
         }
         Ok(())
     }
 
-    /// Prepares a line in which a `?` may stand for each number or text. It is only read: what it names is looked up when it is run.
+    /// Prepares a line in which a `?` may replace a number or a text. The line is only read: names in it are looked up when it runs.
     ///
-    /// `Refused` with [`LineTooLong`](Refusal::LineTooLong), [`Syntax`](Refusal::Syntax),
-    /// [`NumberOutOfRange`](Refusal::NumberOutOfRange), [`TextTooLong`](Refusal::TextTooLong) or [`Memory`](Refusal::Memory).
+    /// - `Refused` with [`LineTooLong`](Refusal::LineTooLong), [`Syntax`](Refusal::Syntax),
+    ///   [`NumberOutOfRange`](Refusal::NumberOutOfRange), [`TextTooLong`](Refusal::TextTooLong) or [`Memory`](Refusal::Memory)
+    /// - `CommentHasLineFeed`: the line is a comment and contains a line feed
     pub fn prepare(&self, line: &str) -> Result<Statement<'_>> {
+        Ok(Statement::new(self, Prepared::with_line(self, line)?, false))
+    }
+
+    /// Prepares a line for one call, without a copy of the line.
+    fn prepare_once(&self, line: &str) -> Result<Statement<'_>> {
         Ok(Statement::new(self, Prepared::new(self, line)?, false))
     }
 
-    /// Prepares a line, or takes its statement from the cache, to which it goes back when it is dropped. The errors are those of
-    /// [`prepare`](Connection::prepare).
+    /// Takes the statement of a line from the cache, or prepares the line. Dropping the statement puts it back into the cache. The errors
+    /// are those of [`prepare`](Connection::prepare).
     ///
     /// ```
     /// use mmdb::{Connection, Result};
@@ -138,11 +153,11 @@ impl Connection {
     /// ```
     pub fn prepare_cached(&self, line: &str) -> Result<Statement<'_>> {
         let cached = self.cache.borrow_mut().take(line);
-        let prepared = cached.map_or_else(|| Prepared::new(self, line), Ok)?;
+        let prepared = cached.map_or_else(|| Prepared::with_line(self, line), Ok)?;
         Ok(Statement::new(self, prepared, true))
     }
 
-    /// Sets how many statements the cache keeps: 16 at first.
+    /// Sets the capacity of the cache, in statements. It is 16 at first.
     pub fn set_statement_cache_capacity(&self, capacity: usize) {
         let mut cache = self.cache.borrow_mut();
         cache.set_capacity(capacity);
@@ -158,49 +173,52 @@ impl Connection {
         }
     }
 
-    /// Runs a query with a value for each `?`, and gives what a function makes of its first row. `QueryReturnedNoRows` if there is none;
-    /// the other errors are those of [`prepare`](Connection::prepare), [`Statement::query`] and the function.
+    /// Runs a query with a value for each `?`. Returns what a function returns for the first row. `QueryReturnedNoRows` if there is none; the
+    /// other errors are those of [`prepare`](Connection::prepare), [`Statement::query`] and the function.
     pub fn query_row<T>(
         &self,
         line: &str,
         params: impl Params,
         function: impl FnOnce(&Row<'_>) -> Result<T>,
     ) -> Result<T> {
-        self.prepare(line)?.query_row(params, function)
+        self.prepare_once(line)?.query_row(params, function)
     }
 
     /// Begins a transaction, which is rolled back unless it is committed. `Refused(TransactionOpen)` if one is open.
     ///
-    /// The connection is borrowed as `&mut`, so no other transaction can begin meanwhile. A statement that was prepared before cannot be
-    /// used in it: prepare it in the transaction, or use [`prepare_cached`](Connection::prepare_cached).
+    /// The connection is borrowed as `&mut`, so no other `Transaction` can begin at the same time. A statement that was prepared before
+    /// cannot be used in it: prepare it in the transaction, or use [`prepare_cached`](Connection::prepare_cached).
     pub fn transaction(&mut self) -> Result<Transaction<'_>> {
         Transaction::begin(self)
     }
 
-    /// Begins a transaction at a connection that others use too. `Refused(TransactionOpen)` if one is open.
+    /// Begins a transaction through a shared reference, so that earlier statements can be used in it. `Refused(TransactionOpen)` if one is
+    /// open.
     pub fn unchecked_transaction(&self) -> Result<Transaction<'_>> {
         Transaction::begin(self)
     }
 
-    /// Whether a transaction is open.
+    /// Returns whether a transaction is open.
     #[must_use]
     pub fn is_in_transaction(&self) -> bool {
         self.handle.is_in_transaction()
     }
 
-    /// Keeps a query as a standing query: from now on [`show`](Connection::show) has its rows as they are then.
+    /// Creates a standing query: [`show`](Connection::show) returns the rows that the query has at that time.
     ///
-    /// `InvalidName` if the name is none, or `Refused`.
+    /// `Refused`, with [`Syntax`](Refusal::Syntax) if this is not a name.
     pub fn watch(&self, name: &str, query: &str) -> Result<()> {
-        self.define(&format!("WATCH {} {query}", checked_name(name)?))
+        let line = memory::joined(&["WATCH ", Name::new(name)?.as_str(), " ", query])?;
+        self.define(&one_line(&line)?)
     }
 
-    /// Drops a standing query. `InvalidName` if the name is none, or `Refused`.
+    /// Drops a standing query. `Refused`, with [`Syntax`](Refusal::Syntax) if this is not a name.
     pub fn unwatch(&self, name: &str) -> Result<()> {
-        self.define(&format!("UNWATCH {}", checked_name(name)?))
+        self.define(memory::joined(&["UNWATCH ", Name::new(name)?.as_str()])?.as_bytes())
     }
 
-    /// What a function makes of each row of a standing query. `InvalidName` if the name is none, `Refused`, or an error of the function.
+    /// Returns what a function returns for each row of a standing query. `Refused`, with [`Syntax`](Refusal::Syntax) if this is not a name;
+    /// or an error of the function.
     ///
     /// ```
     /// use mmdb::{Connection, Result};
@@ -216,20 +234,22 @@ impl Connection {
     /// # }
     /// ```
     pub fn show<T>(&self, name: &str, function: impl FnMut(&Row<'_>) -> Result<T>) -> Result<Vec<T>> {
-        let line = format!("SHOW {}", checked_name(name)?);
-        self.prepare_cached(&line)?.query_map((), function)?.collect()
+        let line = memory::joined(&["SHOW ", Name::new(name)?.as_str()])?;
+        let mut statement = self.prepare_cached(&line)?;
+        let rows = statement.query_map((), function)?;
+        memory::collected(rows)
     }
 
-    /// The columns of the rows that a line replies, by the catalog as it is; none if it replies no rows. `Refused` if the line cannot be
-    /// prepared.
+    /// Returns the columns of the rows that a line returns, for the tables as they are now. There are none if it returns no rows, or if a
+    /// name in it does not exist. The errors are those of [`prepare`](Connection::prepare).
     pub fn columns(&self, line: &str) -> Result<Vec<Column>> {
-        let mut columns = [raw::Column::EMPTY; MOST_COLUMNS];
-        let count = self.handle.columns(line.as_bytes(), &mut columns).map_err(Error::of_status)?;
-        Ok(columns.iter().take(count).map(column_of).collect())
+        let mut columns = Vec::new();
+        self.handle.columns(&one_line(line)?, &mut columns).map_err(Error::of_status)?;
+        Ok(columns)
     }
 
-    /// Where in a line a person may look for what refused it, as a number of bytes from its begin: where reading stopped, or at a number or
-    /// text past its limit, or at a name that nothing has. It is a hint, and 0 if there is no such place.
+    /// Returns the byte offset in a line to show in an error message: where reading stopped, a number or text past its limit, or a name that
+    /// does not exist. The offset is a hint. It is 0 if there is no such place.
     ///
     /// ```
     /// use mmdb::{Connection, Result};
@@ -238,16 +258,20 @@ impl Connection {
     /// let db = Connection::open()?;
     /// let line = "SCAN t;";
     /// let refusal = db.prepare(line).err().and_then(|error| error.refusal()).unwrap();
-    /// assert_eq!((refusal.text(), db.place_of_refusal(line, refusal)), ("syntax", 6));
+    /// assert_eq!((refusal.to_string().as_str(), db.place_of_refusal(line, refusal)), ("syntax", 6));
     /// # Ok(())
     /// # }
     /// ```
     #[must_use]
     pub fn place_of_refusal(&self, line: &str, refusal: Refusal) -> usize {
-        self.handle.place(line.as_bytes(), refusal.number())
+        one_line(line).map_or(0, |line| self.handle.place(&line, refusal.number()))
     }
 
-    /// The plan of a `SELECT`, a line for each of its tables. `Refused` if the database refuses the query.
+    /// Returns the plan of a `SELECT`, a line for each of its tables. The query is not run.
+    ///
+    /// The plan does not depend on values, so the query may have parameters. Each of them counts as a number here;
+    /// [`Statement::explain`] has values of both types. The errors are those of [`prepare`](Connection::prepare) and of
+    /// [`Statement::explain`].
     ///
     /// ```
     /// use mmdb::{Connection, Result};
@@ -255,17 +279,17 @@ impl Connection {
     /// # fn main() -> Result<()> {
     /// let db = Connection::open()?;
     /// db.execute("TABLE t (id INT KEY)", ())?;
-    /// assert_eq!(db.explain("SELECT a.id FROM t a WHERE a.id = 7")?, ["a tree #key ="]);
+    /// assert_eq!(db.explain("SELECT a.id FROM t a WHERE a.id = ?")?, ["a tree #key ="]);
     /// # Ok(())
     /// # }
     /// ```
     pub fn explain(&self, query: &str) -> Result<Vec<String>> {
-        let mut lines = self.reply_of(&format!("EXPLAIN {query}"))?;
-        lines.pop();
-        Ok(lines)
+        let mut statement = self.prepare_once(query)?;
+        let count = statement.parameter_count();
+        statement.explain(params_from_iter((0..count).map(|_| 0)))
     }
 
-    /// The tables, indexes and standing queries, a line for each, as `TABLES` lists them. `Refused(Memory)` if the system refuses memory.
+    /// Returns the tables, indexes and standing queries, a line for each, as `TABLES` lists them. `Refused(Memory)`.
     ///
     /// ```
     /// use mmdb::{Connection, Result};
@@ -278,44 +302,58 @@ impl Connection {
     /// # }
     /// ```
     pub fn tables(&self) -> Result<Vec<String>> {
-        let mut lines = self.reply_of("TABLES")?;
-        lines.pop();
-        Ok(lines)
+        self.define(b"TABLES")?;
+        self.lines_of_reply()
     }
 
-    /// Executes a line that has no number of rows in its reply.
-    pub(crate) fn define(&self, line: &str) -> Result<()> {
-        self.note(self.handle.execute(line.as_bytes()), Kind::of(line))
+    /// Executes a line, and drops the reply.
+    pub(crate) fn define(&self, line: &[u8]) -> Result<()> {
+        self.note(self.handle.execute(line))
     }
 
-    /// The lines of the reply to a line.
-    fn reply_of(&self, line: &str) -> Result<Vec<String>> {
-        self.define(line)?;
+    /// Returns the lines of the reply, which is a text, without the last one, which is their number.
+    pub(crate) fn lines_of_reply(&self) -> Result<Vec<String>> {
         let text = self.handle.text().map_err(Error::of_status)?;
-        Ok(String::from_utf8_lossy(&text).lines().map(str::to_owned).collect())
+        let text = std::str::from_utf8(&text).map_err(|_| Error::Unexpected(raw::TEXT))?;
+        let count = text.lines().count().saturating_sub(1);
+        memory::collected(text.lines().take(count).map(memory::string))
     }
 
-    /// Counts a change of the catalog. An error if the status is no success.
+    /// Takes note of the status of a command. An error if it is not a success.
     #[inline]
-    pub(crate) fn note(&self, status: Status, kind: Kind) -> Result<()> {
-        if status > raw::TEXT {
-            return Err(Error::of_status(status));
+    fn note(&self, status: Status) -> Result<()> {
+        if status == raw::DONE {
+            self.note_ok();
         }
-        if kind == Kind::Definition {
-            self.catalog.set(self.catalog.get() + 1);
-        }
-        Ok(())
+        Error::check(status)
     }
 
-    /// How many rows a line concerned that was executed with this status.
+    fn note_ok(&self) {
+        self.catalog.set(self.catalog.get() + 1);
+        if !self.handle.is_in_transaction() {
+            self.ended_transactions.set(self.ended_transactions.get() + 1);
+        }
+    }
+
+    /// Returns the number of rows that a command with this status changed.
     #[inline]
-    pub(crate) fn concerned(&self, status: Status, kind: Kind) -> Result<usize> {
-        self.note(status, kind)?;
+    pub(crate) fn changed_rows(&self, status: Status) -> Result<usize> {
+        self.note(status)?;
         match status {
             raw::COUNT => Ok(self.handle.count()),
             raw::ROWS | raw::TEXT => Err(Error::ExecuteReturnedRows),
             _ => Ok(0),
         }
+    }
+}
+
+/// `LibraryVersion` if the library has another major version than the header, or is older.
+fn check_version(version: u32) -> Result<()> {
+    const OLDEST: u32 = raw::HEADER_VERSION;
+    if version >= OLDEST && version / 1_000_000 == OLDEST / 1_000_000 {
+        Ok(())
+    } else {
+        Err(Error::LibraryVersion(version))
     }
 }
 
@@ -325,20 +363,20 @@ impl fmt::Debug for Connection {
     }
 }
 
-fn column_of(column: &raw::Column) -> Column {
-    let name = String::from_utf8_lossy(column.name()).into_owned();
-    let data_type = if column.is_number() { Type::Int } else { Type::Text };
-    Column { name, data_type }
-}
+#[cfg(test)]
+mod tests {
+    use super::check_version;
+    use crate::Error;
 
-/// The name, if it is one of the language. A line that is made with it then means what it should.
-pub(crate) fn checked_name(name: &str) -> Result<&str> {
-    let is_name = name.len() <= raw::NAME_BYTES
-        && name.starts_with(|c: char| c.is_ascii_lowercase())
-        && name.bytes().all(|byte| matches!(byte, b'a'..=b'z' | b'0'..=b'9' | b'_'));
-    if is_name {
-        Ok(name)
-    } else {
-        Err(Error::InvalidName(name.to_owned()))
+    #[test]
+    fn libraries_of_the_major_version_that_are_not_older_fit() {
+        for version in [1_001_000, 1_001_001, 1_999_999] {
+            assert!(check_version(version).is_ok());
+        }
+        for (version, name) in [(0, "0.0.0"), (1_000_000, "1.0.0"), (1_000_999, "1.0.999"), (2_001_003, "2.1.3")] {
+            let error = check_version(version).unwrap_err();
+            assert!(matches!(error, Error::LibraryVersion(found) if found == version));
+            assert!(error.to_string().contains(&format!("version {name},")), "{error}");
+        }
     }
 }

@@ -1,15 +1,19 @@
-//! Errors: what the database refuses, and what is wrong with a call.
+//! Errors: refusals of the database, and mistakes in a call.
 
-use crate::value::Type;
+use crate::memory;
+use crate::raw::{self, Column};
 use std::fmt;
+use std::ops::Deref;
 use std::str::Utf8Error;
 
 /// The result of a call.
 pub type Result<T, E = Error> = std::result::Result<T, E>;
 
 macro_rules! refusals {
-    ($($(#[doc = $doc:literal])* $name:ident = $number:literal, $text:literal;)*) => {
+    ($($(#[doc = $doc:literal])* $name:ident = $number:literal;)*) => {
         /// A refusal of the database. docs/LANGUAGE.md says exactly when each comes.
+        ///
+        /// It is displayed by its words, which the library has: `duplicate key`.
         #[derive(Clone, Copy, Debug, PartialEq, Eq, PartialOrd, Ord, Hash)]
         #[non_exhaustive]
         #[repr(u8)]
@@ -18,20 +22,12 @@ macro_rules! refusals {
         }
 
         impl Refusal {
-            /// The refusal of a number; `None` if no refusal has it.
+            /// Returns the refusal with a number, or `None` if no refusal has it.
             #[must_use]
             pub fn from_number(number: u8) -> Option<Refusal> {
                 match number {
                     $($number => Some(Refusal::$name),)*
                     _ => None,
-                }
-            }
-
-            /// The words of the refusal, as `duplicate key`.
-            #[must_use]
-            pub fn text(self) -> &'static str {
-                match self {
-                    $(Refusal::$name => $text,)*
                 }
             }
         }
@@ -40,63 +36,63 @@ macro_rules! refusals {
 
 refusals! {
     /// A line has more than 4,096 bytes.
-    LineTooLong = 10, "line too long";
-    /// A line is no command.
-    Syntax = 11, "syntax";
+    LineTooLong = 10;
+    /// A line is not a command.
+    Syntax = 11;
     /// A number does not fit in 64 bits.
-    NumberOutOfRange = 12, "number out of range";
+    NumberOutOfRange = 12;
     /// A text in a line has more than 64 bytes.
-    TextTooLong = 13, "text too long";
+    TextTooLong = 13;
     /// No table has the name.
-    NoSuchTable = 20, "no such table";
+    NoSuchTable = 20;
     /// The table has no column of the name.
-    NoSuchColumn = 21, "no such column";
+    NoSuchColumn = 21;
     /// No index has the name.
-    NoSuchIndex = 22, "no such index";
+    NoSuchIndex = 22;
     /// No standing query has the name.
-    NoSuchStandingQuery = 23, "no such standing query";
+    NoSuchStandingQuery = 23;
     /// The name is that of another table, index, standing query or column.
-    NameTaken = 24, "name taken";
+    NameTaken = 24;
     /// Two tables of `FROM` have one alias.
-    AliasTaken = 25, "alias taken";
+    AliasTaken = 25;
     /// No table of `FROM` has the alias.
-    NoSuchAlias = 26, "no such alias";
+    NoSuchAlias = 26;
     /// A value is not of its column's type, or two sides differ in type.
-    TypeMismatch = 30, "type mismatch";
+    TypeMismatch = 30;
     /// A row has more or fewer values than its table has columns.
-    WrongNumberOfValues = 31, "wrong number of values";
+    WrongNumberOfValues = 31;
     /// A new value does not fit in 64 bits.
-    ArithmeticOutOfRange = 32, "arithmetic out of range";
+    ArithmeticOutOfRange = 32;
     /// Two rows would have the same key.
-    DuplicateKey = 40, "duplicate key";
-    /// A row would refer to a row that is not there.
-    NoTargetRow = 41, "no target row";
-    /// A row that stays refers to one that would go.
-    RowIsReferenced = 42, "row is referenced";
+    DuplicateKey = 40;
+    /// A row would refer to a row that does not exist.
+    NoTargetRow = 41;
+    /// A row that stays refers to one that would be deleted.
+    RowIsReferenced = 42;
     /// Another table or a standing query needs the table.
-    InUse = 43, "in use";
+    InUse = 43;
     /// A table would have more than 1,048,576 rows.
-    TableFull = 45, "table full";
+    TableFull = 45;
     /// A result has more than 1,048,576 combinations of rows.
-    ResultTooLarge = 46, "result too large";
+    ResultTooLarge = 46;
     /// A standing query would have more than 1,048,576 combinations of rows.
-    StandingListTooLarge = 47, "standing list too large";
+    StandingListTooLarge = 47;
     /// A limit of the language is reached, as that of 64 tables.
-    TooMany = 48, "too many";
+    TooMany = 48;
     /// A transaction is open already.
-    TransactionOpen = 50, "transaction open";
+    TransactionOpen = 50;
     /// No transaction is open.
-    NoTransaction = 51, "no transaction";
-    /// The command may not come in a transaction.
-    NotInTransaction = 52, "not in a transaction";
+    NoTransaction = 51;
+    /// The command is not allowed in a transaction.
+    NotInTransaction = 52;
     /// The transaction has no savepoint of the name.
-    NoSuchSavepoint = 53, "no such savepoint";
-    /// The system refused memory.
-    Memory = 90, "memory";
+    NoSuchSavepoint = 53;
+    /// An allocation failed, in the library or in this crate.
+    Memory = 90;
 }
 
 impl Refusal {
-    /// The number of the refusal, as 40 of `duplicate key`.
+    /// Returns the number of the refusal: 40 for [`DuplicateKey`](Refusal::DuplicateKey).
     #[must_use]
     pub fn number(self) -> u8 {
         self as u8
@@ -105,11 +101,11 @@ impl Refusal {
 
 impl fmt::Display for Refusal {
     fn fmt(&self, f: &mut fmt::Formatter<'_>) -> fmt::Result {
-        f.write_str(self.text())
+        raw::write_words(self.number(), f)
     }
 }
 
-/// Why a call failed. Such a call changed nothing, but for [`Error::InLine`] and [`Error::InRun`], which say what was done before.
+/// Why a call failed. Such a call changed nothing, except for [`Error::InLine`] and [`Error::InRun`], which say what was done before.
 ///
 /// ```
 /// use mmdb::{Connection, Error, Refusal, Result};
@@ -127,85 +123,96 @@ impl fmt::Display for Refusal {
 #[derive(Debug)]
 #[non_exhaustive]
 pub enum Error {
-    /// The database refused the command.
+    /// The database refused the command, or an allocation failed in this crate (`Refused(Memory)`).
     Refused(Refusal),
-    /// A line of a script failed. Those before it are done.
+    /// A line of a script failed. The lines before it stay done.
     InLine {
-        /// The number of the line, counted from 1.
+        /// The number of the line at which the command begins, counted from 1.
         line: usize,
         /// Why it failed.
-        error: Box<Error>,
+        error: Cause,
     },
-    /// A run of [`Statement::execute_many`](crate::Statement::execute_many) failed. Those before it are done.
+    /// A run of [`Statement::execute_many`](crate::Statement::execute_many) failed. The runs before it stay done.
     InRun {
-        /// How many runs are done.
+        /// The number of runs that succeeded.
         done: usize,
-        /// Why the next one failed.
-        error: Box<Error>,
+        /// Why the next run failed.
+        error: Cause,
     },
-    /// A statement got more or fewer values than it has holes.
+    /// The number of values is not the number of parameters of the statement.
     WrongParameterCount {
-        /// How many values there were.
+        /// The number of values.
         given: usize,
-        /// How many holes there are.
+        /// The number of parameters.
         wanted: usize,
     },
-    /// A value is a text of more than 64 bytes: of this many.
+    /// A value is a text of more than 64 bytes. This is its length.
     TextTooLong(usize),
-    /// A value is a text with a line feed in it.
+    /// A value is a text that contains a line feed.
     TextHasLineFeed,
     /// A value is an integer that does not fit in 64 bits with a sign.
     NumberOutOfRange,
-    /// The line replies rows or a text, and it was to be executed. Its rows are read by a query.
+    /// A line begins with `--` and contains a line feed. It was not executed, because what follows the line feed would be ignored.
+    CommentHasLineFeed,
+    /// The statement returns rows or a text, and the call executes commands. [`Statement::query`](crate::Statement::query) reads rows.
     ExecuteReturnedRows,
-    /// The line replies no rows, and it was to be queried. It was not run.
+    /// The statement returns no rows, and the call reads rows; or it has no plan, and the call returns one. It was not run.
     NotAQuery,
-    /// A row was asked for, and there is none.
+    /// The query returned no row.
     QueryReturnedNoRows,
-    /// A row has no value at this place.
+    /// The row has no column at this position.
     InvalidColumnIndex(usize),
-    /// A row has no column of this name.
+    /// The row has no column of this name.
     InvalidColumnName(String),
-    /// A value is of another type than the one that was asked for.
+    /// The value is a text and the requested type is made of a number, or the other way round.
     InvalidColumnType {
-        /// The place of the column.
+        /// The position of the column.
         index: usize,
-        /// The name of the column.
-        name: String,
-        /// The type of the value.
-        found: Type,
+        /// The column, with the type of the value.
+        column: Column,
     },
-    /// The type that was asked for does not have this number.
+    /// The requested type does not have this number.
     ValueOutOfRange {
-        /// The place of the column.
+        /// The position of the column.
         index: usize,
-        /// The name of the column.
-        name: String,
+        /// The column.
+        column: Column,
         /// The number.
         number: i64,
     },
-    /// A text is not in UTF-8.
-    NotUtf8 {
-        /// The place of the column.
+    /// The text does not have the length of the requested type: the bytes of an array, or the one character of a `char`.
+    WrongLength {
+        /// The position of the column.
         index: usize,
-        /// The name of the column.
-        name: String,
-        /// Where it is not.
+        /// The column.
+        column: Column,
+        /// The length of the text.
+        found: usize,
+        /// The length of the requested type.
+        wanted: usize,
+    },
+    /// The text is not UTF-8.
+    NotUtf8 {
+        /// The position of the column.
+        index: usize,
+        /// The column.
+        column: Column,
+        /// Where the text is not UTF-8.
         error: Utf8Error,
     },
-    /// This is no name of the language: a letter from a to z, then up to 31 of a to z, digits and `_`.
-    InvalidName(String),
-    /// A savepoint of this name is still in use around the new one.
-    SavepointInUse(String),
-    /// The library answered what it should not: the status is 100 where it was misused. It is a fault of this crate, or libmmdb is of
-    /// another version.
+    /// libmmdb is of this version, and the crate needs 1.1.0 or a later 1.x. The number is major * 1000000 + minor * 1000 + patch.
+    LibraryVersion(u32),
+    /// The library returned a status that it should not return: 100 is misuse. This is a fault of the crate.
     Unexpected(u8),
     /// An error of a [`ToValue`](crate::ToValue) or a [`FromValue`](crate::FromValue) outside this crate.
     Other(Box<dyn std::error::Error + Send + Sync>),
 }
 
 impl Error {
-    /// The refusal of the database; `None` if the error is of another kind.
+    /// An allocation failed.
+    pub(crate) const MEMORY: Error = Error::Refused(Refusal::Memory);
+
+    /// Returns the refusal of the database, or `None` if the error is of another kind.
     #[must_use]
     pub fn refusal(&self) -> Option<Refusal> {
         match self {
@@ -215,15 +222,32 @@ impl Error {
         }
     }
 
-    /// The number of the database's refusal; `None` if the error is of another kind.
+    /// Returns the number of the refusal, or `None` if the error is of another kind.
     #[must_use]
     pub fn number(&self) -> Option<u8> {
         self.refusal().map(Refusal::number)
     }
 
-    /// What a status says that is no success.
+    /// The error for a status that is not a success.
+    #[cold]
     pub(crate) fn of_status(status: u8) -> Error {
         Refusal::from_number(status).map_or(Error::Unexpected(status), Error::Refused)
+    }
+
+    /// An error if the status is not a success.
+    #[inline]
+    pub(crate) fn check(status: u8) -> Result<()> {
+        if status <= raw::TEXT {
+            Ok(())
+        } else {
+            Err(Error::of_status(status))
+        }
+    }
+
+    /// The error for a column name that a row does not have.
+    #[cold]
+    pub(crate) fn invalid_column_name(name: &str) -> Error {
+        memory::string(name).map_or_else(|error| error, Error::InvalidColumnName)
     }
 }
 
@@ -234,26 +258,38 @@ impl fmt::Display for Error {
             Error::InLine { line, error } => write!(f, "line {line}: {error}"),
             Error::InRun { done, error } => write!(f, "run {}: {error}", done + 1),
             Error::WrongParameterCount { given, wanted } => {
-                write!(f, "the statement takes {wanted} values, and {given} were given")
+                write!(f, "the statement has {wanted} parameters, and {given} values were passed")
             }
-            Error::TextTooLong(length) => write!(f, "a text has at most 64 bytes, and this one has {length}"),
-            Error::TextHasLineFeed => f.write_str("a text has no line feed, and this one has"),
-            Error::NumberOutOfRange => f.write_str("a number does not fit in 64 bits with a sign"),
-            Error::ExecuteReturnedRows => f.write_str("the line replies rows or a text, and was executed"),
-            Error::NotAQuery => f.write_str("the line replies no rows"),
-            Error::QueryReturnedNoRows => f.write_str("there is no row"),
-            Error::InvalidColumnIndex(index) => write!(f, "a row has no column at place {index}"),
-            Error::InvalidColumnName(name) => write!(f, "a row has no column {name:?}"),
-            Error::InvalidColumnType { index, name, found } => {
-                write!(f, "column {name} at place {index} is {found}, and another type was asked for")
+            Error::TextTooLong(length) => write!(f, "the text has {length} bytes, and the limit is 64"),
+            Error::TextHasLineFeed => f.write_str("the text contains a line feed"),
+            Error::NumberOutOfRange => f.write_str("the number does not fit in 64 bits with a sign"),
+            Error::CommentHasLineFeed => f.write_str("the comment contains a line feed"),
+            Error::ExecuteReturnedRows => f.write_str("the statement returns rows or a text, and was executed"),
+            Error::NotAQuery => f.write_str("the statement is not a query"),
+            Error::QueryReturnedNoRows => f.write_str("the query returned no row"),
+            Error::InvalidColumnIndex(index) => write!(f, "the row has no column {index}"),
+            Error::InvalidColumnName(name) => write!(f, "the row has no column {name:?}"),
+            Error::InvalidColumnType { index, column } => {
+                write!(
+                    f,
+                    "column {index} ({}) is {}, and another type was requested",
+                    column.name(),
+                    column.data_type()
+                )
             }
-            Error::ValueOutOfRange { index, name, number } => {
-                write!(f, "the type asked for has no number {number}, which is in column {name} at place {index}")
+            Error::ValueOutOfRange { index, column, number } => {
+                write!(f, "column {index} ({}) is {number}, which the requested type does not have", column.name())
             }
-            Error::NotUtf8 { index, name, .. } => write!(f, "column {name} at place {index} is not in UTF-8"),
-            Error::InvalidName(name) => write!(f, "{name:?} is no name"),
-            Error::SavepointInUse(name) => write!(f, "savepoint {name} is still in use"),
-            Error::Unexpected(status) => write!(f, "the library answered {status}"),
+            Error::WrongLength { index, column, found, wanted } => {
+                let name = column.name();
+                write!(f, "column {index} ({name}) has length {found}, and the requested type has length {wanted}")
+            }
+            Error::NotUtf8 { index, column, .. } => write!(f, "column {index} ({}) is not UTF-8", column.name()),
+            Error::LibraryVersion(version) => {
+                let (major, minor, patch) = (version / 1_000_000, version / 1000 % 1000, version % 1000);
+                write!(f, "libmmdb has version {major}.{minor}.{patch}, and the crate needs 1.1.0 or a later 1.x")
+            }
+            Error::Unexpected(status) => write!(f, "libmmdb returned {status}, which it should not"),
             Error::Other(error) => error.fmt(f),
         }
     }
@@ -270,16 +306,63 @@ impl std::error::Error for Error {
     }
 }
 
-/// Why a value is none of the type that was asked for. The row that it is in makes an [`Error`] of it, with the column's place and name.
+/// Why a line of a script or a run of a batch failed: an [`Error`] behind a pointer.
+///
+/// If the pointer cannot be allocated, the cause is `Refused(Memory)`.
+pub struct Cause(Option<Box<Error>>);
+
+impl Cause {
+    pub(crate) fn new(error: Error) -> Cause {
+        Cause(raw::boxed(error))
+    }
+
+    /// Returns the error itself.
+    #[must_use]
+    pub fn into_error(self) -> Error {
+        self.0.map_or(Error::MEMORY, |error| *error)
+    }
+}
+
+impl Deref for Cause {
+    type Target = Error;
+
+    fn deref(&self) -> &Error {
+        const MEMORY: &Error = &Error::MEMORY;
+        self.0.as_deref().unwrap_or(MEMORY)
+    }
+}
+
+impl fmt::Debug for Cause {
+    fn fmt(&self, f: &mut fmt::Formatter<'_>) -> fmt::Result {
+        fmt::Debug::fmt(&**self, f)
+    }
+}
+
+impl fmt::Display for Cause {
+    fn fmt(&self, f: &mut fmt::Formatter<'_>) -> fmt::Result {
+        fmt::Display::fmt(&**self, f)
+    }
+}
+
+/// Why a value cannot become the requested type. [`Row::get`](crate::Row::get) turns it into an [`Error`] with the column.
 #[derive(Debug)]
 #[non_exhaustive]
 pub enum FromValueError {
-    /// The value is a text and a number was asked for, or the other way round.
+    /// The value is a text and a number is required, or the other way round.
     WrongType,
     /// The type does not have this number.
     OutOfRange(i64),
-    /// A text is not in UTF-8.
+    /// The text does not have the length of the type.
+    WrongLength {
+        /// The length of the text.
+        found: usize,
+        /// The length of the type.
+        wanted: usize,
+    },
+    /// The text is not UTF-8.
     NotUtf8(Utf8Error),
+    /// An allocation failed.
+    Memory,
     /// Any other reason.
     Other(Box<dyn std::error::Error + Send + Sync>),
 }
@@ -287,9 +370,13 @@ pub enum FromValueError {
 impl fmt::Display for FromValueError {
     fn fmt(&self, f: &mut fmt::Formatter<'_>) -> fmt::Result {
         match self {
-            FromValueError::WrongType => f.write_str("another type was asked for"),
-            FromValueError::OutOfRange(number) => write!(f, "the type asked for has no number {number}"),
-            FromValueError::NotUtf8(_) => f.write_str("the text is not in UTF-8"),
+            FromValueError::WrongType => f.write_str("another type was requested"),
+            FromValueError::OutOfRange(number) => write!(f, "the requested type does not have the number {number}"),
+            FromValueError::WrongLength { found, wanted } => {
+                write!(f, "the text has length {found}, and the requested type has length {wanted}")
+            }
+            FromValueError::NotUtf8(_) => f.write_str("the text is not UTF-8"),
+            FromValueError::Memory => Refusal::Memory.fmt(f),
             FromValueError::Other(error) => error.fmt(f),
         }
     }
@@ -300,7 +387,7 @@ impl std::error::Error for FromValueError {
         match self {
             FromValueError::NotUtf8(error) => Some(error),
             FromValueError::Other(error) => error.source(),
-            FromValueError::WrongType | FromValueError::OutOfRange(_) => None,
+            _ => None,
         }
     }
 }
@@ -319,7 +406,7 @@ impl std::error::Error for FromValueError {
 /// # }
 /// ```
 pub trait OptionalExtension<T> {
-    /// `Ok(None)` if there is no row.
+    /// Returns `Ok(None)` if there is no row.
     fn optional(self) -> Result<Option<T>>;
 }
 

@@ -17,6 +17,8 @@
 mod cache;
 mod connection;
 mod error;
+mod line;
+mod memory;
 mod params;
 mod raw;
 mod reply;
@@ -26,12 +28,13 @@ mod transaction;
 mod value;
 
 pub use connection::Connection;
-pub use error::{Error, FromValueError, OptionalExtension, Refusal, Result};
+pub use error::{Cause, Error, FromValueError, OptionalExtension, Refusal, Result};
 pub use params::{params_from_iter, Params, ParamsFromIter};
-pub use row::{Column, FromRow, MappedRows, Row, RowIndex, Rows};
+pub use raw::Column;
+pub use row::{AndThenRows, FromRow, MappedRows, Row, RowIndex, Rows};
 pub use statement::Statement;
 pub use transaction::{Savepoint, Transaction};
-pub use value::{FromValue, ToValue, ToValueOutput, Type, Value, ValueRef};
+pub use value::{EncodedChar, FromValue, ToValue, ToValueOutput, Type, Value, ValueRef};
 
 /// The programs of README.md, which are tested with the crate's own.
 #[cfg(doctest)]

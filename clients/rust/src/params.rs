@@ -1,10 +1,10 @@
-//! The values for the holes of a statement.
+//! The values for the parameters of a statement.
 
 use crate::error::{Error, Result};
 use crate::raw::{self, Cell};
 use crate::value::{ToValue, ValueRef};
 
-/// The cells of a statement, which get a value each from left to right.
+/// The cells of a statement, which get their values from left to right.
 pub struct Binder<'c> {
     cells: &'c mut [Cell],
     given: usize,
@@ -27,7 +27,7 @@ impl<'c> Binder<'c> {
         Ok(())
     }
 
-    /// `WrongParameterCount` unless each cell got a value and none was left.
+    /// `WrongParameterCount` unless there was exactly one value for each cell.
     #[inline]
     pub(crate) fn finish(self) -> Result<()> {
         let wanted = self.cells.len();
@@ -54,23 +54,23 @@ mod sealed {
     pub trait Sealed {}
 }
 
-/// The values for the holes of a statement, from left to right.
+/// The values for the parameters of a statement, from left to right.
 ///
-/// - `()` for a statement without holes
+/// - `()` for a statement without parameters
 /// - an array or a slice: `[1, 2]`, `&ids[..]`
 /// - a tuple of up to 16 values, which may differ in type: `(1, "ann")`
 /// - [`params!`](crate::params) for any number of values, which may differ in type
-/// - [`params_from_iter()`] for what an iterator gives
+/// - [`params_from_iter()`] for the items of an iterator
 ///
 /// The trait is sealed: only this crate implements it.
 pub trait Params: sealed::Sealed {
-    /// Whether there are certainly no values.
+    /// Returns whether there are certainly no values.
     #[doc(hidden)]
     fn are_none(&self) -> bool {
         false
     }
 
-    /// Puts the values into the cells of a statement.
+    /// Writes the values to the cells of a statement.
     #[doc(hidden)]
     fn bind(self, binder: &mut Binder<'_>) -> Result<()>;
 }
@@ -147,11 +147,11 @@ params_of_tuples! { A B C D E F G H I J K L M N }
 params_of_tuples! { A B C D E F G H I J K L M N O }
 params_of_tuples! { A B C D E F G H I J K L M N O P }
 
-/// What [`params_from_iter`] makes.
+/// The values that [`params_from_iter`] returns.
 #[derive(Clone, Debug)]
 pub struct ParamsFromIter<I>(I);
 
-/// The values that an iterator gives, for a statement whose number of holes is not known when the program is compiled.
+/// Returns the items of an iterator as values, for a statement whose number of parameters is not known when the program is compiled.
 ///
 /// ```
 /// use mmdb::{params_from_iter, Connection, Result};
@@ -183,7 +183,7 @@ where
     }
 }
 
-/// Values for the holes of a statement, which may differ in type: a slice of references.
+/// Values for the parameters of a statement, which may differ in type: a slice of references.
 ///
 /// ```
 /// use mmdb::{params, Connection, Result};

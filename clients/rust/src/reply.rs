@@ -1,10 +1,11 @@
 //! The rows of a reply in the program's own memory.
 
-use crate::error::{Error, Refusal, Result};
+use crate::error::Result;
+use crate::memory;
 use crate::raw::Cell;
 use crate::value::ValueRef;
 
-/// A value: a number, or where a text is among the bytes of all texts.
+/// A value: a number, or the position of a text among the bytes of all texts.
 #[derive(Clone, Copy, Debug)]
 pub(crate) enum PackedValue {
     Number(i64),
@@ -21,7 +22,7 @@ impl PackedValue {
     }
 }
 
-/// The values of rows, row after row. They take a fifth of the room of cells.
+/// The values of rows, row after row. They need a fifth of the memory of cells.
 #[derive(Debug, Default)]
 pub(crate) struct Reply {
     values: Vec<PackedValue>,
@@ -39,34 +40,39 @@ impl Reply {
         &self.texts
     }
 
-    /// Forgets all values. Their room stays.
+    /// Removes all values. The capacity stays.
     #[inline]
     pub(crate) fn clear(&mut self) {
         self.values.clear();
         self.texts.clear();
     }
 
-    /// How many values there is room for.
-    pub(crate) fn room(&self) -> usize {
-        self.values.capacity()
+    /// The number of values and bytes of texts that fit without an allocation.
+    pub(crate) fn capacity(&self) -> usize {
+        self.values.capacity() + self.texts.capacity()
     }
 
-    /// Makes room for so many more values. `Memory` if the system refuses that much.
+    /// Makes room for exactly this many more values. `Refused(Memory)` if the allocation fails.
     pub(crate) fn reserve(&mut self, more: usize) -> Result<()> {
-        self.values.try_reserve_exact(more).map_err(|_| Error::Refused(Refusal::Memory))
+        self.values.try_reserve_exact(more).map_err(|_| crate::Error::MEMORY)
     }
 
-    /// Puts the values of cells behind the others.
+    /// Appends the values of cells. `Refused(Memory)` if an allocation fails; some values may then have been appended.
     #[inline]
-    pub(crate) fn push(&mut self, cells: &[Cell]) {
-        let texts = &mut self.texts;
-        self.values.extend(cells.iter().map(|cell| match cell.number() {
-            Some(number) => PackedValue::Number(number),
-            None => {
-                let (start, text) = (texts.len(), cell.text());
-                texts.extend_from_slice(text);
-                PackedValue::Text { start, length: text.len() as u8 }
-            }
-        }));
+    pub(crate) fn push(&mut self, cells: &[Cell]) -> Result<()> {
+        memory::reserve(&mut self.values, cells.len())?;
+        for cell in cells {
+            let value = match cell.number() {
+                Some(number) => PackedValue::Number(number),
+                None => {
+                    let (start, text) = (self.texts.len(), cell.text());
+                    memory::reserve(&mut self.texts, text.len())?;
+                    self.texts.extend_from_slice(text);
+                    PackedValue::Text { start, length: text.len() as u8 }
+                }
+            };
+            self.values.push(value);
+        }
+        Ok(())
     }
 }

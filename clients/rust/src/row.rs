@@ -1,34 +1,39 @@
 //! Rows of a reply.
 
 use crate::error::{Error, FromValueError, Result};
+use crate::raw::Column;
 use crate::reply::{PackedValue, Reply};
 use crate::value::{FromValue, Type, ValueRef};
+use std::fmt;
 use std::iter::FusedIterator;
 
-/// The name and type of a column of a reply.
-#[derive(Clone, Debug, PartialEq, Eq, Hash)]
-pub struct Column {
-    pub(crate) name: String,
-    pub(crate) data_type: Type,
-}
-
 impl Column {
-    /// The name, as the table has it.
+    /// Returns the name, as the table has it.
     #[must_use]
     pub fn name(&self) -> &str {
-        &self.name
+        std::str::from_utf8(self.name_bytes()).unwrap_or_default()
     }
 
-    /// The type of its values.
+    /// Returns the type of the values.
     #[must_use]
     pub fn data_type(&self) -> Type {
-        self.data_type
+        if self.is_number() {
+            Type::Int
+        } else {
+            Type::Text
+        }
     }
 }
 
-/// A column of a row: its place, counted from 0, or its name. If columns have the same name, it means the first of them.
+impl fmt::Debug for Column {
+    fn fmt(&self, f: &mut fmt::Formatter<'_>) -> fmt::Result {
+        f.debug_struct("Column").field("name", &self.name()).field("data_type", &self.data_type()).finish()
+    }
+}
+
+/// A column of a row: its position, counted from 0, or its name. If several columns have the name, it is the first of them.
 pub trait RowIndex {
-    /// The place of the column. `InvalidColumnIndex` or `InvalidColumnName` if there is none.
+    /// Returns the position of the column. `InvalidColumnIndex` or `InvalidColumnName` if there is no such column.
     fn place(&self, columns: &[Column]) -> Result<usize>;
 }
 
@@ -43,16 +48,27 @@ impl RowIndex for usize {
     }
 }
 
-impl RowIndex for &str {
+impl RowIndex for str {
     fn place(&self, columns: &[Column]) -> Result<usize> {
-        columns
-            .iter()
-            .position(|column| column.name == *self)
-            .ok_or_else(|| Error::InvalidColumnName((*self).to_owned()))
+        let place = columns.iter().position(|column| column.name_bytes() == self.as_bytes());
+        place.ok_or_else(|| Error::invalid_column_name(self))
     }
 }
 
-/// The rows of a reply. They were all read when the query was run, so no other call touches them.
+impl RowIndex for String {
+    fn place(&self, columns: &[Column]) -> Result<usize> {
+        self.as_str().place(columns)
+    }
+}
+
+impl<T: RowIndex + ?Sized> RowIndex for &T {
+    #[inline]
+    fn place(&self, columns: &[Column]) -> Result<usize> {
+        (**self).place(columns)
+    }
+}
+
+/// The rows of a reply. The query read all of them, so no other call changes them.
 ///
 /// ```
 /// use mmdb::{Connection, Result};
@@ -69,7 +85,7 @@ impl RowIndex for &str {
 /// # }
 /// ```
 ///
-/// They are in the statement, which cannot run again while they are in use:
+/// They are stored in the statement, which cannot run again while they are in use:
 ///
 /// ```compile_fail,E0499
 /// # fn main() -> mmdb::Result<()> {
@@ -83,7 +99,7 @@ impl RowIndex for &str {
 /// ```
 #[derive(Clone, Debug)]
 pub struct Rows<'s> {
-    /// The values of the rows that are left, row after row.
+    /// The values of the remaining rows, row after row.
     values: &'s [PackedValue],
     texts: &'s [u8],
     columns: &'s [Column],
@@ -100,18 +116,26 @@ impl<'s> Rows<'s> {
         Row { values, texts: self.texts, columns: self.columns }
     }
 
-    /// The columns of the rows, from left to right.
+    /// Returns the columns of the rows, from left to right.
     #[must_use]
     pub fn columns(&self) -> &'s [Column] {
         self.columns
     }
 
-    /// What a function makes of each row.
+    /// Returns an iterator of what a function returns for each row.
     pub fn mapped<T, F>(self, function: F) -> MappedRows<'s, F>
     where
         F: FnMut(&Row<'s>) -> Result<T>,
     {
         MappedRows { rows: self, function }
+    }
+
+    /// Returns an iterator of what a function returns for each row. Its errors may be of any type.
+    pub fn and_then<T, E, F>(self, function: F) -> AndThenRows<'s, F>
+    where
+        F: FnMut(&Row<'s>) -> Result<T, E>,
+    {
+        AndThenRows { rows: self, function }
     }
 }
 
@@ -148,28 +172,44 @@ impl DoubleEndedIterator for Rows<'_> {
 impl ExactSizeIterator for Rows<'_> {}
 impl FusedIterator for Rows<'_> {}
 
-/// What a function makes of each row, as [`Statement::query_map`](crate::Statement::query_map) gives it.
+/// The iterator that [`Statement::query_map`](crate::Statement::query_map) returns.
 #[derive(Clone, Debug)]
-#[must_use = "no row is mapped until it is asked for"]
+#[must_use = "the function is called as the iterator is used"]
 pub struct MappedRows<'s, F> {
     rows: Rows<'s>,
     function: F,
 }
 
-impl<'s, T, F: FnMut(&Row<'s>) -> Result<T>> Iterator for MappedRows<'s, F> {
-    type Item = Result<T>;
-
-    #[inline]
-    fn next(&mut self) -> Option<Result<T>> {
-        self.rows.next().map(|row| (self.function)(&row))
-    }
-
-    fn size_hint(&self) -> (usize, Option<usize>) {
-        self.rows.size_hint()
-    }
+/// The iterator that [`Statement::query_and_then`](crate::Statement::query_and_then) returns.
+#[derive(Clone, Debug)]
+#[must_use = "the function is called as the iterator is used"]
+pub struct AndThenRows<'s, F> {
+    rows: Rows<'s>,
+    function: F,
 }
 
-impl<'s, T, F: FnMut(&Row<'s>) -> Result<T>> ExactSizeIterator for MappedRows<'s, F> {}
+macro_rules! iterator_of_rows {
+    ($name:ident, $($error:ident)?, $result:ty) => {
+        impl<'s, T, $($error,)? F: FnMut(&Row<'s>) -> $result> Iterator for $name<'s, F> {
+            type Item = $result;
+
+            #[inline]
+            fn next(&mut self) -> Option<$result> {
+                self.rows.next().map(|row| (self.function)(&row))
+            }
+
+            fn size_hint(&self) -> (usize, Option<usize>) {
+                self.rows.size_hint()
+            }
+        }
+
+        impl<'s, T, $($error,)? F: FnMut(&Row<'s>) -> $result> ExactSizeIterator for $name<'s, F> {}
+        impl<'s, T, $($error,)? F: FnMut(&Row<'s>) -> $result> FusedIterator for $name<'s, F> {}
+    };
+}
+
+iterator_of_rows! { MappedRows, , Result<T> }
+iterator_of_rows! { AndThenRows, E, Result<T, E> }
 
 /// A row of a reply. Its texts are borrowed from the statement that was queried.
 ///
@@ -196,50 +236,54 @@ pub struct Row<'s> {
 }
 
 impl<'s> Row<'s> {
-    /// The value of a column, given by its place or its name.
+    /// Returns the value of a column, which is passed as its position or its name.
     ///
     /// - `InvalidColumnIndex` or `InvalidColumnName` if there is no such column
-    /// - `InvalidColumnType` if the value is of another type
-    /// - `ValueOutOfRange` if the type asked for does not have the number
-    /// - `NotUtf8` if a text is no `str`
+    /// - `InvalidColumnType` if the value is a text and `T` is made of a number, or the other way round
+    /// - `ValueOutOfRange` if `T` does not have the number
+    /// - `WrongLength` if `T` is an array or a `char`, and the text is shorter or longer
+    /// - `NotUtf8` if `T` is UTF-8 and the text is not
+    /// - `Refused(Memory)` if the copy of a text cannot be allocated
     #[inline]
     pub fn get<T: FromValue<'s>>(&self, column: impl RowIndex) -> Result<T> {
         let index = column.place(self.columns)?;
         let value = self.values[index].value(self.texts);
-        T::from_value(value).map_err(|error| self.error(index, value, error))
+        T::from_value(value).map_err(|error| self.error(index, error))
     }
 
-    /// The value of a column as it is, given by its place or its name. `InvalidColumnIndex` or `InvalidColumnName` if there is no such
-    /// column.
+    /// Returns the value of a column without a conversion. `InvalidColumnIndex` or `InvalidColumnName` if there is no such column.
     #[inline]
     pub fn get_ref(&self, column: impl RowIndex) -> Result<ValueRef<'s>> {
         Ok(self.values[column.place(self.columns)?].value(self.texts))
     }
 
-    /// The first values of the row, as many as the tuple has, from left to right. The errors are those of [`get`](Row::get).
+    /// Returns the first values of the row as a tuple, or the row as a type that implements [`FromRow`]. The errors are those of
+    /// [`get`](Row::get).
     pub fn values<T: FromRow<'s>>(&self) -> Result<T> {
         T::from_row(self)
     }
 
-    /// The columns of the row, from left to right.
+    /// Returns the columns of the row, from left to right.
     #[must_use]
     pub fn columns(&self) -> &'s [Column] {
         self.columns
     }
 
     #[cold]
-    fn error(&self, index: usize, value: ValueRef<'s>, error: FromValueError) -> Error {
-        let name = self.columns[index].name.clone();
+    fn error(&self, index: usize, error: FromValueError) -> Error {
+        let column = self.columns[index];
         match error {
-            FromValueError::WrongType => Error::InvalidColumnType { index, name, found: value.data_type() },
-            FromValueError::OutOfRange(number) => Error::ValueOutOfRange { index, name, number },
-            FromValueError::NotUtf8(error) => Error::NotUtf8 { index, name, error },
+            FromValueError::WrongType => Error::InvalidColumnType { index, column },
+            FromValueError::OutOfRange(number) => Error::ValueOutOfRange { index, column, number },
+            FromValueError::WrongLength { found, wanted } => Error::WrongLength { index, column, found, wanted },
+            FromValueError::NotUtf8(error) => Error::NotUtf8 { index, column, error },
+            FromValueError::Memory => Error::MEMORY,
             FromValueError::Other(error) => Error::Other(error),
         }
     }
 }
 
-/// A tuple that the first values of a row make, or a type that is made of a row.
+/// A type that is made from a row: a tuple of the first values, or a type of your own.
 ///
 /// ```
 /// use mmdb::{Connection, FromRow, Result, Row};
@@ -265,7 +309,7 @@ impl<'s> Row<'s> {
 /// # }
 /// ```
 pub trait FromRow<'s>: Sized {
-    /// What the row makes.
+    /// Makes the type from a row.
     fn from_row(row: &Row<'s>) -> Result<Self>;
 }
 

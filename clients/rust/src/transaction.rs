@@ -1,13 +1,18 @@
 //! Transactions and savepoints.
 
-use crate::connection::{checked_name, Connection};
-use crate::error::{Error, Result};
+use crate::connection::Connection;
+use crate::error::{Error, Refusal, Result};
+use crate::line::Name;
+use crate::raw::NAME_BYTES;
 use std::ops::Deref;
 
-/// An open transaction. It is rolled back when it is dropped, unless it was committed.
+/// An open transaction. Dropping it rolls it back, unless it was committed.
 ///
-/// It stands for its connection: its calls are those of [`Connection`]. Tables and standing queries cannot be made or dropped in it
+/// A `Transaction` dereferences to its [`Connection`] and has its calls. Tables and standing queries cannot be created or dropped in it
 /// (`Refused(NotInTransaction)`). A refused command leaves it open.
+///
+/// A line such as `COMMIT` may end the transaction too. From then on the `Transaction` does nothing: its calls return
+/// `Refused(NoTransaction)`, and dropping it does not touch a later transaction.
 ///
 /// ```
 /// use mmdb::{Connection, Result};
@@ -33,37 +38,48 @@ use std::ops::Deref;
 #[must_use = "a transaction is rolled back when it is dropped"]
 pub struct Transaction<'c> {
     connection: &'c Connection,
-    is_over: bool,
+    /// The number of transactions that had ended when this one began. It is another one once this transaction has ended too.
+    number: u64,
 }
 
 impl<'c> Transaction<'c> {
     pub(crate) fn begin(connection: &'c Connection) -> Result<Transaction<'c>> {
-        connection.define("BEGIN")?;
-        // None is in use, unless one was leaked.
-        connection.savepoints.borrow_mut().clear();
-        Ok(Transaction { connection, is_over: false })
+        connection.define(b"BEGIN")?;
+        Ok(Transaction { connection, number: connection.ended_transactions.get() })
     }
 
-    /// Keeps all changes of the transaction. `Refused(NoTransaction)` if a line ended it before.
-    pub fn commit(mut self) -> Result<()> {
-        self.is_over = true;
-        self.connection.define("COMMIT")
+    /// Commits all changes of the transaction. `Refused(NoTransaction)` if a line ended it before.
+    pub fn commit(self) -> Result<()> {
+        self.end(b"COMMIT")
     }
 
-    /// Undoes all changes of the transaction. `Refused(NoTransaction)` if a line ended it before.
-    pub fn rollback(mut self) -> Result<()> {
-        self.is_over = true;
-        self.connection.define("ROLLBACK")
+    /// Rolls back all changes of the transaction. `Refused(NoTransaction)` if a line ended it before.
+    pub fn rollback(self) -> Result<()> {
+        self.end(b"ROLLBACK")
     }
 
-    /// Sets a savepoint. Dropping it undoes what came after it, unless it was committed.
+    fn end(&self, line: &[u8]) -> Result<()> {
+        must_be_open(self.connection, self.number)?;
+        self.connection.define(line)
+    }
+
+    /// Sets a savepoint. Dropping it rolls back the changes since, unless it was committed. The savepoint has this name in lines too.
     ///
-    /// - `InvalidName` if the name is none
-    /// - `Refused(TooMany)` if the transaction has 64 savepoints; a savepoint counts until the transaction ends or goes back to an earlier
-    ///   one
+    /// - `Refused(Syntax)` if this is not a name
+    /// - `Refused(TooMany)` if the transaction has 64 savepoints
+    /// - `Refused(NoTransaction)` if a line ended the transaction
     /// - `Refused(Memory)`
     pub fn savepoint(&mut self, name: &str) -> Result<Savepoint<'_>> {
-        Savepoint::set(self.connection, name)
+        Savepoint::set(self.connection, self.number, name)
+    }
+}
+
+/// `Refused(NoTransaction)` if the transaction with this number has ended.
+fn must_be_open(connection: &Connection, number: u64) -> Result<()> {
+    if connection.ended_transactions.get() == number {
+        Ok(())
+    } else {
+        Err(Error::Refused(Refusal::NoTransaction))
     }
 }
 
@@ -77,16 +93,16 @@ impl Deref for Transaction<'_> {
 
 impl Drop for Transaction<'_> {
     fn drop(&mut self) {
-        if !self.is_over {
-            // It is refused only if a line ended the transaction, and then there is nothing to undo.
-            let _ = self.connection.define("ROLLBACK");
-        }
+        // This fails only if the transaction has ended, and then there is nothing to roll back.
+        let _ = self.end(b"ROLLBACK");
     }
 }
 
-/// A savepoint of a transaction. When it is dropped, the changes since it was set are undone, unless it was committed.
+/// A savepoint of a transaction. Dropping it rolls back the changes since it was set, unless it was committed. Either way the savepoint is
+/// released, so a transaction may set any number of them one after another.
 ///
-/// It stands for its connection: its calls are those of [`Connection`]. A savepoint may be set within another one.
+/// A `Savepoint` dereferences to its [`Connection`] and has its calls. Savepoints may be nested, also with the same name. A line that sets a
+/// savepoint of the same name hides this one, as in the language: both calls then go back to the later savepoint.
 ///
 /// ```
 /// use mmdb::{Connection, Result};
@@ -98,7 +114,7 @@ impl Drop for Transaction<'_> {
 /// for id in [1, 2, 1, 3] {
 ///     let savepoint = transaction.savepoint("each")?;
 ///     if savepoint.execute("INSERT t (?)", [id]).is_ok() {
-///         savepoint.commit();
+///         savepoint.commit()?;
 ///     }
 /// }
 /// transaction.commit()?;
@@ -107,46 +123,60 @@ impl Drop for Transaction<'_> {
 /// # }
 /// ```
 #[derive(Debug)]
-#[must_use = "the changes are undone when a savepoint is dropped"]
+#[must_use = "the changes are rolled back when a savepoint is dropped"]
 pub struct Savepoint<'t> {
     connection: &'t Connection,
-    name: String,
+    name: Name,
+    transaction: u64,
     is_over: bool,
 }
 
 impl<'t> Savepoint<'t> {
-    fn set(connection: &'t Connection, name: &str) -> Result<Savepoint<'t>> {
-        let name = checked_name(name)?.to_owned();
-        // ROLLBACK TO goes to the later one of two savepoints of a name, and keeps it: the first one could not be gone back to.
-        if connection.savepoints.borrow().contains(&name) {
-            return Err(Error::SavepointInUse(name));
-        }
-        connection.define(&format!("SAVEPOINT {name}"))?;
-        connection.savepoints.borrow_mut().push(name.clone());
-        Ok(Savepoint { connection, name, is_over: false })
+    fn set(connection: &'t Connection, transaction: u64, name: &str) -> Result<Savepoint<'t>> {
+        must_be_open(connection, transaction)?;
+        let mut savepoint = Savepoint { connection, name: Name::new(name)?, transaction, is_over: true };
+        savepoint.execute_with_name(b"SAVEPOINT ")?;
+        savepoint.is_over = false;
+        Ok(savepoint)
     }
 
-    /// Keeps the changes since the savepoint as changes of the transaction.
-    pub fn commit(mut self) {
+    /// Keeps the changes since the savepoint as changes of the transaction, and releases the savepoint.
+    ///
+    /// `Refused(NoTransaction)` or `Refused(NoSuchSavepoint)` if a line ended the transaction or went back to an earlier savepoint.
+    pub fn commit(mut self) -> Result<()> {
         self.is_over = true;
+        self.release()
     }
 
-    /// Undoes the changes since the savepoint. It stays set. `Refused(NoTransaction)` or `Refused(NoSuchSavepoint)` if a line ended the
-    /// transaction or went back to an earlier savepoint.
+    /// Rolls back the changes since the savepoint, which stays set. The errors are those of [`commit`](Savepoint::commit).
     pub fn rollback(&mut self) -> Result<()> {
-        self.connection.define(&format!("ROLLBACK TO {}", self.name))
+        must_be_open(self.connection, self.transaction)?;
+        self.execute_with_name(b"ROLLBACK TO ")
     }
 
-    /// Sets a savepoint within this one. The errors are those of [`Transaction::savepoint`], and `SavepointInUse` if a savepoint around it
-    /// has the name.
+    /// Sets a savepoint within this one, which may have the same name. The errors are those of [`Transaction::savepoint`].
     pub fn savepoint(&mut self, name: &str) -> Result<Savepoint<'_>> {
-        Savepoint::set(self.connection, name)
+        Savepoint::set(self.connection, self.transaction, name)
     }
 
-    /// The name of the savepoint.
+    /// Returns the name of the savepoint.
     #[must_use]
     pub fn name(&self) -> &str {
-        &self.name
+        self.name.as_str()
+    }
+
+    fn release(&self) -> Result<()> {
+        must_be_open(self.connection, self.transaction)?;
+        Error::check(self.connection.handle.release(self.name.as_bytes()))
+    }
+
+    /// Executes a command that ends in the name of the savepoint. It allocates nothing, so that a rollback cannot fail for want of memory.
+    fn execute_with_name(&self, command: &[u8]) -> Result<()> {
+        let mut line = [0; "ROLLBACK TO ".len() + NAME_BYTES];
+        let length = command.len() + self.name.as_bytes().len();
+        line[..command.len()].copy_from_slice(command);
+        line[command.len()..length].copy_from_slice(self.name.as_bytes());
+        self.connection.define(&line[..length])
     }
 }
 
@@ -161,9 +191,8 @@ impl Deref for Savepoint<'_> {
 impl Drop for Savepoint<'_> {
     fn drop(&mut self) {
         if !self.is_over {
-            // It is refused only if a line ended the transaction or went back further, and then there is nothing to undo.
-            let _ = self.rollback();
+            // Both fail only if a line ended the transaction or went back to an earlier savepoint, and then there is nothing to roll back.
+            let _ = self.rollback().and_then(|()| self.release());
         }
-        self.connection.savepoints.borrow_mut().retain(|name| *name != self.name);
     }
 }

@@ -1,6 +1,6 @@
 //! Standing queries, plans and the catalog.
 
-use mmdb::{Connection, Result};
+use mmdb::{Connection, Error, Result};
 
 #[test]
 fn standing_queries() -> Result<()> {
@@ -29,7 +29,8 @@ fn an_error_of_the_function_is_the_error_of_the_call() -> Result<()> {
     let db = Connection::open()?;
     db.execute_batch("TABLE t (id INT KEY)\nINSERT t (1)\nWATCH w SELECT a.id FROM t a")?;
     assert!(db.show("w", |row| row.get::<String>(0)).is_err());
-    assert!(db.show("w", |_| Err::<(), _>(mmdb::Error::Other("no".into()))).is_err_and(|e| e.to_string() == "no"));
+    let error = db.show("w", |_| Err::<(), _>(mmdb::Error::Other("no".into()))).unwrap_err();
+    assert_eq!(error.to_string(), "no");
     Ok(())
 }
 
@@ -40,6 +41,34 @@ fn plans() -> Result<()> {
     let plan = db.explain("SELECT a.id FROM t a, t b WHERE a.k = 5 AND b.id = a.k")?;
     assert_eq!(plan, ["a hash i", "b built hash id"]);
     assert_eq!(db.explain("SELECT a.id FROM u a").unwrap_err().number(), Some(20));
+    assert_eq!(db.explain("EXPLAIN SELECT a.id FROM t a")?, ["a scan"]);
+    assert_eq!(db.explain("SELECT\n").unwrap_err().number(), Some(11));
+    assert!(matches!(db.explain("SCAN t"), Err(Error::NotAQuery)));
+    Ok(())
+}
+
+#[test]
+fn plans_of_statements_with_parameters() -> Result<()> {
+    let db = Connection::open()?;
+    db.execute_batch("TABLE t (id INT KEY, s TEXT)\nINDEX i ON t (s) HASH")?;
+    assert_eq!(db.explain("SELECT a.s FROM t a WHERE a.id = ?")?, ["a tree #key ="]);
+    assert_eq!(db.explain("SELECT a.s FROM t a WHERE a.s = ?").unwrap_err().number(), Some(30));
+    for line in ["SELECT a.s FROM t a WHERE a.s = ?", "EXPLAIN SELECT a.s FROM t a WHERE a.s = ?"] {
+        let mut statement = db.prepare(line)?;
+        assert_eq!(statement.explain(["x"])?, ["a hash i"]);
+        assert_eq!(statement.explain([1]).unwrap_err().number(), Some(30));
+        assert!(matches!(statement.explain(()), Err(Error::WrongParameterCount { given: 0, wanted: 1 })));
+        assert!(matches!(statement.explain(["x".repeat(65)]), Err(Error::TextTooLong(65))));
+    }
+    // The plan is that of the indexes as they are now, and the statement still runs.
+    let mut find = db.prepare("SELECT a.id FROM t a WHERE a.s = ?")?;
+    db.execute("INSERT t (7, 'x')", ())?;
+    db.execute("DROP INDEX i", ())?;
+    assert_eq!(find.explain(["y"])?, ["a scan"]);
+    assert_eq!(find.query_row(["x"], |row| row.get::<i64>(0))?, 7);
+    for line in ["SCAN t", "TABLES", "INSERT t (?, ?)", "-- nothing", "DELETE t"] {
+        assert!(matches!(db.prepare(line)?.explain(()), Err(Error::NotAQuery)), "{line}");
+    }
     Ok(())
 }
 

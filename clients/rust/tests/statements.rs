@@ -120,13 +120,52 @@ fn many_runs() -> Result<()> {
 
     let error = insert.execute_many([[3000, 0].as_slice(), &[3001], &[3002, 0]]).unwrap_err();
     assert!(matches!(error, Error::InRun { done: 1, .. }));
-    assert_eq!(error.to_string(), "run 2: the statement takes 2 values, and 1 were given");
+    assert_eq!(error.to_string(), "run 2: the statement has 2 parameters, and 1 values were passed");
     assert_eq!(count(&db)?, 2501);
 
-    assert_eq!(db.prepare("UPDATE square SET s = s + 1")?.execute_many([(), (), ()])?, 3);
+    assert_eq!(db.prepare("UPDATE square SET s = s + 1")?.execute_many([(), (), ()])?, 3 * 2501);
     assert_eq!(db.query_row("SCAN square", (), |row| row.get::<i64>("s"))?, 3);
     let error = db.prepare("INSERT square (1, 1)")?.execute_many([()]).unwrap_err();
     assert!(matches!(error, Error::InRun { done: 0, .. }));
+    Ok(())
+}
+
+#[test]
+fn many_runs_return_the_rows_of_all() -> Result<()> {
+    let db = squares(3000)?;
+    let mut update = db.prepare("UPDATE square SET s = 0 WHERE n >= ? AND n < ?")?;
+    assert_eq!(update.execute_many((0..3000).map(|n| [n, n + 2]))?, 5999);
+    let mut delete = db.prepare("DELETE square WHERE n = ?")?;
+    assert_eq!(delete.execute_many([[1], [2], [1], [4000]])?, 2);
+    // What the iterator itself changes in between does not count.
+    let rows = (10..20).map(|n| {
+        db.execute("DELETE square WHERE n = ?", [1000 + n]).unwrap();
+        [n]
+    });
+    assert_eq!(delete.execute_many(rows)?, 10);
+    assert_eq!(count(&db)?, 2978);
+    Ok(())
+}
+
+#[test]
+fn lines_of_several_lines() -> Result<()> {
+    let db = Connection::open()?;
+    db.execute("TABLE t (\n    id INT KEY,\r\n    s TEXT\n)\n", ())?;
+    db.execute("INSERT t\n    (?, ?)", (1, "a"))?;
+    let line = "SELECT a.s\nFROM t a\nWHERE a.id = ?";
+    assert_eq!(db.query_row(line, [1], |row| row.get::<String>(0))?, "a");
+    assert_eq!(db.prepare_cached(line)?.line(), line);
+    assert_eq!((db.columns(line)?.len(), db.explain(line)?.len()), (1, 1));
+    db.watch("w", "SELECT a.s\nFROM t a")?;
+    assert_eq!(db.execute("\n", ())?, 0);
+    assert_eq!(db.execute("INSERT t (2, 'a\nb')", ()).unwrap_err().number(), Some(11));
+    for line in ["-- one\nDELETE t", "--\n"] {
+        assert!(matches!(db.execute(line, ()), Err(Error::CommentHasLineFeed)));
+        assert!(matches!(db.prepare(line), Err(Error::CommentHasLineFeed)));
+    }
+    let error = db.execute("SCAN\nt;", ()).unwrap_err();
+    assert_eq!(db.place_of_refusal("SCAN\nt;", error.refusal().unwrap()), 6);
+    assert_eq!(db.show("w", |row| row.get::<String>(0))?, ["a"]);
     Ok(())
 }
 

@@ -1,6 +1,9 @@
 //! Values come back as they went in.
 
-use mmdb::{params, Connection, Result, ToValue, Value, ValueRef};
+use mmdb::{params, Connection, Error, Result, ToValue, Value, ValueRef};
+use std::borrow::Cow;
+use std::rc::Rc;
+use std::sync::Arc;
 
 fn values() -> Result<Connection> {
     let db = Connection::open()?;
@@ -101,13 +104,79 @@ fn types_of_rust() -> Result<()> {
     ] {
         assert_eq!(of(value)?, Value::Int(number));
     }
-    let owned = String::from("a");
-    for value in [&"a" as &dyn ToValue, &owned, &Value::from("a"), &ValueRef::from("a"), &std::borrow::Cow::from("a")] {
+    let (owned, bytes) = (String::from("a"), b"a".to_vec());
+    for value in [
+        &"a" as &dyn ToValue,
+        &owned,
+        &bytes,
+        &&*bytes,
+        &[b'a'],
+        b"a",
+        &'a',
+        &Box::<str>::from("a"),
+        &Rc::<str>::from("a"),
+        &Arc::<str>::from("a"),
+        &Box::<[u8]>::from(&b"a"[..]),
+        &Rc::new(owned.clone()),
+        &Value::from("a"),
+        &Value::from(bytes.clone()),
+        &ValueRef::from("a"),
+        &Cow::from("a"),
+        &Cow::<str>::from(owned.clone()),
+        &Cow::<[u8]>::from(&b"a"[..]),
+    ] {
         assert_eq!(of(value)?, Value::from("a"));
     }
-    for value in [&u64::MAX as &dyn ToValue, &(i64::MAX as u64 + 1), &(i128::from(i64::MIN) - 1), &usize::MAX] {
-        assert!(matches!(value.to_value(), Err(mmdb::Error::NumberOutOfRange)));
+    assert_eq!(of(&Box::new(7))?, Value::Int(7));
+    for character in ['a', 'é', '日', '🦀', '\0'] {
+        assert_eq!(of(&character)?, Value::from(character.to_string()));
     }
+    for value in [&u64::MAX as &dyn ToValue, &(i64::MAX as u64 + 1), &(i128::from(i64::MIN) - 1), &usize::MAX] {
+        assert!(matches!(value.to_value(), Err(Error::NumberOutOfRange)));
+    }
+    Ok(())
+}
+
+#[test]
+fn texts_as_types_of_rust() -> Result<()> {
+    let db = values()?;
+    db.execute("INSERT t ('é')", ())?;
+    let mut scan = db.prepare("SCAN t")?;
+    let row = scan.query(())?.next().unwrap();
+    let name = String::from("s");
+    assert_eq!((row.get::<&str>(&name)?, row.get::<&str>(name.clone())?, row.get::<&str>(&0)?), ("é", "é", "é"));
+    assert!(matches!(row.get::<&str>(&String::from("x")), Err(Error::InvalidColumnName(name)) if name == "x"));
+    assert_eq!(&*row.get::<Box<str>>(0)?, "é");
+    assert_eq!(&*row.get::<Rc<str>>(0)?, "é");
+    assert_eq!(&*row.get::<Arc<str>>(0)?, "é");
+    assert!(matches!(row.get::<Cow<'_, str>>(0)?, Cow::Borrowed("é")));
+    let bytes = "é".as_bytes();
+    assert_eq!(&*row.get::<Box<[u8]>>(0)?, bytes);
+    assert_eq!(&*row.get::<Rc<[u8]>>(0)?, bytes);
+    assert_eq!(&*row.get::<Arc<[u8]>>(0)?, bytes);
+    assert!(matches!(row.get::<Cow<'_, [u8]>>(0)?, Cow::Borrowed(found) if found == bytes));
+    assert_eq!((row.get::<[u8; 2]>(0)?, row.get::<char>(0)?), ([0xc3, 0xa9], 'é'));
+    let error = row.get::<[u8; 3]>(0).unwrap_err();
+    assert!(matches!(error, Error::WrongLength { index: 0, found: 2, wanted: 3, .. }));
+    assert_eq!(error.to_string(), "column 0 (s) has length 2, and the requested type has length 3");
+    assert!(matches!(row.get::<i64>(0), Err(Error::InvalidColumnType { .. })));
+    db.execute("UPDATE t SET s = 'ab'", ())?;
+    let error = db.query_row("SCAN t", (), |row| row.get::<char>(0)).unwrap_err();
+    assert!(matches!(error, Error::WrongLength { found: 2, wanted: 1, .. }));
+    Ok(())
+}
+
+#[test]
+fn errors_of_another_type() -> Result<()> {
+    let db = values()?;
+    db.execute("INSERT n (1), (2)", ())?;
+    let mut scan = db.prepare("SCAN n")?;
+    let rows = scan.query_and_then((), |row| match row.get::<i64>(0) {
+        Ok(1) => Ok(1),
+        number => Err(format!("{number:?}")),
+    })?;
+    assert_eq!(rows.len(), 2);
+    assert_eq!(rows.collect::<Vec<_>>(), [Ok(1), Err("Ok(2)".to_owned())]);
     Ok(())
 }
 
@@ -123,5 +192,5 @@ fn truth_is_a_number() -> Result<()> {
 #[test]
 fn values_are_ordered_as_the_database_orders_them() {
     assert!(Value::from("10") < Value::from("9") && Value::from(9) < Value::from(10));
-    assert!(Value::from("z") < Value::from("é"));
+    assert!(Value::from("z") < Value::from("é") && Value::from("é") < Value::from(vec![0xff]));
 }

@@ -1,6 +1,6 @@
 //! Transactions and savepoints: what stays, and what is undone when they are dropped.
 
-use mmdb::{Connection, Error, Refusal, Result};
+use mmdb::{Connection, Error, Refusal, Result, Savepoint};
 
 fn numbers() -> Result<Connection> {
     let db = Connection::open()?;
@@ -113,7 +113,7 @@ fn savepoints_are_gone_back_to_unless_committed() -> Result<()> {
     let savepoint = transaction.savepoint("s")?;
     assert_eq!(savepoint.name(), "s");
     add(&savepoint, 3)?;
-    savepoint.commit();
+    savepoint.commit()?;
     transaction.commit()?;
     assert_eq!(all(&db)?, [1, 3]);
     Ok(())
@@ -129,11 +129,11 @@ fn savepoints_nest() -> Result<()> {
     add(&middle, 2)?;
     let inner = middle.savepoint("inner")?;
     add(&inner, 3)?;
-    inner.commit();
+    inner.commit()?;
     middle.rollback()?;
     assert_eq!(all(&middle)?, [1]);
     add(&middle, 4)?;
-    middle.commit();
+    middle.commit()?;
     assert_eq!(all(&outer)?, [1, 4]);
     drop(outer);
     transaction.commit()?;
@@ -142,28 +142,39 @@ fn savepoints_nest() -> Result<()> {
 }
 
 #[test]
-fn a_savepoint_of_the_same_name_inside_is_refused() -> Result<()> {
+fn savepoints_of_one_name_nest() -> Result<()> {
     let mut db = numbers()?;
     let mut transaction = db.transaction()?;
     let mut outer = transaction.savepoint("s")?;
-    let mut inner = outer.savepoint("t")?;
-    assert!(matches!(inner.savepoint("s"), Err(Error::SavepointInUse(name)) if name == "s"));
+    add(&outer, 1)?;
+    let mut inner = outer.savepoint("s")?;
+    add(&inner, 2)?;
+    inner.savepoint("s")?.commit()?;
+    add(&inner, 3)?;
+    inner.rollback()?;
+    assert_eq!(all(&inner)?, [1]);
+    add(&inner, 4)?;
+    inner.commit()?;
+    let inner = outer.savepoint("s")?;
+    add(&inner, 5)?;
     drop(inner);
-    // A name is free again once its savepoint is over.
-    outer.savepoint("t")?.commit();
-    assert!(matches!(outer.savepoint("S"), Err(Error::InvalidName(_))));
-    Ok(())
+    assert_eq!(all(&outer)?, [1, 4]);
+    drop(outer);
+    assert_eq!(all(&transaction)?, []);
+    assert!(matches!(transaction.savepoint("S"), Err(Error::Refused(Refusal::Syntax))));
+    assert!(matches!(transaction.savepoint("s t"), Err(Error::Refused(Refusal::Syntax))));
+    transaction.commit()
 }
 
 #[test]
 fn a_savepoint_that_was_committed_hides_none_around_it() -> Result<()> {
     let mut db = numbers()?;
     let mut transaction = db.transaction()?;
-    transaction.savepoint("a")?.commit();
+    transaction.savepoint("a")?.commit()?;
     add(&transaction, 1)?;
     let mut outer = transaction.savepoint("a")?;
     add(&outer, 2)?;
-    outer.savepoint("b")?.commit();
+    outer.savepoint("b")?.commit()?;
     add(&outer, 3)?;
     drop(outer);
     assert_eq!(all(&transaction)?, [1]);
@@ -171,14 +182,42 @@ fn a_savepoint_that_was_committed_hides_none_around_it() -> Result<()> {
 }
 
 #[test]
-fn a_transaction_has_64_savepoints() -> Result<()> {
+fn a_transaction_has_any_number_of_savepoints_in_a_row() -> Result<()> {
     let mut db = numbers()?;
     let mut transaction = db.transaction()?;
-    for _ in 0..64 {
-        transaction.savepoint("s")?.commit();
+    for number in 0..1000 {
+        let savepoint = transaction.savepoint("each")?;
+        add(&savepoint, number)?;
+        match number % 3 {
+            0 => savepoint.commit()?,
+            1 => drop(savepoint),
+            _ => savepoint.execute("ROLLBACK TO each", ()).map(|_| ())?,
+        }
     }
-    assert!(matches!(transaction.savepoint("s"), Err(Error::Refused(Refusal::TooMany))));
-    add(&transaction, 1)?;
+    transaction.commit()?;
+    assert_eq!(all(&db)?, (0..1000).step_by(3).collect::<Vec<_>>());
+    Ok(())
+}
+
+#[test]
+fn a_transaction_has_64_savepoints_at_a_time() -> Result<()> {
+    fn nested(savepoint: &mut Savepoint<'_>, depth: usize) -> Result<usize> {
+        match savepoint.savepoint("s") {
+            Ok(mut inner) => {
+                let deepest = nested(&mut inner, depth + 1)?;
+                inner.commit()?;
+                Ok(deepest)
+            }
+            Err(Error::Refused(Refusal::TooMany)) => Ok(depth),
+            Err(error) => Err(error),
+        }
+    }
+    let mut db = numbers()?;
+    let mut transaction = db.transaction()?;
+    let mut outermost = transaction.savepoint("s")?;
+    add(&outermost, 1)?;
+    assert_eq!((nested(&mut outermost, 1)?, nested(&mut outermost, 1)?), (64, 64));
+    outermost.commit()?;
     transaction.commit()?;
     assert_eq!(all(&db)?, [1]);
     Ok(())
@@ -191,6 +230,70 @@ fn a_leaked_savepoint_ends_with_its_transaction() -> Result<()> {
     std::mem::forget(transaction.savepoint("s")?);
     transaction.commit()?;
     let mut transaction = db.transaction()?;
-    transaction.savepoint("s")?.commit();
+    transaction.savepoint("s")?.commit()?;
+    assert_eq!(transaction.execute("ROLLBACK TO s", ()).unwrap_err().number(), Some(53));
     transaction.commit()
+}
+
+#[test]
+fn lines_use_the_savepoints_of_the_calls() -> Result<()> {
+    let mut db = numbers()?;
+    let mut transaction = db.transaction()?;
+    let mut outer = transaction.savepoint("outer")?;
+    add(&outer, 1)?;
+    let mut inner = outer.savepoint("inner")?;
+    add(&inner, 2)?;
+    inner.execute("ROLLBACK TO outer", ())?;
+    // That dropped the inner one, and its calls say so.
+    assert_eq!(inner.rollback().unwrap_err().number(), Some(53));
+    add(&inner, 3)?;
+    assert_eq!(inner.commit().unwrap_err().number(), Some(53));
+    assert_eq!(all(&outer)?, [3]);
+    outer.commit()?;
+    transaction.commit()?;
+    assert_eq!(all(&db)?, [3]);
+    Ok(())
+}
+
+#[test]
+fn a_transaction_that_a_line_ended_leaves_the_next_one_alone() -> Result<()> {
+    for end in ["COMMIT", "ROLLBACK"] {
+        let db = numbers()?;
+        let mut first = db.unchecked_transaction()?;
+        let mut savepoint = first.savepoint("s")?;
+        db.execute(end, ())?;
+        let mut second = db.unchecked_transaction()?;
+        add(&db, 1)?;
+        std::mem::forget(second.savepoint("s")?);
+        add(&db, 2)?;
+        assert_eq!(savepoint.rollback().unwrap_err().number(), Some(51));
+        assert_eq!(savepoint.savepoint("t").unwrap_err().number(), Some(51));
+        drop(savepoint);
+        assert_eq!(first.savepoint("s").unwrap_err().number(), Some(51));
+        drop(first);
+        assert!(db.is_in_transaction());
+        second.commit()?;
+        assert_eq!(all(&db)?, [1, 2]);
+    }
+    Ok(())
+}
+
+#[test]
+fn a_prepared_line_and_a_script_can_end_a_transaction_too() -> Result<()> {
+    let db = numbers()?;
+    let mut commit = db.prepare("COMMIT")?;
+    for by_script in [false, true] {
+        let first = db.unchecked_transaction()?;
+        if by_script {
+            db.execute_batch("COMMIT\nBEGIN")?;
+        } else {
+            commit.execute_many([()])?;
+            db.execute("BEGIN", ())?;
+        }
+        add(&db, i64::from(by_script))?;
+        assert_eq!(first.rollback().unwrap_err().number(), Some(51));
+        commit.execute(())?;
+    }
+    assert_eq!(all(&db)?, [0, 1]);
+    Ok(())
 }

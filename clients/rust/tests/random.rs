@@ -1,0 +1,893 @@
+//! Random programs of calls against a model of lists.
+//!
+//! A program is a list of steps, each a number from which its choices are made. They nest: statements are held while other calls run,
+//! transactions and savepoints contain steps, and a connection moves to another thread for some of them. Each reply is compared with the
+//! model, which is in tests/model. What a program contains is told by [`Call`], [`Way`] and the functions of [`Session`].
+//!
+//! `MMDB_SEED` and `MMDB_STEPS` are the seed and the number of steps. A failure prints both, drops steps by halves, as long as the rest still
+//! fails, and prints the calls of what is left.
+
+mod model;
+
+use mmdb::{params_from_iter, Connection, Error, Result, Rows, Savepoint, Statement, Transaction, Type, Value};
+use model::{Change, Model, Op, Reply, Row, Table, Test};
+use std::panic::{catch_unwind, AssertUnwindSafe};
+use std::time::{Duration, Instant};
+
+const DEFAULT_SEED: u64 = 62;
+const DEFAULT_STEPS: usize = 20_000;
+/// How long a failing program is shortened.
+const SHRINKING: Duration = Duration::from_secs(30);
+
+#[test]
+fn random_programs_agree_with_the_model() {
+    let variable = |name: &str| std::env::var(name).ok().map(|value| value.parse::<u64>().expect(name));
+    let seed = variable("MMDB_SEED").unwrap_or(DEFAULT_SEED);
+    let count = variable("MMDB_STEPS").map_or(DEFAULT_STEPS, |steps| steps as usize);
+    let mut random = Random::new(seed);
+    let steps: Vec<u64> = (0..count).map(|_| random.next()).collect();
+    if let Err(failure) = outcome(&steps) {
+        println!("MMDB_SEED={seed} MMDB_STEPS={} fails: {}", failure.step, failure.message);
+        let shrunk = shrunk(&steps[..failure.step], failure);
+        panic!("these calls fail: {}\n{}", shrunk.message, shrunk.log.join("\n"));
+    }
+}
+
+/// A generator of numbers: xorshift.
+struct Random(u64);
+
+impl Random {
+    fn new(seed: u64) -> Random {
+        // Two steps of splitmix, so that seeds that follow one another give unlike numbers.
+        let mixed = (seed.wrapping_add(0x9e37_79b9_7f4a_7c15) ^ (seed >> 30)).wrapping_mul(0xbf58_476d_1ce4_e5b9);
+        Random((mixed ^ (mixed >> 27)).wrapping_mul(0x94d0_49bb_1331_11eb) | 1)
+    }
+
+    fn next(&mut self) -> u64 {
+        self.0 ^= self.0 << 13;
+        self.0 ^= self.0 >> 7;
+        self.0 ^= self.0 << 17;
+        self.0
+    }
+
+    fn below(&mut self, limit: usize) -> usize {
+        (self.next() >> 11) as usize % limit
+    }
+
+    /// True once in this many times.
+    fn once_in(&mut self, times: usize) -> bool {
+        self.below(times) == 0
+    }
+
+    fn one_of<T: Clone>(&mut self, items: &[T]) -> T {
+        items[self.below(items.len())].clone()
+    }
+
+    fn number(&mut self) -> i64 {
+        match self.below(40) {
+            0 => i64::MAX,
+            1 => i64::MIN,
+            n => n as i64 % 15 - 3,
+        }
+    }
+
+    fn text(&mut self) -> Vec<u8> {
+        let longest = "é".repeat(32);
+        let texts = ["", "a", "b", "ab", "it's", "'", "?", "--", "é", "日本", "a b", &longest];
+        match self.below(20) {
+            0 => vec![0xff, 0, b'\r'],
+            n => texts[n % texts.len()].into(),
+        }
+    }
+
+    fn value(&mut self, data_type: Type) -> Value {
+        match data_type {
+            Type::Int => Value::Int(self.number()),
+            Type::Text => Value::Text(self.text()),
+        }
+    }
+
+    /// A value of the type of a column, or rarely of the other one.
+    fn value_of(&mut self, column: &str) -> Value {
+        let is_text = (column == "s") != self.once_in(30);
+        self.value(if is_text { Type::Text } else { Type::Int })
+    }
+}
+
+/// A line with holes, whose effect the model has.
+#[derive(Clone, Debug)]
+enum Call {
+    Insert { table: &'static str, columns: &'static [&'static str], rows: usize },
+    Delete { table: &'static str, column: &'static str, op: Op },
+    Assign { table: &'static str, assigned: &'static str, column: &'static str, op: Op },
+    Shift { table: &'static str, assigned: &'static str, column: &'static str, op: Op },
+    Scan { table: &'static str },
+    Select { table: &'static str, fields: &'static [&'static str], column: &'static str, op: Op },
+    Show,
+    Create { shape: usize },
+    Drop,
+    Begin,
+    Commit,
+    Rollback,
+    Savepoint(&'static str),
+    RollbackTo(&'static str),
+}
+
+/// The forms of the table u, which is dropped and created again: columns, the place of the key, and the line.
+const SHAPES: [(&[(&str, Type)], usize, &str); 2] = [
+    (&[("s", Type::Text), ("n", Type::Int)], 0, "TABLE u (s TEXT KEY, n INT)"),
+    (&[("n", Type::Int), ("m", Type::Int), ("s", Type::Text)], 1, "TABLE u (n INT, m INT KEY, s TEXT)"),
+];
+const COLUMNS: [&[&str]; 4] = [&["n", "s"], &["s", "n"], &["n", "m", "s"], &["n"]];
+const NAMES: [&str; 2] = ["a", "b"];
+
+/// What a call returns.
+#[derive(Clone, Debug, PartialEq)]
+enum Answer {
+    Count(usize),
+    Rows(Vec<Row>),
+}
+
+impl Call {
+    /// A call that reads or changes rows.
+    fn of_rows(random: &mut Random) -> Call {
+        let table = random.one_of(&["t", "t", "u"]);
+        let (column, assigned) = (random.one_of(&["n", "n", "s", "m"]), random.one_of(&["n", "s", "s", "m"]));
+        let op = random.one_of(&[Op::Equal, Op::Equal, Op::Less, Op::AtLeast]);
+        match random.below(12) {
+            0..=3 => {
+                let own: &[&[&str]] = if table == "t" { &COLUMNS[..1] } else { &COLUMNS[1..3] };
+                let columns = if random.once_in(15) { random.one_of(&COLUMNS) } else { random.one_of(own) };
+                Call::Insert { table, columns, rows: 1 + random.below(3) / 2 }
+            }
+            4 => Call::Delete { table, column, op },
+            5 => Call::Assign { table, assigned, column, op },
+            6 => Call::Shift { table, assigned, column, op },
+            7..=8 => Call::Scan { table },
+            9..=10 => Call::Select { table, fields: random.one_of(&COLUMNS), column, op },
+            _ => Call::Show,
+        }
+    }
+
+    fn any(random: &mut Random) -> Call {
+        match random.below(40) {
+            0..=1 => Call::Create { shape: random.below(2) },
+            2 => Call::Drop,
+            3 => Call::Begin,
+            4 => Call::Commit,
+            5 => Call::Rollback,
+            6..=7 => Call::Savepoint(random.one_of(&NAMES)),
+            8..=9 => Call::RollbackTo(random.one_of(&NAMES)),
+            _ => Call::of_rows(random),
+        }
+    }
+
+    fn line(&self) -> String {
+        match self {
+            Call::Insert { table, columns, rows } => {
+                let row = format!("({})", vec!["?"; columns.len()].join(", "));
+                format!("INSERT {table} {}", vec![row; *rows].join(", "))
+            }
+            Call::Delete { table, column, op } => format!("DELETE {table} WHERE {column} {} ?", op.sign()),
+            Call::Assign { table, assigned, column, op } => {
+                format!("UPDATE {table} SET {assigned} = ? WHERE {column} {} ?", op.sign())
+            }
+            Call::Shift { table, assigned, column, op } => {
+                format!("UPDATE {table} SET {assigned} = {assigned} + ? WHERE {column} {} ?", op.sign())
+            }
+            Call::Scan { table } => format!("SCAN {table}"),
+            Call::Select { table, fields, column, op } => {
+                let fields: Vec<String> = fields.iter().map(|field| format!("a.{field}")).collect();
+                format!("SELECT {} FROM {table} a WHERE a.{column} {} ?", fields.join(", "), op.sign())
+            }
+            Call::Show => "SHOW w".into(),
+            Call::Create { shape } => SHAPES[*shape].2.into(),
+            Call::Drop => "DROP TABLE u".into(),
+            Call::Begin => "BEGIN".into(),
+            Call::Commit => "COMMIT".into(),
+            Call::Rollback => "ROLLBACK".into(),
+            Call::Savepoint(name) => format!("SAVEPOINT {name}"),
+            Call::RollbackTo(name) => format!("ROLLBACK TO {name}"),
+        }
+    }
+
+    fn values(&self, random: &mut Random) -> Vec<Value> {
+        match self {
+            Call::Insert { columns, rows, .. } => {
+                (0..columns.len() * rows).map(|place| random.value_of(columns[place % columns.len()])).collect()
+            }
+            Call::Assign { assigned, column, .. } => vec![random.value_of(assigned), random.value_of(column)],
+            Call::Shift { column, .. } => vec![random.value_of("n"), random.value_of(column)],
+            Call::Delete { column, .. } | Call::Select { column, .. } => vec![random.value_of(column)],
+            _ => vec![],
+        }
+    }
+
+    fn is_query(&self) -> bool {
+        matches!(self, Call::Scan { .. } | Call::Select { .. } | Call::Show)
+    }
+
+    fn run(&self, model: &mut Model, values: &[Value]) -> Reply<Answer> {
+        let test = |column, op| Test { column, op, value: values[values.len() - 1].clone() };
+        let done = |()| Answer::Count(0);
+        match *self {
+            Call::Insert { table, columns, .. } => {
+                let rows: Vec<Row> = values.chunks(columns.len()).map(<[Value]>::to_vec).collect();
+                model.insert(table, &rows).map(Answer::Count)
+            }
+            Call::Delete { table, column, op } => model.delete(table, &test(column, op)).map(Answer::Count),
+            Call::Assign { table, assigned, column, op } => {
+                model.update(table, assigned, &Change::To(values[0].clone()), &test(column, op)).map(Answer::Count)
+            }
+            Call::Shift { table, assigned, column, op } => {
+                model.update(table, assigned, &Change::Plus(values[0].clone()), &test(column, op)).map(Answer::Count)
+            }
+            Call::Scan { table } => model.scan(table).map(Answer::Rows),
+            Call::Select { table, fields, column, op } => {
+                model.select(table, fields, &test(column, op)).map(Answer::Rows)
+            }
+            Call::Show => {
+                let all = Test { column: "n", op: Op::AtLeast, value: Value::Int(0) };
+                model.select("t", &["s", "n"], &all).map(Answer::Rows)
+            }
+            Call::Create { shape } => model.create("u", Table::new(SHAPES[shape].0, SHAPES[shape].1)).map(done),
+            Call::Drop => model.drop_table("u").map(done),
+            Call::Begin => model.begin().map(done),
+            Call::Commit => model.commit().map(done),
+            Call::Rollback => model.rollback().map(done),
+            Call::Savepoint(name) => model.savepoint(name).map(done),
+            Call::RollbackTo(name) => model.rollback_to(name).map(done),
+        }
+    }
+
+    /// The columns of the rows, as the model has them.
+    fn columns(&self, model: &Model) -> Vec<(String, Type)> {
+        let of = |table: &str, fields: Option<&[&str]>| -> Vec<(String, Type)> {
+            let columns = model.table(table).map_or(vec![], |table| table.columns.clone());
+            let find = |field: &&str| columns.iter().find(|column| column.0 == *field).copied();
+            let found: Option<Vec<_>> = fields.map_or(Some(columns.clone()), |fields| fields.iter().map(find).collect());
+            found.unwrap_or_default().iter().map(|(name, data_type)| (String::from(*name), *data_type)).collect()
+        };
+        match self {
+            Call::Scan { table } => of(table, None),
+            Call::Select { table, fields, .. } => of(table, Some(fields)),
+            Call::Show => of("t", Some(&["s", "n"])),
+            _ => vec![],
+        }
+    }
+}
+
+/// The way in which a call is made.
+#[derive(Clone, Copy, Debug, PartialEq)]
+enum Way {
+    /// The line has the values as literals.
+    Literals,
+    /// The line has line feeds for its spaces.
+    SeveralLines,
+    /// The line is prepared for the call.
+    Prepared,
+    /// The statement comes from the cache.
+    Cached,
+}
+
+/// The line with literals in its holes; None if a value has none.
+fn with_literals(call: &Call, values: &[Value]) -> Option<String> {
+    let line = call.line();
+    let mut parts = line.split('?');
+    let mut whole = String::from(parts.next()?);
+    for (value, part) in values.iter().zip(parts) {
+        match value {
+            // The digits of a shift have no minus and no quotes.
+            Value::Int(number) if *number < 0 && whole.ends_with("+ ") => return None,
+            Value::Text(_) if whole.ends_with("+ ") => return None,
+            Value::Int(number) => whole += &number.to_string(),
+            Value::Text(_) => whole += &format!("'{}'", value.as_str().ok()?.replace('\'', "''")),
+        }
+        whole += part;
+    }
+    Some(whole)
+}
+
+/// A reply without what the model does not have: the number of a refusal, or the name of the variant of another error.
+fn plain<T>(result: Result<T>) -> std::result::Result<T, String> {
+    result.map_err(|error| match error.number() {
+        Some(number) => number.to_string(),
+        None => format!("{error:?}").split(|c: char| !c.is_alphanumeric()).next().unwrap_or_default().to_owned(),
+    })
+}
+
+fn expected<T>(reply: Reply<T>) -> std::result::Result<T, String> {
+    reply.map_err(|number| number.to_string())
+}
+
+fn values_of(row: &mmdb::Row<'_>) -> Row {
+    (0..row.columns().len()).map(|place| row.get(place).unwrap()).collect()
+}
+
+fn columns_of(columns: &[mmdb::Column]) -> Vec<(String, Type)> {
+    columns.iter().map(|column| (column.name().to_owned(), column.data_type())).collect()
+}
+
+/// A connection with its model.
+struct World {
+    db: Connection,
+    model: Model,
+}
+
+impl World {
+    fn new() -> World {
+        let db = Connection::open().unwrap();
+        db.execute_batch("TABLE t (n INT KEY, s TEXT)\nWATCH w SELECT a.s, a.n FROM t a WHERE a.n >= 0").unwrap();
+        let mut model = Model::default();
+        model.create("t", Table::new(&[("n", Type::Int), ("s", Type::Text)], 0)).unwrap();
+        World { db, model }
+    }
+}
+
+/// A prepared statement that is kept.
+struct Held<'c> {
+    call: Call,
+    statement: Statement<'c>,
+}
+
+/// A transaction or a savepoint.
+trait Guard {
+    fn set(&mut self, name: &str) -> Result<Savepoint<'_>>;
+
+    fn db(&self) -> &Connection;
+}
+
+impl Guard for Transaction<'_> {
+    fn set(&mut self, name: &str) -> Result<Savepoint<'_>> {
+        self.savepoint(name)
+    }
+
+    fn db(&self) -> &Connection {
+        self
+    }
+}
+
+impl Guard for Savepoint<'_> {
+    fn set(&mut self, name: &str) -> Result<Savepoint<'_>> {
+        self.savepoint(name)
+    }
+
+    fn db(&self) -> &Connection {
+        self
+    }
+}
+
+/// A run of a program.
+struct Session<'s> {
+    steps: &'s [u64],
+    /// The number of steps that were begun.
+    step: usize,
+    log: Vec<String>,
+    logs: bool,
+}
+
+impl Session<'_> {
+    fn next(&mut self) -> Option<Random> {
+        let random = self.steps.get(self.step).copied().map(Random::new);
+        self.step += usize::from(random.is_some());
+        random
+    }
+
+    fn log(&mut self, line: impl FnOnce() -> String) {
+        if self.logs {
+            let line = line();
+            self.log.push(line);
+        }
+    }
+
+    /// Steps while no statement is held.
+    fn program(&mut self, worlds: &mut [World; 2]) {
+        while let Some(mut random) = self.next() {
+            if random.once_in(2) {
+                worlds.swap(0, 1);
+                self.log(|| "the other connection".into());
+            }
+            let (world, other) = worlds.split_at_mut(1);
+            let (world, other) = (&mut world[0], &mut other[0]);
+            match random.below(12) {
+                0..=2 => self.transaction_of_the_only_reference(world, other, &mut random),
+                3..=5 => self.holding(&world.db, &mut world.model, other, &mut vec![]),
+                6 => self.in_another_thread(world, other),
+                7 if random.once_in(4) => {
+                    self.log(|| "open again".into());
+                    *world = World::new();
+                }
+                _ => self.simple(&world.db, &mut world.model, &mut random),
+            }
+            self.compare(&world.db, &mut world.model, random.once_in(4));
+        }
+    }
+
+    /// Moves a connection to another thread, and back after some steps.
+    fn in_another_thread(&mut self, world: &mut World, other: &mut World) {
+        self.log(|| "in another thread {".into());
+        let mut moved = std::mem::replace(world, World::new());
+        *world = std::thread::scope(|scope| {
+            let thread = scope.spawn(move || {
+                self.holding(&moved.db, &mut moved.model, other, &mut vec![]);
+                self.log(|| "}".into());
+                moved
+            });
+            thread.join().unwrap_or_else(|failure| std::panic::resume_unwind(failure))
+        });
+    }
+
+    fn transaction_of_the_only_reference(&mut self, world: &mut World, other: &mut World, random: &mut Random) {
+        let begun = world.db.transaction();
+        self.transaction(begun, None, &mut world.model, other, &mut vec![], random);
+    }
+
+    /// Steps while statements are held.
+    fn holding<'c>(&mut self, db: &'c Connection, model: &mut Model, other: &mut World, held: &mut Vec<Held<'c>>) {
+        while let Some(mut random) = self.next() {
+            match random.below(24) {
+                0 => return,
+                1..=3 => {
+                    let begun = db.unchecked_transaction();
+                    self.transaction(begun, Some(db), model, other, held, &mut random);
+                }
+                4 => self.simple(&other.db, &mut other.model, &mut random),
+                _ => self.step_with_statements(db, model, held, &mut random),
+            }
+            self.compare(db, model, random.once_in(8));
+        }
+    }
+
+    /// Steps in a transaction, if it has begun, and its end. Statements are held if there is another reference to the connection.
+    fn transaction<'c>(
+        &mut self,
+        begun: Result<Transaction<'_>>,
+        db: Option<&'c Connection>,
+        model: &mut Model,
+        other: &mut World,
+        held: &mut Vec<Held<'c>>,
+        random: &mut Random,
+    ) {
+        assert_eq!(plain(begun.as_ref().map(|_| ()).map_err(copy_of)), expected(model.begin()), "begin");
+        let mut transaction = match begun {
+            Ok(transaction) => transaction,
+            Err(_) => return,
+        };
+        self.log(|| "transaction {".into());
+        let number = model.ended;
+        self.within(&mut transaction, db, number, model, other, held);
+        let is_over = model.ended != number;
+        let end = random.one_of(&[Call::Commit, Call::Commit, Call::Rollback, Call::Drop]);
+        self.log(|| format!("}} {end:?}"));
+        let found = match end {
+            Call::Commit => transaction.commit(),
+            Call::Rollback => transaction.rollback(),
+            _ => {
+                drop(transaction);
+                if !is_over {
+                    model.rollback().unwrap();
+                }
+                return;
+            }
+        };
+        let reply = match end {
+            _ if is_over => Err(51),
+            Call::Commit => model.commit(),
+            _ => model.rollback(),
+        };
+        assert_eq!(plain(found), expected(reply), "{end:?}");
+    }
+
+    /// Steps within a transaction or a savepoint, which is over if the transaction with this number has ended.
+    fn within<'c>(
+        &mut self,
+        guard: &mut dyn Guard,
+        db: Option<&'c Connection>,
+        number: u64,
+        model: &mut Model,
+        other: &mut World,
+        held: &mut Vec<Held<'c>>,
+    ) {
+        while let Some(mut random) = self.next() {
+            match random.below(24) {
+                0..=1 => return,
+                2..=6 => {
+                    let name = random.one_of(&NAMES);
+                    let reply = if model.ended == number { model.savepoint(name) } else { Err(51) };
+                    let set = guard.set(name);
+                    assert_eq!(plain(set.as_ref().map(|_| ()).map_err(copy_of)), expected(reply), "savepoint {name}");
+                    if let Ok(mut savepoint) = set {
+                        self.log(|| format!("savepoint {name} {{"));
+                        self.within(&mut savepoint, db, number, model, other, held);
+                        self.end_savepoint(savepoint, name, number, model, &mut random);
+                    }
+                }
+                7 => self.simple(&other.db, &mut other.model, &mut random),
+                _ => match db {
+                    Some(db) => self.step_with_statements(db, model, held, &mut random),
+                    None => self.simple(guard.db(), model, &mut random),
+                },
+            }
+            self.compare(guard.db(), model, random.once_in(8));
+        }
+    }
+
+    fn end_savepoint(
+        &mut self,
+        mut savepoint: Savepoint<'_>,
+        name: &'static str,
+        number: u64,
+        model: &mut Model,
+        random: &mut Random,
+    ) {
+        let is_over = model.ended != number;
+        let end = random.below(8);
+        self.log(|| format!("}} {}", ["commit", "commit", "commit", "leak", "rollback and commit"].get(end).unwrap_or(&"drop")));
+        if end == 3 && random.once_in(4) {
+            std::mem::forget(savepoint);
+            return;
+        }
+        if end == 4 {
+            let reply = if is_over { Err(51) } else { model.rollback_to(name) };
+            assert_eq!(plain(savepoint.rollback()), expected(reply), "rollback to {name}");
+        }
+        if end <= 4 {
+            let reply = if is_over { Err(51) } else { model.release(name) };
+            assert_eq!(plain(savepoint.commit()), expected(reply), "commit {name}");
+        } else {
+            drop(savepoint);
+            if !is_over && model.rollback_to(name).is_ok() {
+                model.release(name).unwrap();
+            }
+        }
+    }
+
+    fn step_with_statements<'c>(
+        &mut self,
+        db: &'c Connection,
+        model: &mut Model,
+        held: &mut Vec<Held<'c>>,
+        random: &mut Random,
+    ) {
+        let place = random.below(held.len().max(1));
+        match random.below(12) {
+            0..=2 if held.len() < 6 => {
+                let call = if random.once_in(4) { Call::any(random) } else { Call::of_rows(random) };
+                self.log(|| format!("hold {}", call.line()));
+                let is_cached = random.once_in(3);
+                let statement = if is_cached { db.prepare_cached(&call.line()) } else { db.prepare(&call.line()) };
+                held.push(Held { statement: statement.unwrap(), call });
+            }
+            3 if place < held.len() => {
+                let dropped = held.swap_remove(place);
+                self.log(|| format!("let go {}", dropped.call.line()));
+                if random.once_in(4) {
+                    dropped.statement.finalize();
+                }
+            }
+            4..=8 if place < held.len() => {
+                let Held { call, statement } = &mut held[place];
+                let values = call.values(random);
+                self.log(|| format!("held {} {values:?}", call.line()));
+                match random.below(8) {
+                    0..=2 if call.is_query() => self.half_read(statement, call, &values, db, model, random),
+                    3 => self.misuse(statement, call, &values, random),
+                    _ => run_statement(statement, call, &values, model),
+                }
+            }
+            _ => self.simple(db, model, random),
+        }
+    }
+
+    /// Reads some rows, makes other calls, and reads the other rows.
+    fn half_read(
+        &mut self,
+        statement: &mut Statement<'_>,
+        call: &Call,
+        values: &[Value],
+        db: &Connection,
+        model: &mut Model,
+        random: &mut Random,
+    ) {
+        let reply = expected(call.run(model, values));
+        let found = plain(statement.query(params_from_iter(values)));
+        let (mut rows, expected_rows) = match (found, reply) {
+            (Ok(rows), Ok(Answer::Rows(expected))) => (rows, expected),
+            (found, reply) => return assert_eq!(found.map(|_| ()), reply.map(|_| ()), "{call:?}"),
+        };
+        assert_eq!((rows.len(), columns_of(rows.columns())), (expected_rows.len(), call.columns(model)), "{call:?}");
+        let first = random.below(expected_rows.len() + 1);
+        let front: Vec<Row> = rows.by_ref().take(first).map(|row| values_of(&row)).collect();
+        self.log(|| format!("{first} rows were read"));
+        for _ in 0..random.below(3) {
+            self.simple(db, model, random);
+        }
+        if random.once_in(3) {
+            return assert_eq!(front, expected_rows[..first], "{call:?}");
+        }
+        assert_eq!([front, rest_of(rows)].concat(), expected_rows, "{call:?}");
+    }
+
+    /// Passes values that do not fit, or makes a call of another kind. Nothing changes, and the statement can be used again.
+    fn misuse(&mut self, statement: &mut Statement<'_>, call: &Call, values: &[Value], random: &mut Random) {
+        let mut wrong = values.to_vec();
+        let (name, is_executed) = match random.below(5) {
+            0 => {
+                wrong.push(Value::Int(1));
+                ("WrongParameterCount", !call.is_query())
+            }
+            1 if !wrong.is_empty() => {
+                wrong.pop();
+                ("WrongParameterCount", !call.is_query())
+            }
+            2 if !wrong.is_empty() => {
+                let place = random.below(wrong.len());
+                wrong[place] = Value::from(vec![b'x'; 65]);
+                ("TextTooLong", !call.is_query())
+            }
+            3 if !wrong.is_empty() => {
+                let place = random.below(wrong.len());
+                wrong[place] = Value::from("a\nb");
+                ("TextHasLineFeed", !call.is_query())
+            }
+            _ if call.is_query() => ("ExecuteReturnedRows", true),
+            _ => ("NotAQuery", false),
+        };
+        self.log(|| format!("misuse {name} {wrong:?}"));
+        let found = if is_executed {
+            plain(statement.execute(params_from_iter(&wrong)).map(|_| ()))
+        } else {
+            plain(statement.query(params_from_iter(&wrong)).map(|_| ()))
+        };
+        assert_eq!(found, Err(name.to_owned()), "{call:?}");
+    }
+
+    /// A step without a held statement.
+    fn simple(&mut self, db: &Connection, model: &mut Model, random: &mut Random) {
+        match random.below(16) {
+            0..=1 => self.batch(db, model, random),
+            2 => self.script(db, model, random),
+            3 => self.questions(db, model, random),
+            4 => self.refused(db, random),
+            _ => {
+                let call = if random.once_in(3) { Call::any(random) } else { Call::of_rows(random) };
+                let way = random.one_of(&[Way::Literals, Way::SeveralLines, Way::Prepared, Way::Cached]);
+                let values = call.values(random);
+                self.log(|| format!("{way:?} {} {values:?}", call.line()));
+                make(db, model, &call, &values, way);
+            }
+        }
+    }
+
+    /// Runs a statement for many rows of values. The iterator of the values makes a call of its own.
+    fn batch(&mut self, db: &Connection, model: &mut Model, random: &mut Random) {
+        let call = std::iter::repeat_with(|| Call::of_rows(random)).find(|call| !call.is_query()).unwrap();
+        let is_long = random.once_in(12);
+        let count = if is_long { 400 + random.below(400) } else { random.below(6) };
+        let mut rows: Vec<Vec<Value>> = (0..count).map(|_| call.values(random)).collect();
+        if is_long && matches!(call, Call::Insert { .. }) {
+            rows.iter_mut().zip(1000..).for_each(|(row, key)| row.iter_mut().for_each(|value| *value = renumbered(value, key)));
+        }
+        let mut spoilt = count;
+        if count > 0 && random.once_in(4) {
+            spoilt = random.below(count);
+            rows[spoilt].pop();
+        }
+        self.log(|| format!("many {} {} rows, wrong one {spoilt} {:?}", call.line(), count, &rows[..count.min(6)]));
+        // What the iterator does comes before the runs, as long as the values of all of them fit in one call of the library.
+        let nested = (!is_long && count > 0 && random.once_in(4)).then(|| (random.below(count), Call::of_rows(random)));
+        let nested_values = nested.as_ref().map_or(vec![], |(_, call)| call.values(random));
+        let mut statement = db.prepare(&call.line()).unwrap();
+        let found = statement.execute_many(rows.iter().enumerate().map(|(place, row)| {
+            match &nested {
+                Some((at, call)) if *at == place && place <= spoilt => make(db, model, call, &nested_values, Way::Prepared),
+                _ => {}
+            }
+            params_from_iter(row)
+        }));
+        let (mut done, mut changed, mut failure) = (0, 0, None);
+        for row in &rows {
+            let reply = if done == spoilt { Err("WrongParameterCount".into()) } else { expected(call.run(model, row)) };
+            match reply {
+                Ok(Answer::Count(rows)) => changed += rows,
+                Ok(Answer::Rows(_)) => unreachable!("a query in a batch"),
+                Err(refusal) => {
+                    failure = Some(refusal);
+                    break;
+                }
+            }
+            done += 1;
+        }
+        match (found, failure) {
+            (Ok(found), None) => assert_eq!(found, changed, "{call:?}"),
+            (Err(Error::InRun { done: found, error }), Some(failure)) => {
+                assert_eq!((found, plain::<()>(Err(error.into_error()))), (done, Err(failure)), "{call:?}");
+            }
+            (found, failure) => panic!("{call:?}: {found:?} and not {failure:?}"),
+        }
+    }
+
+    fn script(&mut self, db: &Connection, model: &mut Model, random: &mut Random) {
+        let mut lines = Vec::new();
+        let mut failure = None;
+        for number in 1..=random.below(5) {
+            let call = Call::any(random);
+            let values = call.values(random);
+            if let Some(line) = with_literals(&call, &values) {
+                lines.push(line);
+                lines.push(random.one_of(&["", "-- a comment", "  "]).to_owned());
+                if failure.is_none() {
+                    failure = call.run(model, &values).err().map(|refusal| (lines.len() - 1, refusal));
+                }
+            }
+            self.log(|| format!("script {number} {}", lines.last().map_or("", |line| line)));
+        }
+        match (db.execute_batch(&lines.join(random.one_of(&["\n", "\r\n"]))), failure) {
+            (Ok(()), None) => {}
+            (Err(Error::InLine { line, error }), Some((place, refusal))) => {
+                assert_eq!((line, error.number()), (place, Some(refusal)), "{lines:?}");
+            }
+            (found, failure) => panic!("{lines:?}: {found:?} and not {failure:?}"),
+        }
+    }
+
+    /// Asks for columns, plans and the catalog.
+    fn questions(&mut self, db: &Connection, model: &mut Model, random: &mut Random) {
+        let call = Call::of_rows(random);
+        self.log(|| format!("questions about {}", call.line()));
+        assert_eq!(columns_of(&db.columns(&call.line()).unwrap()), call.columns(model), "{call:?}");
+        let statement = db.prepare_cached(&call.line()).unwrap();
+        assert_eq!(columns_of(&statement.columns().unwrap()), call.columns(model), "{call:?}");
+        if let Call::Select { table, fields, column, op } = call.clone() {
+            let values = call.values(random);
+            let test = Test { column, op, value: values[0].clone() };
+            let reply = expected(model.select(table, fields, &test).map(|_| 1));
+            let mut statement = db.prepare(&call.line()).unwrap();
+            assert_eq!(plain(statement.explain(params_from_iter(&values)).map(|plan| plan.len())), reply, "{call:?}");
+        }
+        let (tables, indexes_and_watches) = (1 + usize::from(model.table("u").is_ok()), 1);
+        assert_eq!(db.tables().unwrap().len(), tables + indexes_and_watches);
+        if random.once_in(4) {
+            db.set_statement_cache_capacity(random.below(4));
+        }
+    }
+
+    /// Lines that are refused whatever the state is.
+    fn refused(&mut self, db: &Connection, random: &mut Random) {
+        let (line, failure) = random.one_of(&[
+            ("SCAN t;", "11"),
+            ("INSERT t (9223372036854775808, '')", "12"),
+            ("DELETE nobody", "20"),
+            ("INSERT t (?, ?)", "WrongParameterCount"),
+            ("SCAN t", "ExecuteReturnedRows"),
+            ("TABLES", "ExecuteReturnedRows"),
+            ("-- a\nDELETE t", "CommentHasLineFeed"),
+            ("INSERT t (1, 'a\nb')", "11"),
+        ]);
+        self.log(|| format!("refused {line:?}"));
+        assert_eq!(plain(db.execute(line, ())), Err(failure.to_owned()), "{line:?}");
+    }
+
+    /// Compares what is there with the model, all rows or only a little.
+    fn compare(&mut self, db: &Connection, model: &mut Model, all: bool) {
+        assert_eq!(db.is_in_transaction(), model.is_in_transaction());
+        if all {
+            for call in [Call::Scan { table: "t" }, Call::Scan { table: "u" }, Call::Show] {
+                make(db, model, &call, &[], Way::Cached);
+            }
+        }
+    }
+}
+
+/// A value that no other row of a long batch has in its place.
+fn renumbered(value: &Value, key: i64) -> Value {
+    match value {
+        Value::Int(_) => Value::Int(key),
+        Value::Text(_) => Value::from(key.to_string()),
+    }
+}
+
+/// An error like this one, as far as [`plain`] looks.
+fn copy_of(error: &Error) -> Error {
+    error.refusal().map_or(Error::Unexpected(0), Error::Refused)
+}
+
+fn rest_of(rows: Rows<'_>) -> Vec<Row> {
+    rows.map(|row| values_of(&row)).collect()
+}
+
+/// Makes a call in some way, and compares the reply with the model's.
+fn make(db: &Connection, model: &mut Model, call: &Call, values: &[Value], way: Way) {
+    let literal = with_literals(call, values).filter(|_| way == Way::Literals);
+    let several = call.line().replace(' ', "\n");
+    match (way, literal) {
+        (Way::Literals, Some(line)) => run_statement_or_line(db, call, &line, &[], values, model),
+        (Way::SeveralLines, _) => run_statement_or_line(db, call, &several, values, values, model),
+        (Way::Cached, _) => run_statement(&mut db.prepare_cached(&call.line()).unwrap(), call, values, model),
+        _ => run_statement_or_line(db, call, &call.line(), values, values, model),
+    }
+}
+
+/// Executes or queries a line with values, of which the model gets its own.
+fn run_statement_or_line(
+    db: &Connection,
+    call: &Call,
+    line: &str,
+    values: &[Value],
+    of_model: &[Value],
+    model: &mut Model,
+) {
+    let reply = expected(call.run(model, of_model));
+    let found = if call.is_query() {
+        plain(db.prepare(line).and_then(|mut statement| answer(&mut statement, call, values, model)))
+    } else if values.is_empty() {
+        plain(db.execute(line, ()).map(Answer::Count))
+    } else {
+        plain(db.execute(line, params_from_iter(values)).map(Answer::Count))
+    };
+    assert_eq!(found, reply, "{line} {values:?}");
+}
+
+fn run_statement(statement: &mut Statement<'_>, call: &Call, values: &[Value], model: &mut Model) {
+    let reply = expected(call.run(model, values));
+    assert_eq!(plain(answer(statement, call, values, model)), reply, "{} {values:?}", call.line());
+}
+
+/// Runs a statement and reads its reply.
+fn answer(statement: &mut Statement<'_>, call: &Call, values: &[Value], model: &Model) -> Result<Answer> {
+    if !call.is_query() {
+        return statement.execute(params_from_iter(values)).map(Answer::Count);
+    }
+    let rows = statement.query(params_from_iter(values))?;
+    assert_eq!(columns_of(rows.columns()), call.columns(model), "{call:?}");
+    Ok(Answer::Rows(rest_of(rows)))
+}
+
+/// Where and how a program failed, and the calls up to there.
+struct Failure {
+    step: usize,
+    message: String,
+    log: Vec<String>,
+}
+
+fn outcome(steps: &[u64]) -> std::result::Result<(), Failure> {
+    outcome_with(steps, false)
+}
+
+fn outcome_with(steps: &[u64], logs: bool) -> std::result::Result<(), Failure> {
+    let mut session = Session { steps, step: 0, log: vec![], logs };
+    let run = AssertUnwindSafe(|| session.program(&mut [World::new(), World::new()]));
+    let payload = match catch_unwind(run) {
+        Ok(()) => return Ok(()),
+        Err(payload) => payload,
+    };
+    let message = payload.downcast_ref::<String>().cloned();
+    let message = message.or_else(|| payload.downcast_ref::<&str>().map(|&text| text.to_owned())).unwrap_or_default();
+    Err(Failure { step: session.step, message, log: session.log })
+}
+
+/// Drops halves, quarters and so on of a failing program, as long as the rest fails.
+fn shrunk(steps: &[u64], failure: Failure) -> Failure {
+    let (mut steps, mut failure) = (steps.to_vec(), failure);
+    let hook = std::panic::take_hook();
+    std::panic::set_hook(Box::new(|_| {}));
+    let (start, mut size) = (Instant::now(), steps.len() / 2);
+    while size > 0 && start.elapsed() < SHRINKING {
+        let mut place = 0;
+        while place < steps.len() && start.elapsed() < SHRINKING {
+            let end = steps.len().min(place + size);
+            let rest = [&steps[..place], &steps[end..]].concat();
+            match outcome(&rest) {
+                Err(shorter) => {
+                    steps = rest[..shorter.step].to_vec();
+                    failure = shorter;
+                }
+                Ok(()) => place = end,
+            }
+        }
+        size /= 2;
+    }
+    let logged = outcome_with(&steps, true).err().unwrap_or(failure);
+    std::panic::set_hook(hook);
+    logged
+}
