@@ -83,7 +83,7 @@ static uint8_t book_seat(service *s, int64_t booking, int64_t seat, const char *
   return status == MMDB_COUNT ? MMDB_DONE : status;
 }
 
-/* Books all these seats under numbers from booking on, or none of them. Returns the outcome in words, which are valid until the next call. */
+/* Books all these seats under numbers from booking on, or none of them. Returns the outcome in words, valid until the next call. */
 static const char *book(service *s, int64_t booking, const int64_t *seats, int count, const char *guest) {
   static char refused[16];
   uint8_t status = MMDB_DONE;
@@ -94,7 +94,7 @@ static const char *book(service *s, int64_t booking, const int64_t *seats, int c
   return status == MMDB_DONE ? "booked" : status == MMDB_NOTHING ? "taken" : refused;
 }
 
-/* Books those of the seats that are free, and returns their number. A transaction has at most 64 savepoints at a time, so each is released. */
+/* Books those of the seats that are free, and returns their number. Each savepoint is released, since a transaction has at most 64. */
 static int book_group(service *s, int64_t booking, const int64_t *seats, int count, const char *guest) {
   int booked = 0;
   execute(s, "BEGIN");

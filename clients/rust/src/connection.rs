@@ -1,12 +1,13 @@
 //! Connections.
 
 use crate::cache::Cache;
-use crate::error::{Cause, Error, Refusal, Result};
+use crate::error::{Error, Refusal, Result};
 use crate::line::{one_line, Name};
 use crate::memory;
 use crate::params::{params_from_iter, Params};
 use crate::raw::{self, Column, Handle, Status};
 use crate::row::Row;
+use crate::script::Script;
 use crate::statement::{Prepared, Statement};
 use crate::transaction::Transaction;
 use std::cell::{Cell, RefCell};
@@ -73,8 +74,8 @@ impl Connection {
         })
     }
 
-    /// Executes a line, with a value for each `?` in it. Returns the number of rows that it inserted, updated or deleted, or 0 for a command
-    /// of another kind. An empty line and a comment do nothing.
+    /// Executes a line, with a value for each `?` in it. Returns the number of rows that it inserted, updated or deleted, or 0 for another
+    /// kind of command. An empty line and a comment do nothing.
     ///
     /// A line with values is prepared for this call alone. To run it often, use [`prepare`](Connection::prepare).
     ///
@@ -93,9 +94,10 @@ impl Connection {
         self.prepare_once(line)?.execute(params)
     }
 
-    /// Executes the lines of a script one after another, and drops their replies. Each line is a command.
+    /// Executes the commands of a script one after another, and drops their replies. A command may extend over several lines; an empty line
+    /// or a comment ends it.
     ///
-    /// Stops at the first line that fails: `InLine` has its number, and the lines before it stay done.
+    /// Stops at the first command that fails: `InLine` has the number of its first line, and the commands before it stay done.
     ///
     /// ```
     /// use mmdb::{Connection, Error, Result};
@@ -104,20 +106,18 @@ impl Connection {
     /// let db = Connection::open()?;
     /// let error = db.execute_batch("
     ///     TABLE t (id INT KEY)
-    ///     INSERT t (1), (2)
+    ///     INSERT t
+    ///         (1),
+    ///         (2)
     ///     INSERT t (2)
     /// ").unwrap_err();
-    /// assert!(matches!(error, Error::InLine { line: 4, .. }));
-    /// assert_eq!(error.to_string(), "line 4: duplicate key");
+    /// assert!(matches!(error, Error::InLine { line: 6, .. }));
+    /// assert_eq!(error.to_string(), "line 6: duplicate key");
     /// # Ok(())
     /// # }
     /// ```
     pub fn execute_batch(&self, script: &str) -> Result<()> {
-        for (place, line) in script.lines().enumerate() {
-            self.define(line.as_bytes())
-                .map_err(|error| Error::InLine { line: place + 1, error: Cause::new(error) })?;
-        }
-        Ok(())
+        Script::new(self, script).execute()
     }
 
     /// Prepares a line in which a `?` may replace a number or a text. The line is only read: names in it are looked up when it runs.
@@ -130,7 +130,7 @@ impl Connection {
     }
 
     /// Prepares a line for one call, without a copy of the line.
-    fn prepare_once(&self, line: &str) -> Result<Statement<'_>> {
+    pub(crate) fn prepare_once(&self, line: &str) -> Result<Statement<'_>> {
         Ok(Statement::new(self, Prepared::new(self, line)?, false))
     }
 
@@ -173,8 +173,8 @@ impl Connection {
         }
     }
 
-    /// Runs a query with a value for each `?`. Returns what a function returns for the first row. `QueryReturnedNoRows` if there is none; the
-    /// other errors are those of [`prepare`](Connection::prepare), [`Statement::query`] and the function.
+    /// Runs a query with a value for each `?`. Returns what a function returns for the first row. `QueryReturnedNoRows` if there is none;
+    /// the other errors are those of [`prepare`](Connection::prepare), [`Statement::query`] and the function.
     pub fn query_row<T>(
         &self,
         line: &str,
@@ -248,8 +248,8 @@ impl Connection {
         Ok(columns)
     }
 
-    /// Returns the byte offset in a line to show in an error message: where reading stopped, a number or text past its limit, or a name that
-    /// does not exist. The offset is a hint. It is 0 if there is no such place.
+    /// Returns the byte offset in a line to show in an error message: where reading stopped, a number or text past its limit, or a name
+    /// that does not exist. The offset is a hint. It is 0 if there is no such place.
     ///
     /// ```
     /// use mmdb::{Connection, Result};
@@ -321,7 +321,7 @@ impl Connection {
 
     /// Takes note of the status of a command. An error if it is not a success.
     #[inline]
-    fn note(&self, status: Status) -> Result<()> {
+    pub(crate) fn note(&self, status: Status) -> Result<()> {
         if status == raw::DONE {
             self.note_ok();
         }

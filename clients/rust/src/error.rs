@@ -125,9 +125,9 @@ impl fmt::Display for Refusal {
 pub enum Error {
     /// The database refused the command, or an allocation failed in this crate (`Refused(Memory)`).
     Refused(Refusal),
-    /// A line of a script failed. The lines before it stay done.
+    /// A command of a script failed. The commands before it stay done.
     InLine {
-        /// The number of the line at which the command begins, counted from 1.
+        /// The number of the first line of the command, counted from 1.
         line: usize,
         /// Why it failed.
         error: Cause,

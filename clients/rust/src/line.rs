@@ -35,7 +35,8 @@ pub(crate) fn one_line(line: &str) -> Result<Cow<'_, [u8]>> {
     Ok(Cow::Owned(bytes))
 }
 
-/// A word that can be a name in a line. A line that is made with it means what it should: the library only has to accept or refuse the word.
+/// A word that can be a name in a line. A line that contains it has no other meaning than it should: the library accepts or refuses the
+/// word.
 #[derive(Clone, Copy)]
 pub(crate) struct Name {
     bytes: [u8; NAME_BYTES],

@@ -111,7 +111,7 @@ impl Mmdb {
 const _: () = {
     type Bytes<const N: usize> = [MaybeUninit<u8>; N];
     const NUMBER: i64 = i64::from_ne_bytes([3, 4, 5, 6, 7, 8, 9, 10]);
-    // SAFETY: `transmute` requires equal sizes, and MaybeUninit<u8> may be any byte or padding. `assume_init` of padding is a compile error.
+    // SAFETY: `transmute` requires equal sizes, and MaybeUninit<u8> may be any byte or padding. `assume_init` of padding does not compile.
     unsafe {
         let cell: Bytes<80> = transmute(Cell { kind: 1, len: 2, number: NUMBER, text: [11; TEXT_BYTES] });
         assert!(cell[0].assume_init() == 1 && cell[1].assume_init() == 2);

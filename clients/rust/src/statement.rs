@@ -17,6 +17,7 @@ const MOST_CELLS: usize = 1024;
 struct Kind(u8);
 
 impl Kind {
+    const NOTHING: Kind = Kind(0);
     const SELECT: Kind = Kind(32);
     const EXPLAIN: Kind = Kind(40);
 
@@ -228,8 +229,7 @@ impl<'c> Statement<'c> {
     /// [`execute`](Statement::execute) for each item.
     ///
     /// Stops at the first run that fails: `InRun` has the number of runs before it, which stay done. For all or none, call it in a
-    /// transaction. `ExecuteReturnedRows` if the statement returns rows or a text; it was not run. `Refused(Memory)` if the values cannot be
-    /// copied; the runs before stay done.
+    /// transaction. `ExecuteReturnedRows` if the statement returns rows or a text; it was not run.
     ///
     /// ```
     /// use mmdb::{Connection, Result};
@@ -368,6 +368,17 @@ impl<'c> Statement<'c> {
     #[must_use]
     pub fn line(&self) -> &str {
         &self.prepared.line
+    }
+
+    /// Runs the statement without values, and drops its reply. `WrongParameterCount` if it has parameters, or `Refused`.
+    pub(crate) fn execute_in_script(&mut self) -> Result<()> {
+        self.prepared.bind(())?;
+        self.connection.note(self.connection.handle.run(self.prepared.number, &[]))
+    }
+
+    /// Returns whether the line is empty or a comment.
+    pub(crate) fn is_nothing(&self) -> bool {
+        self.prepared.kind == Kind::NOTHING
     }
 
     /// Deletes the statement, even if it comes from the cache.

@@ -101,8 +101,8 @@ impl Drop for Transaction<'_> {
 /// A savepoint of a transaction. Dropping it rolls back the changes since it was set, unless it was committed. Either way the savepoint is
 /// released, so a transaction may set any number of them one after another.
 ///
-/// A `Savepoint` dereferences to its [`Connection`] and has its calls. Savepoints may be nested, also with the same name. A line that sets a
-/// savepoint of the same name hides this one, as in the language: both calls then go back to the later savepoint.
+/// A `Savepoint` dereferences to its [`Connection`] and has its calls. Savepoints may be nested, also with the same name. A line that sets
+/// a savepoint of the same name hides this one, as in the language: `ROLLBACK TO` goes back to the later savepoint.
 ///
 /// ```
 /// use mmdb::{Connection, Result};

@@ -154,7 +154,9 @@ fn values_of_another_type() -> Result<()> {
     let error = row.get::<i64>("name").unwrap_err();
     assert_eq!(error.to_string(), "column 1 (name) is TEXT, and another type was requested");
     assert!(matches!(error, Error::InvalidColumnType { index: 1, column } if column.data_type() == Type::Text));
-    assert!(matches!(row.get::<String>(0), Err(Error::InvalidColumnType { index: 0, column }) if column.name() == "id"));
+    assert!(
+        matches!(row.get::<String>(0), Err(Error::InvalidColumnType { index: 0, column }) if column.name() == "id")
+    );
     assert!(matches!(row.get::<&str>(0), Err(Error::InvalidColumnType { .. })));
     assert_eq!(row.get::<Value>(1)?, Value::from("Ann"));
     assert!(row.values::<(i64, i64)>().is_err());
@@ -188,7 +190,9 @@ fn texts_that_are_not_utf_8() -> Result<()> {
     assert!(matches!(error, Error::NotUtf8 { index: 0, .. }));
     assert_eq!(error.to_string(), "column 0 (name) is not UTF-8");
     assert!(error.source().is_some());
-    assert!(row.get::<&str>("name").is_err() && row.get::<Box<str>>("name").is_err() && row.get::<char>("name").is_err());
+    assert!(
+        row.get::<&str>("name").is_err() && row.get::<Box<str>>("name").is_err() && row.get::<char>("name").is_err()
+    );
     let value: Value = row.get("name")?;
     assert_eq!((value.as_bytes().unwrap(), value.as_str().is_err()), (&b"\xff\x00"[..], true));
     assert_eq!(format!("{value:?}"), "Text(b\"\\xff\\x00\")");
@@ -211,11 +215,38 @@ fn a_script_stops_at_its_first_error() -> Result<()> {
 }
 
 #[test]
+fn commands_of_a_script_extend_over_several_lines() -> Result<()> {
+    let db = people()?;
+    db.execute_batch(
+        "TABLE pet (\r\n  id INT KEY,\n  name TEXT\n)\n\n-- pets\nINSERT\npet\n(1, 'it''s'),\n(2, 'b')\nDELETE pet\nWHERE id = 1\n\
+         SELECT p.name\nFROM pet p\nTABLES\nWATCH w\nSELECT p.id FROM pet p\n",
+    )?;
+    assert_eq!(db.show("w", |row| row.get::<i64>(0))?, [2]);
+    assert_eq!(rows(&db)?.len(), 2);
+    for (script, line, number) in [
+        ("DELETE pet\nWHERE id = 'x'", 1, Some(30)),
+        ("\nINSERT pet (3,\n'c'\n-- not here\n)", 2, Some(11)),
+        ("INSERT pet (3,\n\n'c')", 1, Some(11)),
+        ("SCAN pet\nSCAN pet;\nSCAN pet", 2, Some(11)),
+        ("INSERT pet (3, 'c\nd')", 1, Some(11)),
+        ("SCAN pet\n\nINSERT pet\n(?, 'c')\nTABLES", 3, None),
+        ("TABLES\n)", 1, Some(11)),
+    ] {
+        let error = db.execute_batch(script).unwrap_err();
+        assert_eq!(error.number(), number, "{script:?}");
+        assert!(matches!(error, Error::InLine { line: found, .. } if found == line), "{script:?}: {error}");
+    }
+    assert_eq!(db.prepare("SCAN pet")?.query(())?.len(), 1);
+    Ok(())
+}
+
+#[test]
 fn names_are_names() -> Result<()> {
     let db = people()?;
     let query = "SELECT p.id FROM person p";
     let long = "n".repeat(33);
-    for name in ["", "a b", " a", "a ", "a\n", "A", "TABLE", "1", "_", "ä", "w SELECT p.name FROM person p --", &long] {
+    for name in ["", "a b", " a", "a ", "a\n", "A", "TABLE", "1", "_", "ä", "w SELECT p.name FROM person p --", &long]
+    {
         assert_eq!(db.watch(name, query).unwrap_err().number(), Some(11), "{name}");
         assert_eq!(db.unwatch(name).unwrap_err().number(), Some(11), "{name}");
         assert_eq!(db.show(name, |_| Ok(())).unwrap_err().number(), Some(11), "{name}");

@@ -96,7 +96,10 @@ const STEPS: &[Step] = &[
     Step { name: "plan", calls: |db| Ok(db.explain("SELECT a.s FROM small a, small b WHERE a.n = b.n")?.len()) },
     Step { name: "plan of a statement", calls: plan_of_statement },
     Step { name: "tables", calls: |db| Ok(db.tables()?.len()) },
-    Step { name: "columns", calls: |db| Ok(db.columns("SCAN\nsmall")?.len() + db.prepare("SCAN large")?.column_names()?.len()) },
+    Step {
+        name: "columns",
+        calls: |db| Ok(db.columns("SCAN\nsmall")?.len() + db.prepare("SCAN large")?.column_names()?.len()),
+    },
     Step { name: "transaction", calls: transaction },
     Step { name: "savepoints", calls: savepoints },
 ];
@@ -207,7 +210,8 @@ fn savepoints(db: &mut Connection) -> Result<usize> {
 /// A connection with some rows, and a full cache of statements.
 fn opened() -> Connection {
     let db = Connection::open().unwrap();
-    db.execute_batch("TABLE t (n INT KEY, s TEXT)\nTABLE small (n INT KEY, s TEXT)\nTABLE large (n INT KEY, s TEXT)").unwrap();
+    db.execute_batch("TABLE t (n INT KEY, s TEXT)\nTABLE small (n INT KEY, s TEXT)\nTABLE large (n INT KEY, s TEXT)")
+        .unwrap();
     db.watch("all", "SELECT a.s FROM small a").unwrap();
     db.execute("INSERT small (1, ?)", [TEXT]).unwrap();
     db.prepare("INSERT large (?, ?)").unwrap().execute_many((0..LARGE).map(|n| (n, TEXT))).unwrap();
@@ -265,7 +269,12 @@ fn refuse_growth_of(step: &Step, growth: c_ulong, refusing: Refusing, expected: 
     match result {
         Ok(found) => assert_eq!(found, expected, "{}: growth {growth}", step.name),
         Err(error) => {
-            assert_eq!((error.number(), counted >= growth), (Some(90), true), "{}: growth {growth}: {error:?}", step.name);
+            assert_eq!(
+                (error.number(), counted >= growth),
+                (Some(90), true),
+                "{}: growth {growth}: {error:?}",
+                step.name
+            );
             assert_eq!(State::of(&db), before, "{}: growth {growth}", step.name);
             assert_eq!((step.calls)(&mut db).unwrap(), expected, "{}: growth {growth}, again", step.name);
         }

@@ -4,8 +4,8 @@
 //! transactions and savepoints contain steps, and a connection moves to another thread for some of them. Each reply is compared with the
 //! model, which is in tests/model. What a program contains is told by [`Call`], [`Way`] and the functions of [`Session`].
 //!
-//! `MMDB_SEED` and `MMDB_STEPS` are the seed and the number of steps. A failure prints both, drops steps by halves, as long as the rest still
-//! fails, and prints the calls of what is left.
+//! `MMDB_SEED` and `MMDB_STEPS` are the seed and the number of steps. A failure prints both, drops halves of the steps as long as the rest
+//! still fails, and prints the calls of the steps that are left.
 
 mod model;
 
@@ -245,7 +245,8 @@ impl Call {
         let of = |table: &str, fields: Option<&[&str]>| -> Vec<(String, Type)> {
             let columns = model.table(table).map_or(vec![], |table| table.columns.clone());
             let find = |field: &&str| columns.iter().find(|column| column.0 == *field).copied();
-            let found: Option<Vec<_>> = fields.map_or(Some(columns.clone()), |fields| fields.iter().map(find).collect());
+            let found: Option<Vec<_>> =
+                fields.map_or(Some(columns.clone()), |fields| fields.iter().map(find).collect());
             found.unwrap_or_default().iter().map(|(name, data_type)| (String::from(*name), *data_type)).collect()
         };
         match self {
@@ -522,7 +523,9 @@ impl Session<'_> {
     ) {
         let is_over = model.ended != number;
         let end = random.below(8);
-        self.log(|| format!("}} {}", ["commit", "commit", "commit", "leak", "rollback and commit"].get(end).unwrap_or(&"drop")));
+        self.log(|| {
+            format!("}} {}", ["commit", "commit", "commit", "leak", "rollback and commit"].get(end).unwrap_or(&"drop"))
+        });
         if end == 3 && random.once_in(4) {
             std::mem::forget(savepoint);
             return;
@@ -666,7 +669,9 @@ impl Session<'_> {
         let count = if is_long { 400 + random.below(400) } else { random.below(6) };
         let mut rows: Vec<Vec<Value>> = (0..count).map(|_| call.values(random)).collect();
         if is_long && matches!(call, Call::Insert { .. }) {
-            rows.iter_mut().zip(1000..).for_each(|(row, key)| row.iter_mut().for_each(|value| *value = renumbered(value, key)));
+            rows.iter_mut()
+                .zip(1000..)
+                .for_each(|(row, key)| row.iter_mut().for_each(|value| *value = renumbered(value, key)));
         }
         let mut spoilt = count;
         if count > 0 && random.once_in(4) {
@@ -680,7 +685,9 @@ impl Session<'_> {
         let mut statement = db.prepare(&call.line()).unwrap();
         let found = statement.execute_many(rows.iter().enumerate().map(|(place, row)| {
             match &nested {
-                Some((at, call)) if *at == place && place <= spoilt => make(db, model, call, &nested_values, Way::Prepared),
+                Some((at, call)) if *at == place && place <= spoilt => {
+                    make(db, model, call, &nested_values, Way::Prepared)
+                }
                 _ => {}
             }
             params_from_iter(row)
@@ -707,25 +714,29 @@ impl Session<'_> {
         }
     }
 
+    /// A script of some commands, on one line or two each.
     fn script(&mut self, db: &Connection, model: &mut Model, random: &mut Random) {
-        let mut lines = Vec::new();
+        let mut lines: Vec<String> = Vec::new();
         let mut failure = None;
-        for number in 1..=random.below(5) {
+        for _ in 0..random.below(5) {
             let call = Call::any(random);
             let values = call.values(random);
             if let Some(line) = with_literals(&call, &values) {
-                lines.push(line);
-                lines.push(random.one_of(&["", "-- a comment", "  "]).to_owned());
+                let first_line = lines.len() + 1;
+                let is_split = random.once_in(2);
+                lines.extend(line.splitn(1 + usize::from(is_split), ' ').map(str::to_owned));
+                let between = random.one_of(&[None, None, Some(""), Some("-- a comment"), Some("  ")]);
+                lines.extend(between.map(str::to_owned));
                 if failure.is_none() {
-                    failure = call.run(model, &values).err().map(|refusal| (lines.len() - 1, refusal));
+                    failure = call.run(model, &values).err().map(|refusal| (first_line, refusal));
                 }
             }
-            self.log(|| format!("script {number} {}", lines.last().map_or("", |line| line)));
         }
+        self.log(|| format!("script {lines:?}"));
         match (db.execute_batch(&lines.join(random.one_of(&["\n", "\r\n"]))), failure) {
             (Ok(()), None) => {}
-            (Err(Error::InLine { line, error }), Some((place, refusal))) => {
-                assert_eq!((line, error.number()), (place, Some(refusal)), "{lines:?}");
+            (Err(Error::InLine { line, error }), Some((first_line, refusal))) => {
+                assert_eq!((line, error.number()), (first_line, Some(refusal)), "{lines:?}");
             }
             (found, failure) => panic!("{lines:?}: {found:?} and not {failure:?}"),
         }

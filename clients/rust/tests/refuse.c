@@ -1,7 +1,7 @@
 /* Preloaded into tests/memory.rs, it refuses one growth of memory, as a system that has no more memory does.
 
    A growth is a call of malloc or calloc, or of realloc with a size greater than the block was requested with. refuse_growth(n) makes the
-   nth growth of this thread from now on fail, and counts them from 1; n = 0 makes none fail. growths() returns the number of growths of this
+   nth growth of this thread from now on fail, counted from 1; n = 0 makes none fail. growths() returns the number of growths of this
    thread since then. live_blocks() returns the number of blocks of all threads that are allocated and not freed. */
 #include <errno.h>
 #include <malloc.h>
@@ -41,8 +41,8 @@ static int is_refused(void) {
   return 1;
 }
 
-/* The requested size is stored in the last bytes of a block, which is larger by that much. The C library knows only the size that it rounded
-   up to, by which a small growth would not count as one. */
+/* The requested size is stored in the last bytes of a block, which is larger by that much. The C library knows only the size that it
+   rounded up to, by which a small growth would not count as one. */
 static size_t with_room(size_t size) { return size > SIZE_MAX - sizeof size ? SIZE_MAX : size + sizeof size; }
 
 static char *place_of_size(void *block) { return (char *)block + malloc_usable_size(block) - sizeof(size_t); }

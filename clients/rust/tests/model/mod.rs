@@ -131,7 +131,8 @@ impl Model {
 
     pub fn insert(&mut self, table: &str, rows: &[Row]) -> Reply<usize> {
         let table = self.table_mut(table)?;
-        let is_mistyped = |row: &Row| row.iter().zip(&table.columns).any(|(value, column)| value.data_type() != column.1);
+        let is_mistyped =
+            |row: &Row| row.iter().zip(&table.columns).any(|(value, column)| value.data_type() != column.1);
         if rows.iter().any(is_mistyped) {
             return Err(30);
         }
