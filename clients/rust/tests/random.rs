@@ -113,10 +113,20 @@ enum Call {
     RollbackTo(&'static str),
 }
 
-/// The forms of the table u, which is dropped and created again: columns, the place of the key, and the line.
-const SHAPES: [(&[(&str, Type)], usize, &str); 2] = [
-    (&[("s", Type::Text), ("n", Type::Int)], 0, "TABLE u (s TEXT KEY, n INT)"),
-    (&[("n", Type::Int), ("m", Type::Int), ("s", Type::Text)], 1, "TABLE u (n INT, m INT KEY, s TEXT)"),
+/// A form of the table u, which is dropped and created again.
+struct Shape {
+    line: &'static str,
+    columns: &'static [(&'static str, Type)],
+    key: usize,
+}
+
+const SHAPES: [Shape; 2] = [
+    Shape { line: "TABLE u (s TEXT KEY, n INT)", columns: &[("s", Type::Text), ("n", Type::Int)], key: 0 },
+    Shape {
+        line: "TABLE u (n INT, m INT KEY, s TEXT)",
+        columns: &[("n", Type::Int), ("m", Type::Int), ("s", Type::Text)],
+        key: 1,
+    },
 ];
 const COLUMNS: [&[&str]; 4] = [&["n", "s"], &["s", "n"], &["n", "m", "s"], &["n"]];
 const NAMES: [&str; 2] = ["a", "b"];
@@ -181,7 +191,7 @@ impl Call {
                 format!("SELECT {} FROM {table} a WHERE a.{column} {} ?", fields.join(", "), op.sign())
             }
             Call::Show => "SHOW w".into(),
-            Call::Create { shape } => SHAPES[*shape].2.into(),
+            Call::Create { shape } => SHAPES[*shape].line.into(),
             Call::Drop => "DROP TABLE u".into(),
             Call::Begin => "BEGIN".into(),
             Call::Commit => "COMMIT".into(),
@@ -230,7 +240,7 @@ impl Call {
                 let all = Test { column: "n", op: Op::AtLeast, value: Value::Int(0) };
                 model.select("t", &["s", "n"], &all).map(Answer::Rows)
             }
-            Call::Create { shape } => model.create("u", Table::new(SHAPES[shape].0, SHAPES[shape].1)).map(done),
+            Call::Create { shape } => model.create("u", Table::new(SHAPES[shape].columns, SHAPES[shape].key)).map(done),
             Call::Drop => model.drop_table("u").map(done),
             Call::Begin => model.begin().map(done),
             Call::Commit => model.commit().map(done),

@@ -110,7 +110,6 @@ fn types_of_rust() -> Result<()> {
         &owned,
         &bytes,
         &&*bytes,
-        &[b'a'],
         b"a",
         &'a',
         &Box::<str>::from("a"),
