@@ -1,7 +1,7 @@
 //! Finds libmmdb and tells cargo how to link it.
 //!
-//! The folder of the library is `MMDB_LIB_DIR`, else the one that pkg-config knows, else one of the linker's own. With `MMDB_STATIC=1` the
-//! archive libmmdb.a goes into the program; else the program loads libmmdb.so when it starts.
+//! The folder of the library is `MMDB_LIB_DIR`, or else the one that pkg-config knows, or else one of the linker's. With `MMDB_STATIC=1` the
+//! archive libmmdb.a becomes part of the program; without it, the program loads libmmdb.so when it starts.
 
 use std::env;
 use std::path::{Path, PathBuf};
@@ -10,9 +10,10 @@ use std::process::{exit, Command};
 const HELP: &str = "Do one of these:
   - install it with `tools/install PREFIX` of mmdb's repository, and set PKG_CONFIG_PATH=PREFIX/lib/pkgconfig
   - set MMDB_LIB_DIR to the folder that has libmmdb.so and libmmdb.a
-With MMDB_STATIC=1 the program gets libmmdb.a; without it, it loads libmmdb.so, so LD_LIBRARY_PATH or the system must lead to that.";
+With MMDB_STATIC=1 libmmdb.a becomes part of the program; without it, the program loads libmmdb.so, which LD_LIBRARY_PATH or the system
+must lead to.";
 
-/// Where the linker looks without being told.
+/// The folders that the linker searches by default.
 const SYSTEM_FOLDERS: [&str; 6] =
     ["/usr/local/lib", "/usr/lib", "/usr/lib64", "/usr/lib/x86_64-linux-gnu", "/lib", "/lib64"];
 
@@ -36,7 +37,7 @@ fn main() {
     println!("cargo:rustc-link-lib={}=mmdb", if is_static { "static" } else { "dylib" });
 }
 
-/// The folders in which the library may be, the first choice first. Where `MMDB_LIB_DIR` is set there is no other.
+/// Returns the folders in which the library may be, the first choice first. If `MMDB_LIB_DIR` is set, there is no other.
 fn folders() -> Vec<PathBuf> {
     if let Some(folder) = env::var_os("MMDB_LIB_DIR") {
         return vec![PathBuf::from(folder)];
@@ -49,7 +50,7 @@ fn folders() -> Vec<PathBuf> {
     folders
 }
 
-/// The folders that `pkg-config --libs mmdb` names; none where there is no pkg-config or it does not know mmdb.
+/// Returns the folders that `pkg-config --libs mmdb` names, or none if there is no pkg-config or it does not know mmdb.
 fn folders_of_pkg_config() -> Vec<PathBuf> {
     let program = env::var_os("PKG_CONFIG").unwrap_or_else(|| "pkg-config".into());
     let output = Command::new(program).args(["--libs", "mmdb"]).env("PKG_CONFIG_ALLOW_SYSTEM_LIBS", "1").output();

@@ -2,7 +2,7 @@
 //!
 //! A program is a list of steps, each a number from which its choices are made. They nest: statements are held while other calls run,
 //! transactions and savepoints contain steps, and a connection moves to another thread for some of them. Each reply is compared with the
-//! model, which is in tests/model. What a program contains is told by [`Call`], [`Way`] and the functions of [`Session`].
+//! model, which is in tests/model. [`Call`], [`Way`] and the functions of [`Session`] say what a program contains.
 //!
 //! `MMDB_SEED` and `MMDB_STEPS` are the seed and the number of steps. A failure prints both, drops halves of the steps as long as the rest
 //! still fails, and prints the calls of the steps that are left.

@@ -1,6 +1,6 @@
 //! Prepared statements: runs, rows, the cache, and changes of the catalog in between.
 
-use mmdb::{params, params_from_iter, Connection, Error, Result, Row, Statement, Type};
+use mmdb::{params, params_from_iter, Connection, Error, Result, Row, Statement, ToValue, ToValueOutput, Type};
 
 fn squares(count: i64) -> Result<Connection> {
     let db = Connection::open()?;
@@ -144,6 +144,38 @@ fn many_runs_return_the_rows_of_all() -> Result<()> {
     });
     assert_eq!(delete.execute_many(rows)?, 10);
     assert_eq!(count(&db)?, 2978);
+    Ok(())
+}
+
+/// A value whose conversion uses the connection: it runs the same lines, replaces the reply, and evicts statements from the cache.
+struct Busy<'c> {
+    db: &'c Connection,
+    number: i64,
+}
+
+impl ToValue for Busy<'_> {
+    fn to_value(&self) -> Result<ToValueOutput<'_>> {
+        self.db.prepare_cached("INSERT square (?, ?)")?.execute([self.number + 100, 0])?;
+        self.db.prepare_cached("DELETE square WHERE n = ?")?.execute([self.number + 100])?;
+        for n in 0..20 {
+            self.db.prepare_cached(&format!("SELECT a.s FROM square a WHERE a.n = {n}"))?.query(())?;
+        }
+        Ok(ToValueOutput::from(self.number))
+    }
+}
+
+#[test]
+fn values_may_use_the_connection() -> Result<()> {
+    let db = squares(0)?;
+    let busy = |number: i64| Busy { db: &db, number };
+    assert_eq!(db.prepare_cached("INSERT square (?, ?)")?.execute((busy(1), busy(2)))?, 1);
+    assert_eq!(db.execute("INSERT square (?, ?)", (busy(3), busy(4)))?, 1);
+    let mut insert = db.prepare("INSERT square (?, ?)")?;
+    assert_eq!(insert.execute_many((5..8).map(|n| (busy(n), busy(n + 1))))?, 3);
+    let line = "SELECT a.n, a.s FROM square a WHERE a.n >= ?";
+    let rows: Vec<(i64, i64)> = db.prepare_cached(line)?.query_map((busy(3),), Row::values)?.collect::<Result<_>>()?;
+    assert_eq!(rows, [(3, 4), (5, 6), (6, 7), (7, 8)]);
+    assert_eq!(count(&db)?, 5);
     Ok(())
 }
 
