@@ -1,7 +1,7 @@
 //! Finds libmmdb and tells cargo how to link it.
 //!
-//! The folder of the library is `MMDB_LIB_DIR`, or else the one that pkg-config knows, or else one of the linker's. With `MMDB_STATIC=1` the
-//! archive libmmdb.a becomes part of the program; without it, the program loads libmmdb.so when it starts.
+//! The folder of the library is `MMDB_LIB_DIR`, or else the one that pkg-config knows, or else one of the linker's. With `MMDB_STATIC=1`
+//! the archive libmmdb.a becomes part of the program; without it, the program loads libmmdb.so when it starts.
 
 use std::env;
 use std::path::{Path, PathBuf};
