@@ -161,13 +161,13 @@ impl Call {
 
     fn any(random: &mut Random) -> Call {
         match random.below(40) {
-            0..=1 => Call::Create { shape: random.below(2) },
-            2 => Call::Drop,
-            3 => Call::Begin,
-            4 => Call::Commit,
-            5 => Call::Rollback,
-            6..=7 => Call::Savepoint(random.one_of(&NAMES)),
-            8..=9 => Call::RollbackTo(random.one_of(&NAMES)),
+            0..=4 => Call::Create { shape: random.below(2) },
+            5..=6 => Call::Drop,
+            7 => Call::Begin,
+            8 => Call::Commit,
+            9 => Call::Rollback,
+            10..=11 => Call::Savepoint(random.one_of(&NAMES)),
+            12..=13 => Call::RollbackTo(random.one_of(&NAMES)),
             _ => Call::of_rows(random),
         }
     }
@@ -341,6 +341,15 @@ struct Held<'c> {
     statement: Statement<'c>,
 }
 
+/// How a savepoint ends.
+#[derive(Debug, PartialEq)]
+enum End {
+    Commit,
+    Drop,
+    RollbackAndCommit,
+    Leak,
+}
+
 /// A transaction or a savepoint.
 trait Guard {
     fn set(&mut self, name: &str) -> Result<Savepoint<'_>>;
@@ -437,8 +446,8 @@ impl Session<'_> {
     fn holding<'c>(&mut self, db: &'c Connection, model: &mut Model, other: &mut World, held: &mut Vec<Held<'c>>) {
         while let Some(mut random) = self.next() {
             match random.below(24) {
-                0 => return,
-                1..=3 => {
+                0..=1 => return,
+                2..=3 => {
                     let begun = db.unchecked_transaction();
                     self.transaction(begun, Some(db), model, other, held, &mut random);
                 }
@@ -501,8 +510,8 @@ impl Session<'_> {
     ) {
         while let Some(mut random) = self.next() {
             match random.below(24) {
-                0..=1 => return,
-                2..=6 => {
+                0..=2 => return,
+                3..=5 => {
                     let name = random.one_of(&NAMES);
                     let reply = if model.ended == number { model.savepoint(name) } else { Err(51) };
                     let set = guard.set(name);
@@ -513,7 +522,7 @@ impl Session<'_> {
                         self.end_savepoint(savepoint, name, number, model, &mut random);
                     }
                 }
-                7 => self.simple(&other.db, &mut other.model, &mut random),
+                6 => self.simple(&other.db, &mut other.model, &mut random),
                 _ => match db {
                     Some(db) => self.step_with_statements(db, model, held, &mut random),
                     None => self.simple(guard.db(), model, &mut random),
@@ -532,27 +541,29 @@ impl Session<'_> {
         random: &mut Random,
     ) {
         let is_over = model.ended != number;
-        let end = random.below(8);
-        self.log(|| {
-            format!("}} {}", ["commit", "commit", "commit", "leak", "rollback and commit"].get(end).unwrap_or(&"drop"))
-        });
-        if end == 3 && random.once_in(4) {
-            std::mem::forget(savepoint);
-            return;
+        let end = match random.below(20) {
+            0..=7 => End::Commit,
+            8..=15 => End::Drop,
+            16..=18 => End::RollbackAndCommit,
+            _ => End::Leak,
+        };
+        self.log(|| format!("}} {end:?}"));
+        if end == End::Leak {
+            return std::mem::forget(savepoint);
         }
-        if end == 4 {
-            let reply = if is_over { Err(51) } else { model.rollback_to(name) };
-            assert_eq!(plain(savepoint.rollback()), expected(reply), "rollback to {name}");
-        }
-        if end <= 4 {
-            let reply = if is_over { Err(51) } else { model.release(name) };
-            assert_eq!(plain(savepoint.commit()), expected(reply), "commit {name}");
-        } else {
+        if end == End::Drop {
             drop(savepoint);
             if !is_over && model.rollback_to(name).is_ok() {
                 model.release(name).unwrap();
             }
+            return;
         }
+        if end == End::RollbackAndCommit {
+            let reply = if is_over { Err(51) } else { model.rollback_to(name) };
+            assert_eq!(plain(savepoint.rollback()), expected(reply), "rollback to {name}");
+        }
+        let reply = if is_over { Err(51) } else { model.release(name) };
+        assert_eq!(plain(savepoint.commit()), expected(reply), "commit {name}");
     }
 
     fn step_with_statements<'c>(
