@@ -3,6 +3,8 @@
 //! It has what docs/LANGUAGE.md says of a few commands on two tables. Each call returns what the database replies, or the number of its
 //! refusal, which changes nothing.
 
+pub mod call;
+
 use mmdb::{Type, Value};
 use std::collections::{BTreeMap, BTreeSet};
 
