@@ -1,8 +1,7 @@
 //! Scripts: commands one after another, each on one line or more.
 //!
-//! The library determines where a command ends. It goes on with the next line if reading it stopped at its end, so that more has to
-//! follow; or if reading the next line stopped at its first word, so that no command begins there. Empty lines and comments are commands of
-//! their own.
+//! The library determines where a command ends: a command goes on with the next line if both together can be read beyond the beginning of
+//! that line. Empty lines and comments are commands of their own.
 
 use crate::connection::Connection;
 use crate::error::{Cause, Error, Refusal, Result};
@@ -25,8 +24,8 @@ struct Command<'c, 's> {
     /// The number of the first line, counted from 1.
     line: usize,
     statement: Result<Statement<'c>>,
-    /// The offset in the text where reading stopped, if this is not a command.
-    stopped: Option<usize>,
+    /// The offset in the text where reading stopped, if this is a syntax error.
+    stopped: usize,
 }
 
 impl<'c, 's> Script<'c, 's> {
@@ -61,8 +60,8 @@ impl<'c, 's> Script<'c, 's> {
         let text = text.strip_suffix('\r').unwrap_or(text);
         let statement = self.connection.prepare_once(text);
         let stopped = match &statement {
-            Err(Error::Refused(Refusal::Syntax)) => Some(self.connection.place_of_refusal(text, Refusal::Syntax)),
-            _ => None,
+            Err(Error::Refused(Refusal::Syntax)) => self.connection.place_of_refusal(text, Refusal::Syntax),
+            _ => 0,
         };
         Command { text, begin, line, statement, stopped }
     }
@@ -71,11 +70,29 @@ impl<'c, 's> Script<'c, 's> {
     fn read_rest(&mut self, command: &mut Command<'c, 's>) -> Option<Command<'c, 's>> {
         loop {
             let next = self.read_line()?;
-            if command.is_empty() || next.is_empty() || !(command.is_incomplete() || next.begins_no_command()) {
-                return Some(next);
+            match self.joined(command, &next) {
+                Some(joined) => *command = joined,
+                None => return Some(next),
             }
-            *command = self.command(command.begin, next.begin + next.text.len(), command.line);
         }
+    }
+
+    /// Returns the command with one more line, or `None` if it does not go on with this line.
+    fn joined(&self, command: &Command<'c, 's>, next: &Command<'c, 's>) -> Option<Command<'c, 's>> {
+        // A command that can be read does not go on with another one.
+        let are_two = command.statement.is_ok() && next.statement.is_ok();
+        if are_two || command.is_empty() || next.is_empty() {
+            return None;
+        }
+        let joined = self.command(command.begin, next.begin + next.text.len(), command.line);
+        let goes_on = match &joined.statement {
+            Err(Error::Refused(Refusal::Syntax)) => {
+                joined.stopped > next.begin - command.begin + leading_blanks(next.text)
+            }
+            Err(Error::Refused(Refusal::LineTooLong)) => command.statement.is_err(),
+            _ => true,
+        };
+        goes_on.then_some(joined)
     }
 }
 
@@ -84,16 +101,8 @@ impl Command<'_, '_> {
     fn is_empty(&self) -> bool {
         matches!(&self.statement, Ok(statement) if statement.is_nothing())
     }
-
-    fn is_incomplete(&self) -> bool {
-        self.stopped.map_or(false, |place| self.text.bytes().skip(place).all(is_blank))
-    }
-
-    fn begins_no_command(&self) -> bool {
-        self.stopped.map_or(false, |place| self.text.bytes().take(place).all(is_blank))
-    }
 }
 
-fn is_blank(byte: u8) -> bool {
-    matches!(byte, b' ' | b'\t' | b'\r' | b'\n')
+fn leading_blanks(text: &str) -> usize {
+    text.bytes().take_while(|byte| matches!(byte, b' ' | b'\t')).count()
 }
