@@ -218,7 +218,7 @@ fn a_script_stops_at_its_first_error() -> Result<()> {
 fn commands_of_a_script_extend_over_several_lines() -> Result<()> {
     let db = people()?;
     db.execute_batch(
-        "TABLE pet (\r\n  id INT KEY,\n  name TEXT\n)\n\n-- pets\nINSERT\npet\n(1, 'it''s'),\n(2, 'b')\nDELETE pet\nWHERE id = 1\n\
+        "TABLE pet (\r\n  id INT KEY,\n  name TEXT\n)\n\n-- pets\nINSERT\npet\n(1, 'it''s'),\n(2, 'b')\nDELETE pet\nWHERE\n  id = 1\n\
          SELECT p.name\nFROM pet p\nTABLES\nWATCH w\nSELECT p.id FROM pet p\n",
     )?;
     assert_eq!(db.show("w", |row| row.get::<i64>(0))?, [2]);
@@ -230,7 +230,11 @@ fn commands_of_a_script_extend_over_several_lines() -> Result<()> {
         ("SCAN pet\nSCAN pet;\nSCAN pet", 2, Some(11)),
         ("INSERT pet (3, 'c\nd')", 1, Some(11)),
         ("SCAN pet\n\nINSERT pet\n(?, 'c')\nTABLES", 3, None),
-        ("TABLES\n)", 1, Some(11)),
+        ("TABLES\n)", 2, Some(11)),
+        ("SCAN pet\nINSERT pet\n(9, 'c'),\n  (9,\n'd')", 2, Some(40)),
+        ("INSERT pet (9223372036854775808, 'c')\n, (4, 'd')\nTABLES", 1, Some(12)),
+        ("DELETE pet\nSCAN", 2, Some(11)),
+        ("INSERT pet (2, 'b')\nROLLBACK\nTO s", 2, Some(51)),
     ] {
         let error = db.execute_batch(script).unwrap_err();
         assert_eq!(error.number(), number, "{script:?}");
