@@ -9,13 +9,15 @@
     for number, name in connection.execute("SELECT a.id, a.name FROM author a"):
         print(number, name)
 
-Each connection is a database of its own, in this process, and is gone when it is closed. The language is that of
-docs/LANGUAGE.md.
+Each connection is a database of its own, in this process, and ends when it is closed. docs/LANGUAGE.md describes the language.
 """
 
-from ._connection import Connection, Savepoint, connect
-from ._cursor import Cursor
-from ._errors import (
+from collections.abc import Sequence as _Sequence
+
+from ._mmdb import (
+    Columns,
+    Connection,
+    Cursor,
     DatabaseError,
     DataError,
     Error,
@@ -25,9 +27,11 @@ from ._errors import (
     NotSupportedError,
     OperationalError,
     ProgrammingError,
+    Row,
+    Savepoint,
     Warning,
+    library_version,
 )
-from ._row import Row
 from ._types import (
     BINARY,
     DATETIME,
@@ -46,13 +50,27 @@ from ._types import (
 __version__ = "1.0.0"
 
 apilevel = "2.0"
-# Threads may share the module, but not connections.
+# Threads may share the module, but not connections, unless these are opened with check_same_thread=False.
 threadsafety = 1
 paramstyle = "qmark"
+
+_Sequence.register(Row)
+
+
+def connect(autocommit: bool = False, check_same_thread: bool = True) -> Connection:
+    """Opens a new, empty database and returns its connection.
+
+    With autocommit each change is committed at once, unless the program begins a transaction. Only the thread that opens
+    the connection may use it; with check_same_thread=False all threads may, and calls wait for each other. Raises
+    OperationalError (90) if there is not enough memory.
+    """
+    return Connection(autocommit, check_same_thread)
+
 
 __all__ = [
     "BINARY",
     "Binary",
+    "Columns",
     "Connection",
     "Cursor",
     "DATETIME",
@@ -79,6 +97,7 @@ __all__ = [
     "Warning",
     "apilevel",
     "connect",
+    "library_version",
     "paramstyle",
     "threadsafety",
 ]

@@ -15,7 +15,7 @@ import sys
 from collections.abc import Callable, Sequence
 from typing import TextIO
 
-from mmdb._library import REFUSALS, Database, Refused
+from mmdb._library import Database, Refused
 from mmdb.shell_script import InputTooLong, run_script
 from mmdb.shell_terminal import run_at_terminal
 
@@ -53,7 +53,7 @@ def status_of(run: Callable[[], None]) -> int:
         print(f"mmdb-shell: {error.filename or 'a device'}: {error.strerror or error}", file=sys.stderr)
         return DEVICE_FAILED
     except Refused as refused:
-        print(f"mmdb-shell: error {refused.status} {REFUSALS[refused.status]}", file=sys.stderr)
+        print(f"mmdb-shell: {refused}", file=sys.stderr)
         return DEVICE_FAILED
     except KeyboardInterrupt:
         return INTERRUPTED

@@ -10,8 +10,8 @@ import time
 from collections.abc import Iterable, Sequence
 from typing import NamedTuple, TextIO
 
-from mmdb._library import COUNT, DONE, LEAST_REFUSAL, NOTHING, REFUSALS, ROWS, SYNTAX
-from mmdb._library import Database, Refused, Row, decoded, encoded
+from mmdb._library import COUNT, DONE, LEAST_REFUSAL, NOTHING, ROWS, SYNTAX
+from mmdb._library import Database, Refused, Row, decoded, encoded, words_of
 from mmdb.shell_catalog import Catalog, Failure, Session
 from mmdb.shell_files import Progress, dump, export_csv, import_csv
 from mmdb.shell_script import lines_of
@@ -79,7 +79,7 @@ class Shell:
         except Failure as failure:
             self._say(str(failure))
         except Refused as refused:
-            self._say(f"error {refused.status} {REFUSALS[refused.status]}")
+            self._say(str(refused))
         except OSError as error:
             self._say(f"{error.filename or 'a file'}: {error.strerror or error}")
         except UnicodeEncodeError:
@@ -125,7 +125,7 @@ class Shell:
             self._say(shown_line)
         if has_place:
             self._say(mark)
-        self._say(f"{origin}error {status} {REFUSALS[status]}")
+        self._say(f"{origin}error {status} {words_of(status)}")
 
     def _rows(self, line: bytes) -> None:
         """Shows the rows of the reply to a line."""
@@ -135,7 +135,7 @@ class Shell:
             return
         columns = database.columns(line)
         names, types = [name for name, _ in columns], [its_type for _, its_type in columns]
-        rows = database.read(len(columns))
+        rows = database.read(line)
         if self._mode == "csv":
             self._say_all(csv_line.removesuffix("\r\n") for csv_line in csv_lines([names, *rows]))
         else:
@@ -159,7 +159,7 @@ class Shell:
 
     def do_help(self, rest: str, usage: str) -> None:
         """Lists the commands."""
-        words_of(rest, usage, 0)
+        words_after(rest, usage, 0)
         forms = {f"{name} {command.usage}": command.help for name, command in DOT_COMMANDS.items()}
         width = max(map(len, forms))
         self._say_all(f"{form:{width}}  {words}" for form, words in forms.items())
@@ -167,7 +167,7 @@ class Shell:
 
     def do_quit(self, rest: str, usage: str) -> None:
         """Ends the shell."""
-        words_of(rest, usage, 0)
+        words_after(rest, usage, 0)
         self.is_over = True
 
     def do_timer(self, rest: str, usage: str) -> None:
@@ -184,7 +184,7 @@ class Shell:
 
     def do_tables(self, rest: str, usage: str) -> None:
         """Lists what the database has."""
-        words_of(rest, usage, 0)
+        words_after(rest, usage, 0)
         catalog = self.session.catalog()
         names, types = ("kind", "name", "rows", "definition"), (str, str, int, str)
         self._table(names, types, self._listing(catalog), count_of(len(catalog.tables), "table"))
@@ -216,7 +216,7 @@ class Shell:
 
     def do_read(self, rest: str, usage: str) -> None:
         """Runs a script: shows rows and refusals, and at the end how many lines were refused."""
-        path = os.path.expanduser(words_of(rest, usage, 1)[0])
+        path = os.path.expanduser(words_after(rest, usage, 1)[0])
         lines = refused = 0
         with open(path, "rb") as file:
             for line in lines_of(file):
@@ -232,7 +232,7 @@ class Shell:
     def do_import(self, rest: str, usage: str) -> None:
         """Inserts the rows of a CSV file into a table."""
         rest, has_header = without_header(rest)
-        table, path = words_of(rest, usage, 2)
+        table, path = words_after(rest, usage, 2)
         progress = Progress(self._out if self._shows_progress else None)
         rows = import_csv(self.session, table, os.path.expanduser(path), has_header, progress)
         self._say(f"ok {rows}")
@@ -260,7 +260,7 @@ class Shell:
 
     def do_dump(self, rest: str, usage: str) -> None:
         """Writes a script that makes the database again."""
-        catalog = dump(self.session, os.path.expanduser(words_of(rest, usage, 1)[0]))
+        catalog = dump(self.session, os.path.expanduser(words_after(rest, usage, 1)[0]))
         told = (
             count_of(len(catalog.tables), "table"),
             count_of(sum(table.rows for table in catalog.tables.values()), "row"),
@@ -270,7 +270,7 @@ class Shell:
         self._say(", ".join(told))
 
 
-def words_of(rest: str, usage: str, count: int) -> list[str]:
+def words_after(rest: str, usage: str, count: int) -> list[str]:
     """The words behind a dot command; one with blanks is in quotes. A Failure tells the usage for any other count."""
     try:
         words = shlex.split(rest)

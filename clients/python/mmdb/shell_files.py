@@ -9,17 +9,17 @@ import re
 import shutil
 import time
 from collections.abc import Iterable, Iterator
+from itertools import chain
 from typing import BinaryIO, NamedTuple, TextIO
 
-from mmdb._library import DONE, REFUSALS, TEXT_BYTES, Refused, Row, Value, encoded
+from mmdb._library import DONE, NO_SUCH_TABLE, TEXT_BYTES, Refused, Row, Value, encoded, words_of
 from mmdb.shell_catalog import Catalog, Failure, Session
 from mmdb.shell_tables import count_of, csv_lines, literal_row
 
 LEAST_NUMBER, GREATEST_NUMBER, MOST_DIGITS = -(2**63), 2**63 - 1, 19
 MOST_LINE_BYTES = 4096
-NO_SUCH_TABLE = 20
 ROWS_AT_ONCE = 500
-SAVEPOINT = b"shell_import"
+SAVEPOINT = "shell_import"
 BYTE_ORDER_MARK = "\ufeff"
 SECONDS_BETWEEN_REPORTS = 0.25
 NUMBER = re.compile(r"[ \t]*([+-]?)0*([0-9]+)[ \t]*")
@@ -75,20 +75,6 @@ class Progress:
     def _write(self, words: str) -> None:
         if self._out is not None:
             print("\r" + words.ljust(self._width), end="\r", file=self._out, flush=True)
-
-
-@contextlib.contextmanager
-def all_or_none(session: Session) -> Iterator[None]:
-    """Keeps all changes made inside, or none where an exception ends it. In a transaction it takes a savepoint."""
-    is_inside = session.database.in_transaction()
-    session.demand(b"SAVEPOINT " + SAVEPOINT if is_inside else b"BEGIN")
-    try:
-        yield
-    except BaseException:
-        session.demand(b"ROLLBACK TO " + SAVEPOINT if is_inside else b"ROLLBACK")
-        raise
-    if not is_inside:
-        session.demand(b"COMMIT")
 
 
 class Record(NamedTuple):
@@ -188,18 +174,16 @@ class Importer:
         order = list(range(len(self._columns)))
         if has_header:
             order = self.order_of(next(records, Record(1, [])))
-        statement = self._database.prepare(self._insert)
         done = 0
         try:
             for batch in self.batches(records, order):
-                runs, status = self._database.run_many(statement, [row for _, row in batch])
+                runs, status = self._database.run_many(self._insert, [row for _, row in batch])
                 if status != DONE:
                     line, row = batch[runs]
-                    raise Failure(f"{self._path}:{line}: error {status} {REFUSALS[status]}: {literal_row(row)}")
+                    raise Failure(f"{self._path}:{line}: error {status} {words_of(status)}: {literal_row(row)}")
                 done += runs
                 self._progress.tell(done, file)
         finally:
-            self._database.finalize(statement)
             self._progress.clear()
         return done
 
@@ -207,15 +191,16 @@ class Importer:
 def import_csv(session: Session, table: str, path: str, has_header: bool, progress: Progress) -> int:
     """Reads a CSV file into a table, all rows or none, and answers how many rows it has."""
     importer = Importer(session, table, path, progress)
-    with open(path, encoding="utf-8-sig", errors="surrogateescape", newline="") as file, all_or_none(session):
-        return importer.insert(file, has_header)
+    with open(path, encoding="utf-8-sig", errors="surrogateescape", newline="") as file:
+        with session.database.all_or_none(SAVEPOINT):
+            return importer.insert(file, has_header)
 
 
 def export_csv(session: Session, query: bytes, path: str, has_header: bool) -> int:
     """Writes the rows of a query to a CSV file, and answers how many they are."""
     session.demand(query)
     columns = session.database.columns(query)
-    rows = session.database.read(len(columns)) if columns else []
+    rows = session.database.read(query)
     header = [tuple(name for name, _ in columns)] if has_header else []
     with written(path) as file:
         for number, line in enumerate(csv_lines([*header, *rows])):
@@ -246,11 +231,10 @@ def rows_of(session: Session, table: str) -> list[bytes]:
 
 
 def dump_lines(session: Session, catalog: Catalog) -> Iterator[bytes]:
-    """The lines of a script that makes the database again.
+    """Yields the lines of a script that makes tables, rows and indexes again.
 
-    Tables come in the order in which they were made. So each one comes behind those that it refers to.
+    Tables come in the order in which they were created. So each one comes after those that it refers to.
     """
-    queries = {name: session.query(name) for name in catalog.standing}
     for table in catalog.tables.values():
         yield table.line().encode()
     for name in catalog.tables:
@@ -258,13 +242,12 @@ def dump_lines(session: Session, catalog: Catalog) -> Iterator[bytes]:
         yield from [b"BEGIN", *lines, b"COMMIT"] if len(lines) > 1 else lines
     for index in catalog.indexes.values():
         yield index.line().encode()
-    for name, query in queries.items():
-        yield b"WATCH " + name.encode() + b" " + query
 
 
 def dump(session: Session, path: str) -> Catalog:
     """Writes a script that makes the database again, and answers what it has."""
     catalog = session.catalog()
+    watches = [b"WATCH " + name.encode() + b" " + session.query(name) for name in catalog.standing]
     with written(path) as file:
-        file.writelines(line + b"\n" for line in dump_lines(session, catalog))
+        file.writelines(line + b"\n" for line in chain(dump_lines(session, catalog), watches))
     return catalog

@@ -10,9 +10,8 @@ from __future__ import annotations
 from collections.abc import Iterator
 from typing import BinaryIO
 
-from mmdb._library import COUNT, DONE, NOTHING, REFUSALS, Database, Refused
+from mmdb._library import COUNT, DONE, NOTHING, Database, Refused
 
-MEMORY = 90
 MOST_INPUT_BYTES = 1 << 30
 # More than the longest line has, with its carriage return and line feed. So one piece of a longer line is too long.
 PIECE_BYTES = 8192
@@ -50,8 +49,8 @@ def reply_to(database: Database, line: bytes) -> bytes:
         return b"ok %d\n" % database.count()
     try:
         return database.text()
-    except Refused:
-        return f"error {MEMORY} {REFUSALS[MEMORY]}\n".encode()
+    except Refused as refused:
+        return f"{refused}\n".encode()
 
 
 def run_script(database: Database, source: BinaryIO, out: BinaryIO, most_bytes: int = MOST_INPUT_BYTES) -> None:

@@ -1,0 +1,181 @@
+/* Scripts: commands over one line or more, one after the other. */
+#include "client.h"
+
+/* A command that was read: its statement, which is prepared if status is MMDB_DONE, and its bytes in the script. */
+typedef struct Command {
+    Statement *statement;
+    uint8_t status;
+    size_t place;
+    const char *begin, *end;
+    size_t line;            /* the number of its first line, from 1 */
+} Command;
+
+/* A script, and how far it was read. */
+typedef struct Script {
+    Connection *connection;
+    const char *at, *end;
+    size_t line;            /* the number of lines before at */
+    bool is_over;
+} Script;
+
+static bool is_blank(char byte) { return byte == ' ' || byte == '\t' || byte == '\r' || byte == '\n'; }
+
+/* Prepares the bytes of a command. Returns false with an exception. */
+static bool command_prepare(Script *script, Command *command) {
+    Connection *connection = script->connection;
+    size_t length = (size_t)(command->end - command->begin);
+    if (length > 0 && command->end[-1] == '\r') length--;
+    Statement *statement = command->statement = statement_new(connection->state, command->begin, length);
+    if (statement == NULL) return false;
+    if (connection_enter(connection)) {
+        command->status = statement_prepare(connection, statement);
+        command->place = mmdb_place(&connection->db, (const uint8_t *)statement->line, statement->length, command->status);
+        connection_leave(connection);
+        return true;
+    }
+    statement_release(connection, statement);
+    command->statement = NULL;
+    return false;
+}
+
+/* Reads a line of the script as a command. There is one. Returns false with an exception. */
+static bool read_line(Script *script, Command *command) {
+    const char *feed = memchr(script->at, '\n', (size_t)(script->end - script->at));
+    command->begin = script->at;
+    command->end = feed != NULL ? feed : script->end;
+    command->line = ++script->line;
+    script->at = feed != NULL ? feed + 1 : script->end;
+    script->is_over = feed == NULL;
+    return command_prepare(script, command);
+}
+
+static bool is_empty(const Command *command) {
+    return command->status == MMDB_DONE && command->statement->kind == MMDB_KIND_NOTHING;
+}
+
+/* Returns whether reading a command stopped at its end, so that more has to follow. */
+static bool is_incomplete(const Command *command) {
+    if (command->status != MMDB_SYNTAX) return false;
+    size_t at = command->place;
+    while (at < command->statement->length && is_blank(command->statement->line[at])) at++;
+    return at == command->statement->length;
+}
+
+/* Returns whether reading a line stopped at its first word, so that no command begins there. */
+static bool begins_no_command(const Command *command) {
+    if (command->status != MMDB_SYNTAX) return false;
+    for (size_t i = 0; i < command->place; i++) {
+        if (!is_blank(command->statement->line[i])) return false;
+    }
+    return true;
+}
+
+/*
+ * Reads the lines with which a command goes on, and then the line after it as next. next->statement is NULL if there is no such line.
+ * Returns false with an exception.
+ */
+static bool read_rest(Script *script, Command *command, Command *next) {
+    next->statement = NULL;
+    while (!script->is_over) {
+        if (!read_line(script, next)) return false;
+        bool goes_on = !is_empty(command) && !is_empty(next) && (is_incomplete(command) || begins_no_command(next));
+        if (!goes_on) return true;
+        statement_release(script->connection, command->statement);
+        statement_release(script->connection, next->statement);
+        next->statement = NULL;
+        command->end = next->end;
+        if (!command_prepare(script, command)) return false;
+    }
+    return true;
+}
+
+static void raise_command(const Script *script, const Command *command) {
+    Refusal refusal = {
+        .status = command->status,
+        .place = command->place,
+        .line = command->statement->line,
+        .length = command->statement->length,
+        .script_line = command->line,
+    };
+    raise_refusal(script->connection->state, &refusal);
+}
+
+/* Calls the trace callback with a command. Returns false with an exception. */
+static bool trace(Connection *connection, const Statement *statement) {
+    if (connection->trace_callback == NULL || connection->trace_callback == Py_None) return true;
+    PyObject *line = PyUnicode_DecodeUTF8(statement->line, (Py_ssize_t)statement->length, "surrogateescape");
+    bool is_traced = line != NULL && connection_trace(connection, line);
+    Py_XDECREF(line);
+    return is_traced;
+}
+
+/* Runs a prepared statement. One with holes is no command: executing its line says so. */
+static uint8_t run_prepared(Connection *connection, const Statement *statement) {
+    mmdb *db = &connection->db;
+    uint8_t status = statement->parameters == 0 ? mmdb_run(db, statement->number, NULL, 0)
+                                                : mmdb_execute(db, (const uint8_t *)statement->line, statement->length);
+    if (status == MMDB_DONE && is_definition(statement)) connection->catalog_age++;
+    return status;
+}
+
+/* Runs a command. Returns false with an exception. */
+static bool run_command(Script *script, Command *command) {
+    Connection *connection = script->connection;
+    if (is_empty(command)) return true;
+    if (!trace(connection, command->statement)) return false;
+    if (command->status == MMDB_DONE) {
+        if (PyErr_CheckSignals() < 0 || !connection_enter(connection)) return false;
+        PyThreadState *thread = PyEval_SaveThread();
+        Statement *statement = command->statement;
+        command->status = run_prepared(connection, statement);
+        command->place = mmdb_place(&connection->db, (const uint8_t *)statement->line, statement->length, command->status);
+        PyEval_RestoreThread(thread);
+        connection_leave(connection);
+    }
+    if (command->status < LEAST_REFUSAL) return true;
+    raise_command(script, command);
+    return false;
+}
+
+static bool run_script(Script *script) {
+    Command command, next = {.statement = NULL};
+    if (!read_line(script, &command)) return false;
+    bool is_done = true;
+    while (is_done && command.statement != NULL) {
+        is_done = read_rest(script, &command, &next) && run_command(script, &command);
+        if (command.statement != NULL) statement_release(script->connection, command.statement);
+        command = next;
+        next.statement = NULL;
+    }
+    if (command.statement != NULL) statement_release(script->connection, command.statement);
+    return is_done;
+}
+
+/* Opens the bytes of a script. Returns false with an exception. */
+static bool open_script(const State *state, PyObject *string, Text *text) {
+    if (!PyUnicode_Check(string)) {
+        PyErr_SetString(PyExc_TypeError, "a script is a str");
+        return false;
+    }
+    if (text_open(string, text)) return true;
+    if (!PyErr_ExceptionMatches(PyExc_UnicodeEncodeError)) return false;
+    PyErr_Clear();
+    raise_words(state, PROGRAMMING_ERROR, "the script has a lone surrogate, which stands for no byte of UTF-8");
+    return false;
+}
+
+bool cursor_run_script(Cursor *self, PyObject *string) {
+    if (!cursor_check(self)) return false;
+    cursor_forget(self);
+    Connection *connection = (Connection *)Py_NewRef((PyObject *)self->connection);
+    Text text;
+    bool is_done = false;
+    if (open_script(connection->state, string, &text)) {
+        Script script = {.connection = connection, .at = text.bytes, .end = text.bytes + text.length};
+        is_done = run_script(&script);
+        text_close(&text);
+        cursor_forget(self);
+    }
+    Py_DECREF((PyObject *)connection);
+    return is_done;
+}
