@@ -6,7 +6,7 @@
 A look-up by key of a number and a text, and the INSERT of a row with two indexes inside one transaction: by a call for many rows, and by a
 call for each. Each time is the least of three runs. tools/install makes the library.
 
-On Debian: apt-get install python3 gcc cargo
+On Debian: apt-get install python3 python3-dev python3-pip python3-setuptools python3-wheel gcc cargo
 """
 
 import argparse
@@ -38,9 +38,12 @@ def built(folder):
         **os.environ,
         "MMDB_LIB_DIR": f"{folder}/lib",
         "LD_LIBRARY_PATH": f"{folder}/lib",
-        "PYTHONPATH": str(TOP / "clients/python"),
+        "PYTHONPATH": f"{folder}/package",
         "CARGO_TARGET_DIR": f"{folder}/target",
     }
+    subprocess.run(["bash", str(TOP / "clients/python/build_wheel"), folder, folder], check=True, env={**os.environ, "PYTHON": sys.executable})
+    wheel = next(str(path) for path in pathlib.Path(folder).glob("mmdb-*.whl"))
+    subprocess.run([sys.executable, "-m", "pip", "install", "--quiet", "--no-index", "--no-deps", "--target", f"{folder}/package", wheel], check=True)
     flags = ["-O2", "-std=c11", "-D_GNU_SOURCE", f"-I{folder}/include"]
     subprocess.run(["cc", *flags, "-o", f"{folder}/c", str(TOP / "bench/embedded/mmdb.c"), f"{folder}/lib/libmmdb.so"], check=True)
     pathlib.Path(folder, "Cargo.toml").write_text(CARGO.format(top=TOP))

@@ -4,6 +4,7 @@ from __future__ import annotations
 
 import contextlib
 import glob
+import io
 import os
 import re
 import sys
@@ -202,7 +203,8 @@ def ask(shell: Shell, history: History | None) -> None:
 def run_at_terminal() -> None:
     """Runs the shell at a terminal, on a new database. Refused where there is no memory for it."""
     database = Database()
-    sys.stdout.reconfigure(errors="backslashreplace")  # type: ignore[union-attr]
+    if isinstance(sys.stdout, io.TextIOWrapper):
+        sys.stdout.reconfigure(errors="backslashreplace")
     shell = Shell(database, sys.stdout, shows_progress=True)
     readline = readline_for(shell.session)
     history = History(readline, history_path()) if readline else None

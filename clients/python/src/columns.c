@@ -67,31 +67,41 @@ static Result *result_of_tuple(const State *state, const Shape *shape, PyObject 
     return NULL;
 }
 
+/* Returns the columns of a result from a row on. Takes the reference of the result, which may be NULL with an exception. */
+static PyObject *columns_new(const State *state, Result *result, Shape *shape, size_t first, size_t rows) {
+    Columns *self = result == NULL ? NULL : (Columns *)PyType_GenericAlloc(state->columns_type, 0);
+    if (self == NULL) {
+        result_release(result);
+        return NULL;
+    }
+    self->result = result;
+    self->shape = shape_retain(shape);
+    self->first = first;
+    self->rows = rows;
+    return (PyObject *)self;
+}
+
 PyObject *columns_from_cursor(Cursor *cursor) {
     State *state = cursor->connection->state;
-    /* What is taken from the cursor comes first: making objects may run code that uses it. */
-    bool has_result = cursor->result != NULL;
+    /* The rows are taken from the cursor first: making objects may run code that uses it. */
+    size_t first = cursor->at;
     Result *result = result_retain(cursor->result);
     Shape *shape = shape_retain(cursor->shape);
     PyObject *one = cursor->one;
-    size_t first = cursor->at, rows = cursor->rows - first;
     cursor->one = NULL;
     cursor->at = cursor->rows;
-    if (!has_result) {
-        result = result_of_tuple(state, shape, one);
-        first = 0;
+    size_t rows = cursor->rows - first;
+    PyObject *columns = result != NULL ? columns_new(state, result, shape, first, rows)
+                                       : columns_new(state, result_of_tuple(state, shape, one), shape, 0, rows);
+    /* If they could not be made, and the cursor was not used meanwhile, it gets them back. */
+    if (columns == NULL && cursor->shape == shape && cursor->at == cursor->rows && cursor->one == NULL) {
+        cursor->at = first;
+        cursor->one = one;
+        one = NULL;
     }
-    Columns *self = result == NULL ? NULL : (Columns *)PyType_GenericAlloc(state->columns_type, 0);
-    if (self != NULL) {
-        self->result = result_retain(result);
-        self->shape = shape_retain(shape);
-        self->first = first;
-        self->rows = rows;
-    }
-    result_release(result);
     shape_release(shape);
     Py_XDECREF(one);
-    return (PyObject *)self;
+    return columns;
 }
 
 static void columns_dealloc(PyObject *object) {

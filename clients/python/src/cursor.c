@@ -70,6 +70,11 @@ bool cursor_check_rows(Cursor *self) {
 
 /* ---- Fetching --------------------------------------------------------------------------------------------------------------------- */
 
+/* Gives rows back that were taken from a cursor and could not be made, unless it was used meanwhile. */
+static void give_back(Cursor *self, const Result *result, size_t first, size_t count) {
+    if (self->result == result && self->at == first + count) self->at = first;
+}
+
 /* Returns the next row as a tuple. There is one. */
 static PyObject *next_tuple(Cursor *self) {
     size_t at = self->at++;
@@ -81,6 +86,7 @@ static PyObject *next_tuple(Cursor *self) {
     /* Making the row may run a finalizer that uses this cursor, so the result is held. */
     Result *result = result_retain(self->result);
     PyObject *row = row_from_result(self->connection->text_factory, result, at);
+    if (row == NULL) give_back(self, result, at, 1);
     result_release(result);
     return row;
 }
@@ -144,6 +150,7 @@ static PyObject *fetch(Cursor *self, size_t most) {
     if (left > most) left = most;
     self->at += left;
     PyObject *list = fetch_tuples(factory, result, first, left);
+    if (list == NULL) give_back(self, result, first, left);
     Py_XDECREF(factory);
     result_release(result);
     return list;
@@ -301,7 +308,8 @@ static PyMethodDef cursor_methods[] = {
     {"executescript", FAST_CALL(cursor_executescript), METH_FASTCALL | METH_KEYWORDS,
      "executescript($self, /, script)\n--\n\n"
      "Runs the commands of a script up to the first that is refused, and returns the cursor. Begins no transaction by itself.\n\n"
-     "A command goes on in the next line if it is not complete or if no command begins there. An empty line or a comment ends it."},
+     "A line goes on with the command before it if that can be read further there, and is not complete or the line is no command\n"
+     "itself. An empty line or a comment ends a command."},
     {"fetchone", cursor_fetchone, METH_NOARGS, "fetchone($self, /)\n--\n\nReturns the next row, or None if there is none."},
     {"fetchmany", FAST_CALL(cursor_fetchmany), METH_FASTCALL | METH_KEYWORDS,
      "fetchmany($self, /, size=None)\n--\n\nReturns a list of the next rows, at most size of them, or arraysize if it is not passed."},

@@ -53,19 +53,35 @@ static bool is_empty(const Command *command) {
     return command->status == MMDB_DONE && command->statement->kind == MMDB_KIND_NOTHING;
 }
 
-/* Returns whether reading a command stopped at its end, so that more has to follow. */
-static bool is_incomplete(const Command *command) {
-    if (command->status != MMDB_SYNTAX) return false;
-    size_t at = command->place;
-    while (at < command->statement->length && is_blank(command->statement->line[at])) at++;
-    return at == command->statement->length;
+/* Returns whether reading two lines as one command got past the beginning of the second one. */
+static bool reads_on(const Command *first, const Command *next, const Command *both) {
+    if (both->status != MMDB_SYNTAX) return true;
+    /* A blank in both stands for the line feed. */
+    size_t begin = first->statement->length + 1, end = both->statement->length;
+    for (size_t i = 0; i < next->statement->length && begin < end && is_blank(both->statement->line[begin]); i++) begin++;
+    return both->place > begin;
 }
 
-/* Returns whether reading a line stopped at its first word, so that no command begins there. */
-static bool begins_no_command(const Command *command) {
-    if (command->status != MMDB_SYNTAX) return false;
-    for (size_t i = 0; i < command->place; i++) {
-        if (!is_blank(command->statement->line[i])) return false;
+static void command_close(Script *script, Command *command) {
+    if (command->statement != NULL) statement_release(script->connection, command->statement);
+    command->statement = NULL;
+}
+
+/*
+ * Appends the next line to a command if the command goes on there, and closes next then. No command goes on with a line that is a command
+ * too. Returns false with an exception.
+ */
+static bool join(Script *script, Command *command, Command *next, bool *is_joined) {
+    *is_joined = false;
+    if (is_empty(command) || is_empty(next)) return true;
+    if (command->status == MMDB_DONE && next->status != MMDB_SYNTAX) return true;
+    Command both = {.begin = command->begin, .end = next->end, .line = command->line};
+    if (!command_prepare(script, &both)) return false;
+    *is_joined = reads_on(command, next, &both);
+    command_close(script, *is_joined ? command : &both);
+    if (*is_joined) {
+        command_close(script, next);
+        *command = both;
     }
     return true;
 }
@@ -75,16 +91,9 @@ static bool begins_no_command(const Command *command) {
  * Returns false with an exception.
  */
 static bool read_rest(Script *script, Command *command, Command *next) {
-    next->statement = NULL;
-    while (!script->is_over) {
-        if (!read_line(script, next)) return false;
-        bool goes_on = !is_empty(command) && !is_empty(next) && (is_incomplete(command) || begins_no_command(next));
-        if (!goes_on) return true;
-        statement_release(script->connection, command->statement);
-        statement_release(script->connection, next->statement);
-        next->statement = NULL;
-        command->end = next->end;
-        if (!command_prepare(script, command)) return false;
+    bool is_joined = true;
+    while (is_joined && !script->is_over) {
+        if (!read_line(script, next) || !join(script, command, next, &is_joined)) return false;
     }
     return true;
 }
@@ -138,16 +147,15 @@ static bool run_command(Script *script, Command *command) {
 }
 
 static bool run_script(Script *script) {
-    Command command, next = {.statement = NULL};
-    if (!read_line(script, &command)) return false;
-    bool is_done = true;
+    Command command;
+    bool is_done = read_line(script, &command);
     while (is_done && command.statement != NULL) {
+        Command next = {.statement = NULL};
         is_done = read_rest(script, &command, &next) && run_command(script, &command);
-        if (command.statement != NULL) statement_release(script->connection, command.statement);
+        command_close(script, &command);
         command = next;
-        next.statement = NULL;
     }
-    if (command.statement != NULL) statement_release(script->connection, command.statement);
+    command_close(script, &command);
     return is_done;
 }
 

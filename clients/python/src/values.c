@@ -109,20 +109,27 @@ static Conversion cells_from_list(const State *state, PyObject *list, mmdb_cell 
 
 /* Returns whether an object may hold the values of a line: it has an order, and is no text. */
 static bool is_row(PyObject *object) {
+    if (PyTuple_Check(object) || PyList_Check(object)) return true;
     if (PyUnicode_Check(object) || PyBytes_Check(object) || PyByteArray_Check(object)) return false;
     if (PyAnySet_Check(object) || PyObject_HasAttrString(object, "keys")) return false;
     return PySequence_Check(object) || PyIter_Check(object) || PyObject_HasAttrString(object, "__iter__");
 }
 
-/* Returns a new reference to a tuple or a list with the values of a line. Runs Python code if the object is of another type. */
-static PyObject *row_open(const State *state, PyObject *object) {
-    if (PyTuple_CheckExact(object) || PyList_CheckExact(object)) return Py_NewRef(object);
-    if (PyTuple_Check(object) || PyList_Check(object) || is_row(object)) return PySequence_Tuple(object);
+/* Opens a tuple or a list with the values of a line. Runs Python code if the object is of another type. */
+static Conversion row_open(const State *state, PyObject *object, PyObject **row) {
+    if (PyTuple_CheckExact(object) || PyList_CheckExact(object)) {
+        *row = Py_NewRef(object);
+        return CONVERTED;
+    }
+    if (is_row(object)) {
+        *row = PySequence_Tuple(object);
+        return *row != NULL ? CONVERTED : RAISED;
+    }
     PyObject *name = PyObject_GetAttrString((PyObject *)Py_TYPE(object), "__name__");
-    if (name == NULL) return NULL;
+    if (name == NULL) return RAISED;
     raise_words(state, PROGRAMMING_ERROR, "the values of a line come in a tuple or a list, not in a %S", name);
     Py_DECREF(name);
-    return NULL;
+    return REFUSED;
 }
 
 static size_t row_size(PyObject *row) { return (size_t)(PyTuple_Check(row) ? PyTuple_Size(row) : PyList_Size(row)); }
@@ -132,9 +139,10 @@ static Conversion cells_from_open_row(const State *state, PyObject *row, mmdb_ce
 }
 
 Conversion cells_from_row(const State *state, PyObject *object, mmdb_cell *cells, size_t width) {
-    PyObject *row = row_open(state, object);
-    if (row == NULL) return PyErr_ExceptionMatches(state->errors[PROGRAMMING_ERROR]) && !is_row(object) ? REFUSED : RAISED;
-    Conversion conversion = REFUSED;
+    PyObject *row;
+    Conversion conversion = row_open(state, object, &row);
+    if (conversion != CONVERTED) return conversion;
+    conversion = REFUSED;
     if (row_size(row) == width) {
         conversion = cells_from_open_row(state, row, cells, width);
     } else {
@@ -145,9 +153,9 @@ Conversion cells_from_row(const State *state, PyObject *object, mmdb_cell *cells
 }
 
 bool values_take(const State *state, PyObject *parameters, Values *values) {
+    PyObject *row;
     values->cells = values->few;
-    PyObject *row = row_open(state, parameters);
-    if (row == NULL) return false;
+    if (row_open(state, parameters, &row) != CONVERTED) return false;
     values->count = row_size(row);
     bool is_taken = false;
     if (values->count > FEW_VALUES && (values->cells = malloc(values->count * sizeof(mmdb_cell))) == NULL) {
@@ -165,11 +173,11 @@ void values_free(Values *values) {
 }
 
 bool has_own_texts(PyObject *factory) {
-    return factory != NULL && factory != (PyObject *)&PyUnicode_Type && factory != (PyObject *)&PyBytes_Type;
+    return factory != NULL && factory != Py_None && factory != (PyObject *)&PyUnicode_Type && factory != (PyObject *)&PyBytes_Type;
 }
 
 PyObject *object_from_text(PyObject *factory, const char *bytes, size_t length) {
-    if (factory == NULL || factory == (PyObject *)&PyUnicode_Type) {
+    if (factory == NULL || factory == Py_None || factory == (PyObject *)&PyUnicode_Type) {
         return PyUnicode_DecodeUTF8(bytes, (Py_ssize_t)length, "surrogateescape");
     }
     PyObject *text = PyBytes_FromStringAndSize(bytes, (Py_ssize_t)length);

@@ -1,14 +1,9 @@
-"""What the tests share. They want the library where the package looks for it, as by MMDB_LIBRARY."""
+"""What the tests share. They test the package mmdb that Python finds: one that is installed, or on PYTHONPATH, or built in place."""
 
-import os
-import sys
 from collections.abc import Iterator
 
+import mmdb
 import pytest
-
-sys.path.insert(0, os.path.dirname(os.path.dirname(os.path.abspath(__file__))))
-
-import mmdb  # noqa: E402
 
 
 @pytest.fixture

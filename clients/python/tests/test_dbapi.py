@@ -252,7 +252,7 @@ def test_executemany_ends_at_the_first_refused_run(papers: mmdb.Connection) -> N
 
 @pytest.mark.parametrize("line", ["SCAN author", "TABLES", "BEGIN", "INDEX i ON author (name) TREE"])
 def test_executemany_runs_changes_alone(papers: mmdb.Connection, line: str) -> None:
-    with pytest.raises(mmdb.ProgrammingError, match="INSERT, UPDATE and DELETE alone"):
+    with pytest.raises(mmdb.ProgrammingError, match="only INSERT, UPDATE and DELETE"):
         papers.executemany(line, [()])
 
 

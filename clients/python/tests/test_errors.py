@@ -1,8 +1,12 @@
 """Which exception stands for which refusal, and what it says."""
 
+import os
+import re
+
 import mmdb
 import pytest
-from mmdb._library import REFUSALS
+
+TOP = os.path.join(os.path.dirname(os.path.abspath(__file__)), "..", "..", "..")
 
 TABLES = "TABLE t (id INT KEY, k INT, s TEXT)\nTABLE u (id INT KEY, r INT REF t)\nINSERT t (1, 5, 'a')\nINSERT u (1, 1)"
 MOST = 2**63 - 1
@@ -28,6 +32,15 @@ LINES = [
     (48, mmdb.OperationalError, "SELECT a.k FROM t a, t b, t c, t d, t e"),
     (51, mmdb.ProgrammingError, "COMMIT"),
 ]
+
+
+def words_of_refusals() -> dict[int, str]:
+    """The words of each refusal, as the description of the language has them."""
+    with open(os.path.join(TOP, "docs", "LANGUAGE.md"), encoding="utf-8") as file:
+        return {int(number): words for number, words in re.findall(r"^\| (\d\d) \| `([a-z ]+)` \|", file.read(), re.MULTILINE)}
+
+
+REFUSALS = words_of_refusals()
 
 
 @pytest.fixture
@@ -87,7 +100,7 @@ def test_the_line_of_a_script_is_shown(connection: mmdb.Connection) -> None:
     assert connection.execute("TABLES").rowcount == 1
 
 
-@pytest.mark.parametrize("value", [1.0, None, b"a", bytearray(b"a"), 1j, object(), (1,), [1]], ids=repr)
+@pytest.mark.parametrize("value", [1.0, None, bytearray(b"a"), memoryview(b"a"), 1j, object(), (1,), [1]], ids=repr)
 def test_values_of_no_type(filled: mmdb.Connection, value: object) -> None:
     for line, values in (("INSERT t (?, 5, 'a')", (value,)), ("INSERT t (?, ?, ?)", (2, 5, value))):
         with pytest.raises(mmdb.NotSupportedError, match=f"not {type(value).__name__}") as raised:

@@ -8,7 +8,7 @@ import random
 import pytest
 
 from mmdb import shell_files
-from mmdb._library import LEAST_REFUSAL, Database, Refused, Row, decoded
+from mmdb._library import DONE, LEAST_REFUSAL, Database, Refused, Row, decoded
 from mmdb.shell_commands import Shell
 from mmdb.shell_catalog import Failure, Session
 from mmdb.shell_files import Progress, dump, export_csv, import_csv, packed, written
@@ -157,8 +157,7 @@ def test_dump_of_the_longest_rows(tmp_path: "os.PathLike[str]") -> None:
 
 def test_dump_of_a_long_table(tmp_path: "os.PathLike[str]") -> None:
     session = session_of("TABLE t (id INT KEY, k INT)")
-    statement = session.database.prepare(b"INSERT t (?, ?)")
-    session.database.run_many(statement, [(number, -number) for number in range(5000)])
+    session.database.run_many(b"INSERT t (?, ?)", [(number, -number) for number in range(5000)])
     lines = check_dump(session, tmp_path).splitlines()
     assert lines[1] == "BEGIN" and lines[-1] == "COMMIT"
     assert all(len(line) > 4000 for line in lines[2:-2])
@@ -364,8 +363,7 @@ def test_what_is_exported_can_be_imported(has_header: bool, tmp_path: "os.PathLi
     rows: list[Row] = []
     for key in range(999):
         rows.append((random_text(chance), chance.randrange(-(2**63), 2**63), f"{key}{random_text(chance)}"))
-    insert = files.session.database.prepare(b"INSERT t (?, ?, ?)")
-    assert files.session.database.run_many(insert, rows)[0] == len(rows)
+    assert files.session.database.run_many(b"INSERT t (?, ?, ?)", rows)[0] == len(rows)
     assert export_csv(files.session, b"SCAN t", files.path, has_header) == len(rows)
     again = session_of(table)
     assert import_csv(again, "t", files.path, has_header, QUIET) == len(rows)
@@ -375,7 +373,7 @@ def test_what_is_exported_can_be_imported(has_header: bool, tmp_path: "os.PathLi
 @pytest.mark.parametrize("text", ["", "\ufeff", "\ufeffx", "\r", "\0", "\udcff", '"', "'", ","])
 def test_a_file_of_one_text(text: str, tmp_path: "os.PathLike[str]") -> None:
     files = Files(tmp_path, "TABLE t (s TEXT KEY)")
-    files.session.database.run(files.session.database.prepare(b"INSERT t (?)"), (text,))
+    assert files.session.database.run_many(b"INSERT t (?)", [(text,)]) == (1, DONE)
     assert export_csv(files.session, b"SCAN t", files.path, False) == 1
     again = session_of("TABLE t (s TEXT KEY)")
     assert import_csv(again, "t", files.path, False, QUIET) == 1

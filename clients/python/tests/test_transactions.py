@@ -173,10 +173,89 @@ def test_a_savepoint_begins_a_transaction(numbers: mmdb.Connection) -> None:
     numbers.execute("SAVEPOINT s")
     assert numbers.in_transaction
     numbers.commit()
+
+
+def test_a_savepoint_with_autocommit_has_a_transaction_of_its_own(numbers: mmdb.Connection) -> None:
     numbers.autocommit = True
-    with pytest.raises(mmdb.ProgrammingError) as raised, numbers.savepoint("s"):
-        pass
-    assert raised.value.number == 51
+    with numbers.savepoint("s"):
+        assert numbers.in_transaction
+        numbers.execute("INSERT t (3, 30)")
+    assert not numbers.in_transaction
+    with pytest.raises(KeyError), numbers.savepoint("s"):
+        numbers.execute("DELETE t")
+        raise KeyError
+    assert not numbers.in_transaction and len(rows(numbers)) == 3
+    numbers.execute("BEGIN")
+    with numbers.savepoint("s"):
+        numbers.execute("DELETE t")
+    assert numbers.in_transaction
+    numbers.rollback()
+    assert len(rows(numbers)) == 3
+
+
+def test_savepoints_with_one_name_nest(numbers: mmdb.Connection) -> None:
+    def step(depth: int) -> None:
+        with numbers.savepoint("step"):
+            numbers.execute("INSERT t (?, 0)", (100 + depth,))
+            if depth < 5:
+                step(depth + 1)
+            if depth == 2:
+                raise KeyError
+
+    with pytest.raises(KeyError):
+        step(1)
+    numbers.commit()
+    assert rows(numbers) == [(1, 10), (2, 20)]
+    with numbers.savepoint("step"):
+        numbers.execute("INSERT t (3, 30)")
+        with pytest.raises(KeyError), numbers.savepoint("step"):
+            numbers.execute("DELETE t")
+            raise KeyError
+        numbers.execute("INSERT t (4, 40)")
+    numbers.commit()
+    assert [number for number, _ in rows(numbers)] == [1, 2, 3, 4]
+
+
+@pytest.mark.parametrize("fails", [False, True])
+def test_a_thousand_savepoints_in_a_row(numbers: mmdb.Connection, fails: bool) -> None:
+    for number in range(1000):
+        try:
+            with numbers.savepoint("item"):
+                numbers.execute("INSERT t (?, 0)", (10 + number,))
+                if fails:
+                    raise KeyError
+        except KeyError:
+            pass
+    assert len(rows(numbers)) == (2 if fails else 1002)
+
+
+def test_a_savepoint_is_set_once(numbers: mmdb.Connection) -> None:
+    savepoint = numbers.savepoint("s")
+    with savepoint:
+        with pytest.raises(mmdb.ProgrammingError, match="set already"):
+            savepoint.__enter__()
+        numbers.execute("DELETE t")
+    with pytest.raises(KeyError), savepoint:
+        numbers.execute("INSERT t (3, 30)")
+        raise KeyError
+    assert rows(numbers) == []
+    assert savepoint.__exit__(None, None, None) is False
+    with pytest.raises(mmdb.ProgrammingError) as raised:
+        savepoint.rollback()
+    assert raised.value.number == 53
+
+
+def test_a_savepoint_that_a_rollback_removed(numbers: mmdb.Connection) -> None:
+    numbers.execute("SAVEPOINT outer")
+    with numbers.savepoint("inner"):
+        numbers.execute("DELETE t")
+        numbers.execute("ROLLBACK TO outer")
+    assert numbers.in_transaction and len(rows(numbers)) == 2
+    with pytest.raises(KeyError), numbers.savepoint("inner"):
+        numbers.execute("DELETE t")
+        numbers.execute("ROLLBACK TO outer")
+        raise KeyError
+    assert numbers.in_transaction and len(rows(numbers)) == 2
 
 
 def test_a_savepoint_of_a_transaction_that_ended(numbers: mmdb.Connection) -> None:
@@ -189,11 +268,15 @@ def test_a_savepoint_of_a_transaction_that_ended(numbers: mmdb.Connection) -> No
 
 @pytest.mark.parametrize("name", ["", "S", "1a", "a b", "s SAVEPOINT", "a" * 33, "é", "a\n"])
 def test_names_are_checked(numbers: mmdb.Connection, name: str) -> None:
-    for call in (numbers.savepoint, numbers.show, numbers.unwatch):
-        with pytest.raises(mmdb.ProgrammingError, match="is no name"):
-            call(name)
-    with pytest.raises(mmdb.ProgrammingError, match="is no name"):
-        numbers.watch(name, "SELECT a.id FROM t a")
+    for call in (
+        lambda: numbers.savepoint(name).__enter__(),
+        lambda: numbers.show(name),
+        lambda: numbers.unwatch(name),
+        lambda: numbers.watch(name, "SELECT a.id FROM t a"),
+    ):
+        with pytest.raises(mmdb.ProgrammingError, match="is no name|syntax"):
+            call()
+        assert not numbers.in_transaction
 
 
 def test_at_most_64_savepoints(numbers: mmdb.Connection) -> None:

@@ -1,0 +1,197 @@
+"""Refuses each call of the package each growth of memory in turn. test_refused_memory.py runs it with refuse.c preloaded.
+
+After a refusal the call must have raised MemoryError or OperationalError (90) and changed nothing, or must have done without the memory.
+Given again, it must succeed. When all is over, no more memory may be in use than after the same calls were made before.
+"""
+
+import array
+import ctypes
+import gc
+import sys
+from collections.abc import Callable
+from typing import Any
+
+import mmdb
+
+MEMORY = 90
+# A leak of a block for each growth that is refused would be more than this.
+MOST_BYTES_MORE = 3000
+
+LOOK_UP = "SELECT a.s FROM t a WHERE a.id = ?"
+RANGE = "SELECT a.id, a.s FROM t a WHERE a.id >= ?"
+INSERT = "INSERT t (?, ?)"
+NEW_ROWS = [(1000 + number, f"a new text {number}") for number in range(40)]
+MANY_VALUES = tuple(range(2000, 2040))
+INSERT_MANY_VALUES = "INSERT u " + ", ".join("(?)" for _ in MANY_VALUES)
+KEYS = array.array("q", [key for key, _ in NEW_ROWS])
+TEXTS = [text for _, text in NEW_ROWS]
+UNIQUE = "\udcffx"
+SCRIPT = "INSERT t\n  (7000, 'x')"
+State = tuple[bool, list[Any], list[Any], list[Any]]
+
+
+class Case:
+    """A call. `before` prepares a connection for it, and makes what the call takes."""
+
+    def __init__(self, call: Callable[[Any], Any], before: Callable[[mmdb.Connection], Any] = lambda connection: connection) -> None:
+        self.call, self.before = call, before
+
+
+def opened() -> mmdb.Connection:
+    connection = mmdb.connect()
+    connection.executescript("TABLE t (id INT KEY, s TEXT)\nTABLE u (id INT KEY)\nINDEX by_s ON t (s) TREE\nWATCH w SELECT a.id FROM t a WHERE a.id < 9")
+    connection.executemany(INSERT, [(number, f"text {number}") for number in range(120)])
+    connection.commit()
+    return connection
+
+
+def state_of(connection: mmdb.Connection) -> State:
+    return (connection.in_transaction, *(connection.execute(line).fetchall() for line in ("SCAN t", "SCAN u", "SHOW w")))
+
+
+def scanned(connection: mmdb.Connection) -> mmdb.Cursor:
+    return connection.execute("SCAN t")
+
+
+def found(connection: mmdb.Connection) -> mmdb.Cursor:
+    return connection.execute(LOOK_UP, (5,))
+
+
+def named(connection: mmdb.Connection) -> mmdb.Cursor:
+    connection.row_factory = mmdb.Row
+    return connection.execute(RANGE, (115,))
+
+
+def with_savepoint(connection: mmdb.Connection) -> None:
+    with connection.savepoint("s"):
+        pass
+
+
+CASES = {
+    "connect": Case(lambda c: mmdb.connect(check_same_thread=False)),
+    "cursor": Case(lambda c: c.cursor()),
+    "a look-up": Case(lambda c: c.execute(LOOK_UP, (5,)).fetchone()),
+    "a look-up again": Case(lambda c: c.execute(LOOK_UP, (7,)).fetchone(), lambda c: (c.execute(LOOK_UP, (5,)), c)[1]),
+    "a range": Case(lambda c: c.execute(RANGE, [3]).fetchall()),
+    "a scan": Case(lambda c: c.execute("SCAN t")),
+    "a scan over lines": Case(lambda c: c.execute("SCAN\r\nt")),
+    "iteration": Case(lambda cursor: [row for row in cursor], scanned),
+    "fetchall": Case(lambda cursor: cursor.fetchall(), scanned),
+    "fetchmany": Case(lambda cursor: cursor.fetchmany(7), scanned),
+    "fetchcolumns": Case(lambda cursor: cursor.fetchcolumns()["s"], scanned),
+    "fetchcolumns of a row": Case(lambda cursor: cursor.fetchcolumns()[0], found),
+    "arrow": Case(lambda columns: columns.__arrow_c_array__(), lambda c: scanned(c).fetchcolumns()),
+    "description": Case(lambda cursor: cursor.description, scanned),
+    "named rows": Case(lambda cursor: [(row["id"], row.keys(), repr(row), hash(row)) for row in cursor], named),
+    "tables": Case(lambda c: c.execute("TABLES").fetchall()),
+    "a plan": Case(lambda c: c.execute("EXPLAIN " + LOOK_UP, (5,)).fetchall()),
+    "an insert": Case(lambda c: c.execute(INSERT, (3000, "three thousand"))),
+    "an insert of bytes": Case(lambda c: c.execute(INSERT, (3000, b"\xffx"))),
+    "an insert of another text": Case(lambda c: c.execute(INSERT, (3000, UNIQUE[:1] + "x"))),
+    "an insert by a generator": Case(lambda c: c.execute(INSERT, (value for value in (3000, "x")))),
+    "an insert of many values": Case(lambda c: c.execute(INSERT_MANY_VALUES, MANY_VALUES)),
+    "an insert in a transaction": Case(lambda c: c.execute(INSERT, (3000, "x")), lambda c: (c.execute(INSERT, (2000, "y")), c)[1]),
+    "an update": Case(lambda c: c.execute("UPDATE t SET s = ? WHERE id < ?", ("changed", 30))),
+    "a delete": Case(lambda c: c.execute("DELETE t WHERE id > ?", (30,))),
+    "executemany": Case(lambda c: c.executemany(INSERT, NEW_ROWS)),
+    "executecolumns": Case(lambda c: c.executecolumns(INSERT, (KEYS, TEXTS))),
+    "executescript": Case(lambda c: c.executescript(SCRIPT)),
+    "a savepoint": Case(with_savepoint),
+    "commit": Case(lambda c: c.commit(), lambda c: (c.execute(INSERT, (2000, "y")), c)[1]),
+    "rollback": Case(lambda c: c.rollback(), lambda c: (c.execute(INSERT, (2000, "y")), c)[1]),
+    "watch": Case(lambda c: c.watch("v", "SELECT a.s FROM t a")),
+    "show": Case(lambda c: c.show("w").fetchall()),
+    "in_transaction": Case(lambda c: (c.in_transaction, c.total_changes, c._statements)),
+    "a refused line": Case(lambda c: is_refused(lambda: c.execute("SCAN nothing"))),
+    "a refused run": Case(lambda c: is_refused(lambda: c.execute(INSERT, (5, "x")))),
+    "a refused value": Case(lambda c: is_refused(lambda: c.execute(INSERT, (5000, 2.5)))),
+    "a refused row": Case(lambda c: is_refused(lambda: c.executemany(INSERT, [(4000,)]))),
+    "the shell's calls": Case(lambda c: (c._execute_line(b"SCAN t"), c._reply_text(), c._reply_rows(b"SCAN t"), c._columns_of(b"SCAN t"))),
+}
+
+
+class Memory:
+    """The calls of refuse.c, which is preloaded."""
+
+    def __init__(self) -> None:
+        library = ctypes.CDLL(None)
+        self.refuse, self.was_refused, self.in_use = library.refuse_growth, library.growth_was_refused, library.memory_in_use
+        self.refuse.argtypes, self.refuse.restype = [ctypes.c_long], None
+        self.in_use.restype = ctypes.c_size_t
+
+
+def is_refused(call: Callable[[], Any]) -> None:
+    """Makes a call that is refused. Raises what says that memory was refused to it."""
+    try:
+        call()
+    except MemoryError:
+        raise
+    except mmdb.Error as error:
+        if error.number == MEMORY:
+            raise
+        return
+    raise AssertionError("the call was not refused")
+
+
+def made(memory: Memory, case: Case, given: Any, growth: int) -> tuple[bool, BaseException | None]:
+    """Makes a call to which a growth is refused. Returns whether it was, and the exception that says so."""
+    was_refused = memory.was_refused
+    memory.refuse(growth)
+    try:
+        case.call(given)
+    except MemoryError as error:
+        return bool(was_refused()), error
+    except mmdb.OperationalError as error:
+        assert error.number == MEMORY and error.args[0].startswith("memory"), error
+        return bool(was_refused()), error
+    return bool(was_refused()), None
+
+
+def refused_once(memory: Memory, name: str, case: Case, growth: int) -> bool:
+    """Refuses a call a growth. Returns whether there was such a growth."""
+    connection = opened()
+    given = case.before(connection)
+    before = state_of(connection)
+    refused, error = made(memory, case, given, growth)
+    if not refused:
+        assert error is None, (name, growth, error)
+        return False
+    runs = getattr(error, "runs", None) or 0
+    if error is not None and not runs:
+        assert state_of(connection) == before, (name, growth, "the refused call changed something")
+    if error is not None and runs:
+        assert state_of(connection)[1] == before[1] + NEW_ROWS[:runs], (name, growth, runs)
+        connection.rollback()
+    if error is not None:
+        case.call(given)
+    fresh = opened()
+    case.call(case.before(fresh))
+    assert state_of(connection) == state_of(fresh), (name, growth, "the call that was given again did something else")
+    return True
+
+
+def growths_of(memory: Memory, name: str) -> int:
+    growth = 1
+    while refused_once(memory, name, CASES[name], growth):
+        growth += 1
+    return growth - 1
+
+
+def main() -> None:
+    names = sys.argv[1:] or list(CASES)
+    memory = Memory()
+    total = 0
+    for name in names:
+        growths_of(memory, name)
+        gc.collect()
+        before = memory.in_use()
+        growths = growths_of(memory, name)
+        gc.collect()
+        more = memory.in_use() - before
+        assert more < MOST_BYTES_MORE, (name, growths, f"{more} bytes more are in use")
+        total += growths
+    print(f"{total} growths were refused to {len(names)} calls")
+
+
+if __name__ == "__main__":
+    main()

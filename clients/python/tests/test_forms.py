@@ -1,0 +1,255 @@
+"""What programs for sqlite3 use besides the Database API: keywords, weak references, factories, counts, dumps, subclasses, pickles."""
+
+import copy
+import pickle
+import weakref
+from collections.abc import Sequence
+
+import mmdb
+import pytest
+
+
+def test_keywords(papers: mmdb.Connection) -> None:
+    line = "SELECT a.name FROM author a WHERE a.id = ?"
+    for made in (papers, papers.cursor()):
+        assert made.execute(operation=line, parameters=(1,)).fetchall() == [("Carey",)]
+        assert made.execute(line, parameters=[2]).fetchmany(size=5) == [("Lehman",)]
+        assert made.executemany("DELETE author WHERE id = ?", seq_of_parameters=[(77,)]).rowcount == 0
+        made.executescript(script="SCAN author")
+        assert made.executecolumns("DELETE author WHERE id = ?", columns=([77, 78],)).rowcount == 0
+    papers.commit()
+    papers.watch(name="w", query="SELECT a.id FROM author a")
+    assert mmdb.connect(autocommit=True, check_same_thread=False).autocommit
+
+
+def test_wrong_arguments(papers: mmdb.Connection) -> None:
+    cursor = papers.cursor()
+    for call in (
+        lambda: cursor.execute(),
+        lambda: cursor.execute("SCAN author", (), ()),
+        lambda: cursor.execute("SCAN author", operation="SCAN author"),
+        lambda: cursor.execute("SCAN author", values=()),
+        lambda: cursor.executemany("SCAN author"),
+        lambda: cursor.executescript(5),
+        lambda: cursor.fetchmany("a"),
+        lambda: cursor.fetchmany(1, 2),
+        lambda: papers.savepoint(5),
+        lambda: papers.watch("w"),
+        lambda: papers.watch("w", 5),
+        lambda: mmdb.connect(path="a"),
+        lambda: mmdb.Cursor(),
+        lambda: mmdb.Cursor(5),
+        lambda: mmdb.Savepoint(),
+        lambda: mmdb.Columns(),
+    ):
+        with pytest.raises(TypeError):
+            call()  # type: ignore[no-untyped-call]
+
+
+def test_weak_references(papers: mmdb.Connection) -> None:
+    cursor = papers.execute("SCAN author")
+    told: list[str] = []
+    references = weakref.WeakSet([papers, cursor])
+    weakref.finalize(cursor, told.append, "cursor")
+    assert len(references) == 2
+    del cursor
+    assert len(references) == 1 and told == ["cursor"]
+
+
+def test_bytes_are_texts(connection: mmdb.Connection) -> None:
+    connection.execute("TABLE t (s TEXT KEY, n INT)")
+    connection.execute("INSERT t (?, ?)", (b"abc", 1))
+    connection.executemany("INSERT t (?, ?)", [(b"caf\xe9", 2), (mmdb.Binary(b""), 3)])
+    assert connection.execute("SCAN t").fetchall() == [("", 3), ("abc", 1), ("caf\udce9", 2)]
+    assert connection.execute("SELECT a.n FROM t a WHERE a.s = ?", ("caf\udce9",)).fetchall() == [(2,)]
+    with pytest.raises(mmdb.DataError, match="this one has 65"):
+        connection.execute("INSERT t (?, 4)", (65 * b"x",))
+    with pytest.raises(mmdb.DataError, match="line feed"):
+        connection.execute("INSERT t (?, 4)", (b"a\nb",))
+    with pytest.raises(mmdb.DataError) as raised:
+        connection.execute("INSERT t ('x', ?)", (b"1",))
+    assert raised.value.number == 30
+
+
+def test_text_factories(papers: mmdb.Connection) -> None:
+    assert papers.text_factory is None
+    papers.text_factory = bytes
+    assert papers.execute("SCAN author").fetchall() == [(1, b"Carey"), (2, b"Lehman")]
+    assert papers.execute("SELECT a.name FROM author a WHERE a.id = 1").fetchone() == (b"Carey",)
+    papers.text_factory = lambda text: text.decode().upper()
+    assert papers.execute("SCAN author").fetchall() == [(1, "CAREY"), (2, "LEHMAN")]
+    assert papers.execute("SELECT a.name FROM author a WHERE a.id = 1").fetchone() == ("CAREY",)
+    assert list(papers.execute("TABLES"))[0] == ("TABLE AUTHOR (ID INT KEY, NAME TEXT) ROWS 2",)
+    papers.row_factory = mmdb.Row
+    assert papers.execute("SCAN author").fetchone()["name"] == "CAREY"
+    papers.text_factory = lambda text: 1 // 0
+    for fetch in (mmdb.Cursor.fetchone, mmdb.Cursor.fetchall, next):
+        with pytest.raises(ZeroDivisionError):
+            fetch(papers.execute("SCAN author"))
+    papers.text_factory = str
+    assert papers.execute("SCAN author").fetchone()["name"] == "Carey"
+    del papers.text_factory, papers.row_factory
+    assert papers.execute("SCAN author").fetchone() == (1, "Carey")
+
+
+def test_total_changes(connection: mmdb.Connection) -> None:
+    assert connection.total_changes == 0
+    connection.execute("TABLE t (id INT KEY, k INT)")
+    connection.executemany("INSERT t (?, 0)", [(number,) for number in range(10)])
+    connection.execute("UPDATE t SET k = 1 WHERE id < 5")
+    assert connection.total_changes == 15
+    with pytest.raises(mmdb.IntegrityError):
+        connection.executemany("INSERT t (?, 0)", [(20,), (21,), (1,)])
+    assert connection.total_changes == 17
+    connection.rollback()
+    connection.execute("SCAN t")
+    assert connection.total_changes == 17
+    connection.executescript("INSERT t (1, 1), (2, 2)\nDELETE t")
+    assert connection.total_changes == 21
+
+
+def test_rowcount_of_many_runs(connection: mmdb.Connection) -> None:
+    connection.execute("TABLE t (id INT KEY, k INT)")
+    assert connection.executemany("INSERT t (?, 0), (?, 1)", [(n, n + 5000) for n in range(2000)]).rowcount == 4000
+    assert connection.executemany("UPDATE t SET k = ? WHERE id < ?", [(2, 5), (3, 7)]).rowcount == 12
+    assert connection.executemany("DELETE t WHERE k = 3", [(), ()]).rowcount == 7
+    assert connection.executemany("DELETE t WHERE id = ?", iter([])).rowcount == 0
+
+
+def test_iterdump(papers: mmdb.Connection) -> None:
+    papers.execute("INSERT author (?, ?)", (-3, "it's é"))
+    papers.commit()
+    papers.executescript("INDEX by_name ON author (name) TREE\nWATCH w SELECT a.id FROM author a")
+    papers.row_factory, papers.text_factory = mmdb.Row, bytes
+    lines = list(papers.iterdump())
+    assert lines == [
+        "TABLE author (id INT KEY, name TEXT)",
+        "TABLE paper (id INT KEY, by INT REF author, title TEXT)",
+        "INSERT author (-3, 'it''s é'), (1, 'Carey'), (2, 'Lehman')",
+        "INSERT paper (10, 2, 'T-trees'), (11, 1, 'Views'), (12, 2, 'Recovery')",
+        "INDEX by_name ON author (name) TREE",
+        "-- WATCH w: its query is not known",
+    ]
+    again = mmdb.connect()
+    again.executescript("\n".join(lines))
+    papers.row_factory = papers.text_factory = None
+    assert again.row_factory is None
+    for line in ("SCAN author", "SCAN paper", "SCAN INDEX by_name"):
+        assert again.execute(line).fetchall() == papers.execute(line).fetchall()
+
+
+def test_there_is_no_interrupt(connection: mmdb.Connection) -> None:
+    assert not hasattr(connection, "interrupt")
+
+
+def test_subclasses(papers: mmdb.Connection) -> None:
+    class Named(mmdb.Connection):
+        def __init__(self, name: str) -> None:
+            super().__init__(autocommit=True)
+            self.name = name
+
+        def execute(self, operation: str, parameters: object = ()) -> mmdb.Cursor:
+            return super().execute(operation.upper() if operation == "tables" else operation, parameters)
+
+    named = Named("a")
+    assert named.autocommit and named.execute("tables").fetchall() == [] and named.cursor().connection is named
+
+    class Own(mmdb.Cursor):
+        def fetchone(self) -> object:
+            return "mine"
+
+    own = Own(papers)
+    assert own.execute("SCAN author").fetchone() == "mine" and own.fetchall()[0] == (1, "Carey")
+
+    class Fields(mmdb.Row):
+        def __getattr__(self, name: str) -> object:
+            return self[name]
+
+    papers.row_factory = Fields
+    row = papers.execute("SCAN author").fetchone()
+    assert row.name == "Carey" and type(row[:1]) is tuple
+
+
+def test_what_was_not_made() -> None:
+    class Forgetful(mmdb.Connection):
+        def __init__(self) -> None:
+            pass
+
+    connection = Forgetful()
+    for call in (connection.cursor, connection.commit, lambda: connection.execute("TABLES"), lambda: connection.in_transaction):
+        with pytest.raises(mmdb.ProgrammingError, match="__init__ was not called"):
+            call()
+    connection.close()
+    cursor = mmdb.Cursor.__new__(mmdb.Cursor)
+    for call in (cursor.fetchone, lambda: cursor.execute("TABLES"), cursor.fetchcolumns):
+        with pytest.raises(mmdb.ProgrammingError, match="__init__ was not called"):
+            call()
+    assert cursor.connection is None and cursor.description is None
+    cursor.close()
+
+
+def test_what_is_made_twice(papers: mmdb.Connection) -> None:
+    with pytest.raises(mmdb.ProgrammingError, match="opened once"):
+        papers.__init__()  # type: ignore[misc]
+    cursor = papers.execute("SCAN author")
+    with pytest.raises(mmdb.ProgrammingError, match="made once"):
+        cursor.__init__(papers)  # type: ignore[misc]
+    assert cursor.fetchone() == (1, "Carey")
+    papers.close()
+    with pytest.raises(mmdb.ProgrammingError, match="opened once"):
+        papers.__init__()  # type: ignore[misc]
+
+
+def test_errors_can_be_pickled(papers: mmdb.Connection) -> None:
+    with pytest.raises(mmdb.ProgrammingError) as raised:
+        papers.execute("SCAN nothing")
+    again = pickle.loads(pickle.dumps(raised.value))
+    assert type(again) is mmdb.ProgrammingError and again.args == raised.value.args
+    assert (again.number, again.place, again.runs) == (20, 5, None)
+
+
+def test_rows_are_sequences(papers: mmdb.Connection) -> None:
+    papers.row_factory = mmdb.Row
+    one, other = papers.execute("SCAN author").fetchall()
+    assert isinstance(one, Sequence) and not isinstance(one, tuple)
+    assert list(reversed(one)) == ["Carey", 1] and "Carey" in one and one.count(1) == 1 and one.index("Carey") == 1
+    with pytest.raises(ValueError):
+        one.index(5)
+    assert one != other and one == papers.execute("SCAN author").fetchone() and one != (1, "Carey")
+    assert hash(one) == hash(papers.execute("SCAN author").fetchone()) and len({one, other, one}) == 2
+    for wrong in (None, 1.5, "nothing", 2, -3):
+        with pytest.raises((IndexError, TypeError)):
+            one[wrong]
+    with pytest.raises(TypeError):
+        one < other
+    for again in (pickle.loads(pickle.dumps(one)), copy.copy(one), copy.deepcopy(one)):
+        assert again == one and type(again) is mmdb.Row and again["name"] == "Carey"
+    assert repr(one) == "Row(id=1, name='Carey')" and one[::-1] == ("Carey", 1)
+
+
+def test_rows_are_made_of_a_cursor_and_a_tuple(papers: mmdb.Connection) -> None:
+    cursor = papers.execute("SCAN author")
+    assert mmdb.Row(cursor, (1, None)).keys() == ["id", "name"]
+    for values in ((), (1,), (1, 2, 3)):
+        with pytest.raises(ValueError):
+            mmdb.Row(cursor, values)
+    with pytest.raises(ValueError):
+        mmdb.Row(papers.cursor(), ())
+    for arguments in ((), (cursor,), (cursor, [1, 2]), (papers, (1, 2))):
+        with pytest.raises(TypeError):
+            mmdb.Row(*arguments)
+
+
+def test_names_that_occur_twice(papers: mmdb.Connection) -> None:
+    papers.row_factory = mmdb.Row
+    row = papers.execute("SELECT a.id, p.id FROM author a, paper p WHERE p.by = a.id").fetchone()
+    assert row.keys() == ["id", "id"] and row["id"] == row[0]
+
+
+def test_names_of_each_class_of_str(papers: mmdb.Connection) -> None:
+    class Name(str):
+        pass
+
+    papers.row_factory = mmdb.Row
+    row = papers.execute("SCAN author").fetchone()
+    assert row[Name("name")] == "Carey" and row["".join(["na", "me"])] == "Carey"
