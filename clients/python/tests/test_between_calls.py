@@ -195,15 +195,23 @@ def test_control_c_while_a_transaction_ends(name: str) -> None:
     connection.executemany(INSERT, ((number, number) for number in range(300)))
     connection.commit()
     raised = 0
-    before = signal.signal(signal.SIGALRM, signal.default_int_handler)
+    is_armed = False
+
+    def handle(*_: object) -> None:
+        if is_armed:
+            raise KeyboardInterrupt
+
+    before = signal.signal(signal.SIGALRM, handle)
     try:
         for step in range(600):
             try:
-                signal.setitimer(signal.ITIMER_REAL, 0.00001 + 0.0000003 * step)
-                connection.execute("UPDATE t SET k = k + 1")
+                is_armed = True
+                signal.setitimer(signal.ITIMER_REAL, 0.00001 + 0.000001 * (step % 200))
+                connection.execute("UPDATE t SET k = ?", (step,))
                 getattr(connection, name)()
-                signal.setitimer(signal.ITIMER_REAL, 0)
+                is_armed = False
             except KeyboardInterrupt:
+                is_armed = False
                 raised += 1
             connection.rollback()
             assert not connection.in_transaction
@@ -213,6 +221,7 @@ def test_control_c_while_a_transaction_ends(name: str) -> None:
             connection.rollback()
             assert rows(connection) == kept
     finally:
+        is_armed = False
         signal.setitimer(signal.ITIMER_REAL, 0)
         signal.signal(signal.SIGALRM, before)
     assert raised

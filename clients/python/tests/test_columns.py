@@ -280,7 +280,8 @@ def test_texts_that_are_not_utf8_are_bytes(connection: mmdb.Connection) -> None:
         connection.execute("DELETE t")
         connection.executemany("INSERT t (?, ?)", enumerate(texts))
         columns = connection.execute("SCAN t").fetchcolumns()
-        assert schema_of(columns.__arrow_c_schema__()).children[1].contents.format == form
+        capsule = columns.__arrow_c_schema__()
+        assert schema_of(capsule).children[1].contents.format == form
         schema_capsule, array_capsule = columns.__arrow_c_array__()
         read = [text for _, text in read_arrow(schema_of(schema_capsule), array_of(array_capsule))]
         assert read == (texts if form == b"u" else [text if isinstance(text, bytes) else text.encode() for text in texts])
