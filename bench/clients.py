@@ -41,9 +41,11 @@ def built(folder):
         "PYTHONPATH": f"{folder}/package",
         "CARGO_TARGET_DIR": f"{folder}/target",
     }
-    subprocess.run(["bash", str(TOP / "clients/python/build_wheel"), folder, folder], check=True, env={**os.environ, "PYTHON": sys.executable})
+    build_wheel = ["bash", str(TOP / "clients/python/build_wheel"), folder, folder]
+    subprocess.run(build_wheel, check=True, stdout=subprocess.DEVNULL, env={**os.environ, "PYTHON": sys.executable})
     wheel = next(str(path) for path in pathlib.Path(folder).glob("mmdb-*.whl"))
-    subprocess.run([sys.executable, "-m", "pip", "install", "--quiet", "--no-index", "--no-deps", "--target", f"{folder}/package", wheel], check=True)
+    pip = [sys.executable, "-m", "pip", "install", "--quiet", "--no-index", "--no-deps", "--target", f"{folder}/package"]
+    subprocess.run([*pip, wheel], check=True)
     flags = ["-O2", "-std=c11", "-D_GNU_SOURCE", f"-I{folder}/include"]
     subprocess.run(["cc", *flags, "-o", f"{folder}/c", str(TOP / "bench/embedded/mmdb.c"), f"{folder}/lib/libmmdb.so"], check=True)
     pathlib.Path(folder, "Cargo.toml").write_text(CARGO.format(top=TOP))

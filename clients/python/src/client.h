@@ -29,7 +29,8 @@
 #include <stdlib.h>
 #include <string.h>
 
-_Static_assert(sizeof(mmdb_cell) == 80 && offsetof(mmdb_cell, number) == 8 && offsetof(mmdb_cell, text) == 16, "mmdb_cell has another layout");
+_Static_assert(sizeof(mmdb_cell) == 80 && offsetof(mmdb_cell, number) == 8 && offsetof(mmdb_cell, text) == 16,
+               "mmdb_cell has another layout");
 _Static_assert(sizeof(mmdb_column) == 34 && offsetof(mmdb_column, name) == 2, "mmdb_column has another layout");
 _Static_assert(sizeof(mmdb) == 2 * sizeof(void *), "mmdb has another layout");
 
@@ -332,6 +333,9 @@ extern PyType_Spec cursor_spec;
 /* Returns a new cursor, or NULL with an exception. */
 Cursor *cursor_new(Connection *connection);
 
+/* Returns whether the cursor was made and is open. If not, raises ProgrammingError. */
+bool cursor_check_open(Cursor *self);
+
 /* Returns whether the cursor is open and this thread may use its connection. If not, raises ProgrammingError. */
 bool cursor_check(Cursor *self);
 
@@ -369,8 +373,9 @@ void reply_clear(Reply *reply);
  */
 bool run_cells(Connection *connection, Statement *statement, const mmdb_cell *cells, size_t rows, Reply *reply, size_t *runs);
 
-/* Runs the rows before one that is no row of values, whose exception is set. It stays set, with the number of runs, if they all succeed. */
-void run_cells_before_refused(Connection *connection, Statement *statement, const mmdb_cell *cells, size_t rows, Reply *reply, size_t *runs);
+/* Runs the rows before one that is no row of values, whose exception is set. If they all succeed, it stays set, with the number of runs. */
+void run_cells_before_refused(Connection *connection, Statement *statement, const mmdb_cell *cells, size_t rows, Reply *reply,
+                              size_t *runs);
 
 /* Runs a prepared change for the rows of an object. Returns false with an exception. */
 typedef bool (*RowRunner)(Connection *connection, Statement *statement, PyObject *rows, Reply *reply);

@@ -174,8 +174,8 @@ static PyGetSetDef columns_attributes[] = {
 
 static PyType_Slot columns_slots[] = {
     {Py_tp_doc, "The rows of a result as columns, as Cursor.fetchcolumns makes them. They share the memory of the result.\n\n"
-                "columns[0] and columns[\"name\"] are a column: for INT a memoryview of int64; for TEXT a pair of memoryviews, the offsets\n"
-                "(int32) at which each text begins and the last one ends, and the bytes of all texts. This is Arrow's layout.\n"
+                "columns[0] and columns[\"name\"] are a column: for INT a memoryview of int64; for TEXT a pair of memoryviews, the\n"
+                "offsets (int32) at which each text begins and the last one ends, and the bytes of all texts. This is Arrow's layout.\n"
                 "If two columns have the same name, it finds the first of them."},
     {Py_tp_dealloc, columns_dealloc},
     {Py_tp_methods, columns_methods},

@@ -28,7 +28,8 @@ static bool buffer_open(PyObject *object, Py_buffer *view, Py_ssize_t item_size,
     if (PyObject_GetBuffer(object, view, PyBUF_FORMAT | flags) < 0) return false;
     const char *format = view->format != NULL ? view->format : "B";
     if (format[0] == '<' || format[0] == '=' || format[0] == '@') format++;
-    if (view->ndim == 1 && view->itemsize == item_size && format[0] != '\0' && format[1] == '\0' && strchr(formats, format[0]) != NULL) return true;
+    bool has_format = format[0] != '\0' && format[1] == '\0' && strchr(formats, format[0]) != NULL;
+    if (view->ndim == 1 && view->itemsize == item_size && has_format) return true;
     PyErr_SetString(PyExc_TypeError, "a column is a buffer of int64, a list of values, or a tuple of buffers: int32 offsets and bytes");
     return false;
 }

@@ -246,7 +246,8 @@ static PyObject *connection_cursor(PyObject *object, PyObject *unused) {
 
 /* Runs a call of a new cursor and returns the cursor. */
 static PyObject *by_new_cursor(Connection *self, PyObject *const *values, bool (*run)(Cursor *, PyObject *, PyObject *)) {
-    if (!connection_check(self)) return NULL;
+    /* The call checks the thread. */
+    if (!check_phase(self)) return NULL;
     Cursor *cursor = cursor_new(self);
     if (cursor != NULL && !run(cursor, values[0], values[1])) Py_CLEAR(cursor);
     return (PyObject *)cursor;
@@ -348,9 +349,11 @@ static PyMethodDef connection_methods[] = {
      "executecolumns($self, /, operation, columns)\n--\n\n"
      "Runs a change for each row of columns by a new cursor, as Cursor.executecolumns does, and returns the cursor."},
     {"executescript", FAST_CALL(connection_executescript), METH_FASTCALL | METH_KEYWORDS,
-     "executescript($self, /, script)\n--\n\nRuns the commands of a script by a new cursor, as Cursor.executescript does, and returns the cursor."},
+     "executescript($self, /, script)\n--\n\n"
+     "Runs the commands of a script by a new cursor, as Cursor.executescript does, and returns the cursor."},
     {"commit", connection_commit, METH_NOARGS, "commit($self, /)\n--\n\nCommits the open transaction. Does nothing if there is none."},
-    {"rollback", connection_rollback, METH_NOARGS, "rollback($self, /)\n--\n\nRolls back the open transaction. Does nothing if there is none."},
+    {"rollback", connection_rollback, METH_NOARGS,
+     "rollback($self, /)\n--\n\nRolls back the open transaction. Does nothing if there is none."},
     {"close", connection_close, METH_NOARGS,
      "close($self, /)\n--\n\nCloses the connection and frees its database. A closed connection stays closed."},
     {"savepoint", connection_savepoint, METH_O,

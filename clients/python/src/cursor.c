@@ -47,8 +47,7 @@ void cursor_forget(Cursor *self) {
     Py_XDECREF(one);
 }
 
-/* Returns whether the cursor was made and is open. */
-static bool check_open(Cursor *self) {
+bool cursor_check_open(Cursor *self) {
     if (self->connection == NULL) {
         State *state = state_of_type(Py_TYPE((PyObject *)self));
         if (state != NULL) raise_words(state, PROGRAMMING_ERROR, "Cursor.__init__ was not called");
@@ -58,10 +57,10 @@ static bool check_open(Cursor *self) {
     return !self->is_closed;
 }
 
-bool cursor_check(Cursor *self) { return check_open(self) && connection_check(self->connection); }
+bool cursor_check(Cursor *self) { return cursor_check_open(self) && connection_check(self->connection); }
 
 bool cursor_check_rows(Cursor *self) {
-    if (!check_open(self)) return false;
+    if (!cursor_check_open(self)) return false;
     if (self->connection->phase != OPEN) return connection_check(self->connection);
     if (self->has_rows) return true;
     raise_words(self->connection->state, PROGRAMMING_ERROR, "there are no rows to fetch: the last line returned none");
@@ -316,8 +315,10 @@ static PyMethodDef cursor_methods[] = {
     {"fetchall", cursor_fetchall, METH_NOARGS, "fetchall($self, /)\n--\n\nReturns a list of all rows that are left."},
     {"fetchcolumns", cursor_fetchcolumns, METH_NOARGS,
      "fetchcolumns($self, /)\n--\n\nReturns all rows that are left as Columns, which share the memory of the result."},
-    {"setinputsizes", cursor_set_size, METH_VARARGS, "setinputsizes($self, sizes, /)\n--\n\nDoes nothing: no value needs memory in advance."},
-    {"setoutputsize", cursor_set_size, METH_VARARGS, "setoutputsize($self, size, column=None, /)\n--\n\nDoes nothing: each value is read whole."},
+    {"setinputsizes", cursor_set_size, METH_VARARGS,
+     "setinputsizes($self, sizes, /)\n--\n\nDoes nothing: no value needs memory in advance."},
+    {"setoutputsize", cursor_set_size, METH_VARARGS,
+     "setoutputsize($self, size, column=None, /)\n--\n\nDoes nothing: each value is read whole."},
     {"close", cursor_close, METH_NOARGS, "close($self, /)\n--\n\nForgets the rows and closes the cursor. A closed cursor stays closed."},
     {"__enter__", cursor_enter, METH_NOARGS, "__enter__($self, /)\n--\n\nReturns the cursor."},
     {"__exit__", cursor_exit, METH_VARARGS, "__exit__($self, /, *exception)\n--\n\nCloses the cursor."},

@@ -25,7 +25,8 @@ static const ErrorSpec error_specs[ERROR_CLASSES] = {
     [OPERATIONAL_ERROR] = {"mmdb.OperationalError", DATABASE_ERROR, "A limit of the database was reached, or an allocation failed."},
     [INTEGRITY_ERROR] = {"mmdb.IntegrityError", DATABASE_ERROR, "A duplicate key, or a reference that would have no target."},
     [INTERNAL_ERROR] = {"mmdb.InternalError", DATABASE_ERROR, "An error inside the database. No call raises it."},
-    [PROGRAMMING_ERROR] = {"mmdb.ProgrammingError", DATABASE_ERROR, "A wrong line or a wrong call: its syntax, names, number of values or time."},
+    [PROGRAMMING_ERROR] = {"mmdb.ProgrammingError", DATABASE_ERROR,
+                           "A wrong line or a wrong call: its syntax, its names, its number of values, its time."},
     [NOT_SUPPORTED_ERROR] = {"mmdb.NotSupportedError", DATABASE_ERROR, "A value of a type that the database does not have."},
 };
 

@@ -226,13 +226,14 @@ bool cursor_run(Cursor *self, PyObject *line, PyObject *parameters) {
     if (values_take(state, parameters != NULL ? parameters : state->no_values, &values)) {
         Statement *statement = connection_trace(connection, line) ? statement_of(connection, line) : NULL;
         if (statement != NULL) {
-            /* The code that ran meanwhile may have used or closed this cursor. */
-            cursor_forget(self);
-            is_done = cursor_check(self) && run_statement(self, connection, statement, &values);
+            /* The code that ran meanwhile may have closed this cursor. */
+            is_done = cursor_check_open(self) && run_statement(self, connection, statement, &values);
             statement_release(connection, statement);
         }
         values_free(&values);
     }
+    /* That code may also have run a line by this cursor. */
+    if (!is_done) cursor_forget(self);
     Py_DECREF((PyObject *)connection);
     return is_done;
 }
@@ -277,7 +278,8 @@ bool run_cells(Connection *connection, Statement *statement, const mmdb_cell *ce
     return false;
 }
 
-void run_cells_before_refused(Connection *connection, Statement *statement, const mmdb_cell *cells, size_t rows, Reply *reply, size_t *runs) {
+void run_cells_before_refused(Connection *connection, Statement *statement, const mmdb_cell *cells, size_t rows, Reply *reply,
+                              size_t *runs) {
     PyObject *class, *error, *trace;
     PyErr_Fetch(&class, &error, &trace);
     if (run_cells(connection, statement, cells, rows, reply, runs)) {

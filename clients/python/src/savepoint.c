@@ -66,7 +66,8 @@ static uint8_t execute(Connection *connection, const char *line, size_t length) 
 }
 
 static void raise_line(const Savepoint *self, uint8_t status, const char *line, size_t length) {
-    Refusal refusal = {.status = status, .line = line, .length = length, .place = status == MMDB_SYNTAX ? length - self->name_length : 0};
+    size_t place = status == MMDB_SYNTAX ? length - self->name_length : 0;
+    Refusal refusal = {.status = status, .line = line, .length = length, .place = place};
     raise_refusal(self->connection->state, &refusal);
 }
 
@@ -109,7 +110,8 @@ static uint8_t leave(Savepoint *self, bool goes_back) {
     mmdb *db = &connection->db;
     self->is_set = false;
     if (goes_back && execute(connection, self->go_back, self->go_back_length) != MMDB_DONE) return MMDB_DONE;
-    if (mmdb_release(db, (const uint8_t *)self->set + self->set_length - self->name_length, self->name_length) != MMDB_DONE) return MMDB_DONE;
+    const char *name = self->set + self->set_length - self->name_length;
+    if (mmdb_release(db, (const uint8_t *)name, self->name_length) != MMDB_DONE) return MMDB_DONE;
     return self->began ? mmdb_run(db, goes_back ? connection->rollback : connection->commit, NULL, 0) : MMDB_DONE;
 }
 

@@ -39,7 +39,8 @@ class Case:
 
 def opened() -> mmdb.Connection:
     connection = mmdb.connect()
-    connection.executescript("TABLE t (id INT KEY, s TEXT)\nTABLE u (id INT KEY)\nINDEX by_s ON t (s) TREE\nWATCH w SELECT a.id FROM t a WHERE a.id < 9")
+    connection.executescript("TABLE t (id INT KEY, s TEXT)\nTABLE u (id INT KEY)\nINDEX by_s ON t (s) TREE")
+    connection.watch("w", "SELECT a.id FROM t a WHERE a.id < 9")
     connection.executemany(INSERT, [(number, f"text {number}") for number in range(120)])
     connection.commit()
     return connection
