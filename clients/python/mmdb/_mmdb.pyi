@@ -1,9 +1,8 @@
 from collections.abc import Callable, Iterable, Iterator, Sequence
 from types import TracebackType
-from typing import Any, SupportsIndex, overload
+from typing import Any, Self, SupportsIndex, overload
 
 from _typeshed import ReadableBuffer
-from typing_extensions import Self
 
 _Value = SupportsIndex | str | bytes
 _Values = Iterable[_Value]
