@@ -71,10 +71,9 @@ static void ask(Connection *connection, Statement *statement, const mmdb_cell *v
     }
 }
 
-/* Runs any other statement, and begins a transaction before it if the connection wants one. */
-static void command(Connection *connection, Statement *statement, const mmdb_cell *values, Reply *reply) {
+/* Runs any other statement, and begins a transaction before it if it has to. */
+static void command(Connection *connection, Statement *statement, const mmdb_cell *values, bool begins, Reply *reply) {
     mmdb *db = &connection->db;
-    bool begins = wants_transaction(connection, statement);
     if (begins) {
         reply->status = mmdb_run(db, connection->begin, NULL, 0);
         if (reply->status != MMDB_DONE) return;
@@ -123,13 +122,14 @@ static void perform(Connection *connection, Statement *statement, const mmdb_cel
         if (!follow_catalog(connection, statement, values, reply)) return;
         reply->shape = shape_retain(statement->shape);
     }
-    bool keeps_cells = !has_own_texts(connection->text_factory);
+    /* Other threads may set these attributes while this one runs without the lock of the interpreter. */
+    bool keeps_cells = !has_own_texts(connection->text_factory), begins = wants_transaction(connection, statement);
     /* A look-up by key is over before another thread could begin to run. */
     PyThreadState *thread = statement->is_look_up ? NULL : PyEval_SaveThread();
     if (is_question(statement)) {
         ask(connection, statement, values, keeps_cells, reply);
     } else {
-        command(connection, statement, values, reply);
+        command(connection, statement, values, begins, reply);
     }
     if (thread != NULL) PyEval_RestoreThread(thread);
 }
