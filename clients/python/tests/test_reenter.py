@@ -114,8 +114,9 @@ class World:
 
     def change_columns(self) -> None:
         mine, count = 1000 * next(self.fresh), self.chance.choice([1, 5, 600])
-        keys = [self.values(mine + number)[0] if self.chance.random() < 0.02 else mine + number for number in range(count)]
-        keys = [key if isinstance(key, (int, Number)) else mine + number for number, key in enumerate(keys)]
+        keys: list[Any] = [mine + number for number in range(count)]
+        for place in range(0, count, 50):
+            keys[place] = Number(self, keys[place])
         assert self.connection.executecolumns("INSERT u (?, ?)", (keys, [7] * count)).rowcount == count
         assert self.connection.execute("DELETE u WHERE id >= ? AND id < ?", (mine, mine + count)).rowcount == count
 
