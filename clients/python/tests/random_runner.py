@@ -132,8 +132,7 @@ class Runner:
             self.is_quiet = was
 
     def ends(self) -> None:
-        """What is to be done at the end of a program. Finalizers that wait run first."""
-        gc.collect()
+        """What is to be done at the end of a program."""
         for slot in range(CONNECTIONS):
             self.do_tables(slot)
         for worker in self.workers:

@@ -72,6 +72,8 @@ def run(program: Steps, counts: collections.Counter | None = None) -> int:
     runner.ends()
     count = runner.count
     del runner
+    # What a finalizer of the first collection made goes in the second.
+    gc.collect()
     gc.collect()
     if left := [one for one in gc.get_objects() if isinstance(one, (mmdb.Connection, mmdb.Cursor))]:
         raise Failure(f"{left} are left")
