@@ -275,21 +275,19 @@ class Cursor:
 
     def executes(self, thread: int, text: Any, values: Any) -> Call:
         """execute(). `values` has cells(), what the values are or Expected: they are taken before the line is looked at."""
-        if not isinstance(text, str):
-            raise Expected(TypeError)
-        self.check(thread)
-        self.forget()
+        self.begins(thread, text)
         yield
-        cells = values.cells()
-        self.connection.expect_trace(self.connection.trace)
-        check_text(text)
-        # What ran meanwhile may have used the cursor.
-        self.forget()
-        self.check(thread)
-        line = prepared(text)
-        if len(cells) != line.count:
-            raise refused(31)
-        reply = self.connection.run(line, cells)
+        # What runs inside the call may use this cursor. Whether the call succeeds or not, the rows of that line are gone then.
+        try:
+            cells = values.cells()
+            self.connection.expect_trace(self.connection.trace)
+            self.check(thread)
+            line = prepared(text)
+            if len(cells) != line.count:
+                raise refused(31)
+            reply = self.connection.run(line, cells)
+        finally:
+            self.forget()
         if line.word in QUESTIONS:
             self.lines = reply.split(b"\n")[:-2]
             self.columns = self.connection.columns(line.command)
@@ -299,29 +297,29 @@ class Cursor:
 
     def executes_many(self, thread: int, text: Any, rows: Any) -> Call:
         """executemany(). `rows` adds the rows that are taken to its `many`, as far as there are or up to what raises."""
-        if not isinstance(text, str):
-            raise Expected(TypeError)
-        self.check(thread)
-        self.forget()
-        many = Runs(self, text, thread)
-        rows.many = many
+        self.begins(thread, text)
+        many = rows.many = Runs(self, text, thread)
         trace = self.connection.trace
         yield
-        self.connection.expect_trace(trace)
-        check_text(text)
-        self.forget()
-        many.begin()
         try:
+            self.connection.expect_trace(trace)
+            many.begin()
             rows.take_all()
             many.flush()
         except Expected as error:
-            if not error.is_own and error.runs is None:
+            if many.has_begun and not error.is_own and error.runs is None:
                 many.flush()
                 error.runs = many.runs
             raise
         finally:
             self.forget()
         self.rowcount = many.changed
+
+    def begins(self, thread: int, text: Any) -> None:
+        if not isinstance(text, str):
+            raise Expected(TypeError)
+        self.check(thread)
+        self.forget()
 
     def scripts(self, thread: int, script: "Script") -> Call:
         """executescript()."""
@@ -388,10 +386,10 @@ class Runs:
     def begin(self) -> None:
         """What the client looks at before it takes rows."""
         if not self.has_begun:
-            self.has_begun = True
             self.cursor.connection.check(self.thread)
             if self.line.word not in CHANGES:
                 raise Expected(mmdb.ProgrammingError)
+            self.has_begun = True
 
     def add(self, cells: list[int | bytes]) -> None:
         if len(cells) != self.line.count:

@@ -291,13 +291,8 @@ class Runner:
         real, cursor, factory = found
         expected = model(cursor)
         script = expected if isinstance(expected, Script) else None
-
-        def makes() -> Call:
-            if target.where == "connection":
-                cursor.connection.check(self.thread)
-            yield from expected if script is None else cursor.scripts(self.thread, script)
-
-        done, result = self.attempt(what, lambda: call(real), makes(), script=script)
+        expected = expected if script is None else cursor.scripts(self.thread, script)
+        done, result = self.attempt(what, lambda: call(real), expected, script=script)
         if done and target.where == "cursor" and result is not real:
             self.fail(f"{what} returned {result!r}")
         if done and target.where == "connection":
