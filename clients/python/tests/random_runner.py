@@ -13,7 +13,7 @@ import mmdb
 from random_given import NO_VALUES, Called, Frame, Garbage, GivenColumns, GivenRows, GivenValues, Made, OwnText, OwnTexts, Trace
 from random_given import shown_or_text
 from random_model import Call, Connection, Cursor, Expected, Savepoint, Script, refused
-from random_steps import CONNECTIONS, CURSORS, ERRORS, QUIET, THREADS, Factory, Rows, Steps, Target, Values
+from random_steps import CONNECTIONS, CURSORS, ERRORS, QUIET, THREADS, Draw, Factory, Rows, Steps, Target, Values
 
 GREATEST_COUNT = 1_000_000
 
@@ -238,7 +238,7 @@ class Runner:
         if done:
             pair[1].trace = trace
 
-    def do_reconnect(self, slot: int, how: str, *given: Any) -> None:
+    def do_reconnect(self, slot: int, how: str, has_tables: bool, *given: Any) -> None:
         if how == "close":
             self.do_close(slot)
         self.connections[slot] = None
@@ -247,6 +247,8 @@ class Runner:
                 if entry is not None and place % CONNECTIONS == slot:
                     self.cursors[place] = None
         self.do_connect(slot, *given)
+        if has_tables:
+            self.run(Steps([Draw.tables_of(slot)]))
 
     def do_close(self, slot: int) -> None:
         if pair := self.connections[slot]:
@@ -513,12 +515,15 @@ class Runner:
             self.busy.remove(number)
             self.here = before
 
-    def do_end_thread(self, number: int) -> None:
-        """The system may give its identity to the next thread."""
-        if number not in self.busy and self.workers[number] is not None:
-            self.workers[number].end()
-            self.workers[number] = None
-            self.threads[number] = max(self.threads) + 1
+    def do_end_thread(self, number: int, slot: int, made: tuple, used: tuple) -> None:
+        """The system may give the identity of the thread that ends to the next one. No other thread may use what it made."""
+        if number in self.busy:
+            return
+        self.run(Steps([made]))
+        self.workers[number].end()
+        self.workers[number] = None
+        self.threads[number] = max(self.threads) + 1
+        self.run(Steps([used, ("reconnect", slot, "drop", True, False, True, "none", Steps())]))
 
     def do_tables(self, slot: int) -> None:
         """Compares all rows of all tables."""

@@ -150,8 +150,13 @@ class Draw:
 
     def program(self, count: int) -> Steps:
         first = [("connect", slot, *self.connected()) for slot in range(CONNECTIONS)]
-        second = [("script", Target("connection", slot, slot), tuple(SETUP.split("\n")), "\n") for slot in range(CONNECTIONS)]
+        second = [self.tables_of(slot) for slot in range(CONNECTIONS)]
         return Steps([*first, *second, *self.steps(0, count)])
+
+    @staticmethod
+    def tables_of(slot: int) -> tuple:
+        """Makes the tables of a new connection."""
+        return ("script", Target("connection", slot, slot), tuple(SETUP.split("\n")), "\n")
 
     def connected(self) -> tuple:
         """What connect() is given."""
@@ -278,13 +283,17 @@ class Draw:
         return ("lines", self.slot(), self.fresh, self.rng.choice((1, 5, 127, 128, 130)))
 
     def reconnect(self, depth: int) -> tuple:
-        return ("reconnect", self.slot(), self.rng.choice(("close", "drop", "quit")), *self.connected())
+        return ("reconnect", self.slot(), self.rng.choice(("close", "drop", "quit")), self.rng.random() < 0.8, *self.connected())
 
     def in_thread(self, depth: int) -> tuple:
         return ("in_thread", self.rng.randrange(THREADS), self.steps(depth + 1))
 
     def end_thread(self, depth: int) -> tuple:
-        return ("end_thread", self.rng.randrange(1, THREADS))
+        """A thread makes a connection and ends, and the next one in its place uses that."""
+        number, slot = self.rng.randrange(1, THREADS), self.slot()
+        made = ("in_thread", number, Steps([("reconnect", slot, "drop", False, False, True, "none", Steps())]))
+        used = ("in_thread", number, Steps([("end", slot, "commit"), *self.steps(depth + 1)]))
+        return ("end_thread", number, slot, made, used)
 
     def quiet(self) -> Steps:
         kinds = self.rng.choices(("quiet_line", "quiet_line", "quiet_pair", "lines", "quiet_fetch", "steal", "steal"), k=2)
