@@ -318,6 +318,8 @@ class Runner:
         what = f"executemany({line!r}, {spec!r:.300})"
         self.performed(what, target, lambda on: on.executemany(line, given), self.executes_many(line, rows))
 
+    do_many = do_executemany
+
     def do_executecolumns(self, target: Target, line: str, spec: Rows) -> None:
         rows = GivenColumns(self, spec)
         given = rows.given()

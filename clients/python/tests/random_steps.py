@@ -226,7 +226,7 @@ class Draw:
         count = self.rng.choice((511, 512, 513, 1030))
         rows = tuple(Values("tuple", (key, key % 65 * "x")) for key in range(count))
         made = Rows("generator", rows, self.rng.choice((3, 511, 512, 513)), self.steps(depth + 1), self.raised(0.3))
-        return ("executemany", self.target(), "INSERT bulk (?, ?)", made)
+        return ("many", self.target(), "INSERT bulk (?, ?)", made)
 
     def script(self, depth: int) -> tuple:
         forms = self.rng.choices(FORMS, WEIGHTS, k=self.rng.randrange(5))
