@@ -146,25 +146,11 @@ class Runner:
             self.fail(f"a script went on after {error!r}")
 
     def attempt(self, what: str, real: Callable[[], Any], model: Call, collects: bool = True, **frame: Any) -> tuple[bool, Any]:
-        """Makes a call of both. Tells whether it returned, and what."""
+        """Makes a call of both. Returns whether it returned, and what."""
         called = self.called
         self.frames.append(Frame(**frame))
         expected = advanced(model)
-        was = gc.isenabled()
-        result = raised = None
-        try:
-            # A finalizer that ran in a finalizer's call would use its cursor.
-            if collects and not self.is_quiet:
-                gc.enable()
-                self.is_calling = True
-            result = real()
-            self.is_calling = False
-        except BaseException as error:
-            self.is_calling = False
-            raised = error
-        finally:
-            if not was:
-                gc.disable()
+        result, raised = self.made(real, collects)
         if self.failure is not None:
             raise self.failure
         if expected is None:
@@ -174,15 +160,37 @@ class Runner:
         for one in called:
             if one.ran != one.due:
                 self.fail(f"{what} ran {type(one).__name__} {one.ran} times, not {one.due}; it raised {raised!r}")
-        if isinstance(expected, Expected) and not expected.is_met_by(raised):
+        called.clear()
+        self.compare(what, expected if isinstance(expected, Expected) else None, raised)
+        return raised is None, result
+
+    def made(self, real: Callable[[], Any], collects: bool) -> tuple[Any, BaseException | None]:
+        """Makes a call of the client, in which finalizers and signal handlers may run. Returns what it returned and what it raised."""
+        was = gc.isenabled()
+        try:
+            # A finalizer that ran in a finalizer's call would use its cursor.
+            if collects and not self.is_quiet:
+                gc.enable()
+                self.is_calling = True
+            result = real()
+            self.is_calling = False
+            return result, None
+        except BaseException as error:
+            self.is_calling = False
+            return None, error
+        finally:
+            if not was:
+                gc.disable()
+
+    def compare(self, what: str, expected: Expected | None, raised: BaseException | None) -> None:
+        """Compares what a call raised with what it must raise."""
+        if expected is not None and not expected.is_met_by(raised):
             told = raised if raised is None else (type(raised), str(raised), vars(raised))
             self.fail(f"{what} must raise {expected.args}, and raised {told}")
-        if not isinstance(expected, Expected) and raised is not None:
+        if expected is None and raised is not None:
             self.fail(f"{what} raised {raised!r}")
-        called.clear()
         if isinstance(raised, mmdb.Error):
             self.counts[f"{type(raised).__name__} {raised.number}"] += 1
-        return raised is None, result
 
     def expect_trace(self, trace: Trace | None) -> None:
         """The trace callback must have been called, if there was one. If it was removed by its own steps, it was called too."""
