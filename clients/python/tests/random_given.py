@@ -271,7 +271,9 @@ class Made(Called):
         runner.called.remove(self)
         self.kind, self.at = spec.kind, spec.at
         self.calls = 0
+        # What was returned in the fetch that runs, and the call in which the error was raised.
         self.returned: list[Any] = []
+        self.raised_in: Frame | None = None
         self.cursor: Cursor | None = None
 
     def __call__(self, cursor: mmdb.Cursor, row: tuple) -> Any:
@@ -281,10 +283,16 @@ class Made(Called):
                 self.runner.fail(f"a row factory got {row!r}, not {wanted!r}")
             self.calls += 1
         if self.calls - 1 == self.at:
+            self.raised_in = self.runner.frames[-1] if self.error is not None else None
             self.run()
         made = {"list": list, "nothing": lambda row: None, "same": lambda row: row}[self.kind](row)
         self.returned.append(made)
         return made
+
+    def expect_error(self) -> None:
+        """The call that is over raised what the factory has raised in it."""
+        if self.raised_in is self.runner.frames[-1]:
+            raise Expected(error=self.error)
 
 
 class OwnText(bytes):

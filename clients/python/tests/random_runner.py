@@ -231,6 +231,9 @@ class Runner:
 
     # The steps.
 
+    def do_asked(self, steps: Steps) -> None:
+        self.run(steps)
+
     def do_connect(self, slot: int, autocommit: bool, is_checked: bool, texts: str, steps: Steps) -> None:
         real = mmdb.connect(autocommit=autocommit, check_same_thread=is_checked)
         factories: dict[str, Any] = {"none": None, "str": str, "bytes": bytes}
@@ -406,28 +409,28 @@ class Runner:
         self.cursors[place] = None
 
     def fetch_made(self, how: str, most: int, calls: dict[str, Callable[[], Any]], model: Cursor, factory: Made) -> None:
-        """Fetches rows that a row factory makes. It looks at them itself."""
-        factory.returned.clear()
-        before = factory.calls
+        """Fetches rows that a row factory makes. It looks at them itself, and may fetch rows too."""
+        outer, factory.returned = factory.returned, []
 
         def fetches() -> Call:
             model.check_rows()
             if how == "next" and model.at == model.rowcount:
                 raise Expected(StopIteration)
             yield
-            if factory.error is not None and before <= factory.at < factory.calls:
-                factory.due = factory.ran
-                raise Expected(error=factory.error)
+            factory.expect_error()
             if how == "list":
                 model.check_rows()
 
         done, rows = self.attempt(f"fetch {how}", calls[how], fetches())
-        if done and model.lines is not None and (factory.calls - before < most and model.at < model.rowcount):
+        made, factory.returned = factory.returned, outer
+        if not done:
+            return
+        if how in ("one", "next"):
+            rows = [rows] if rows is not None or made else []
+        if model.lines is not None and len(made) < most and model.at < model.rowcount:
             self.fail(f"fetch {how} left rows")
-        if done and how in ("one", "next"):
-            rows = [rows]
-        if done and [id(row) for row in rows if row is not None] != [id(row) for row in factory.returned if row is not None]:
-            self.fail(f"fetch {how} returned {rows!r}, not {factory.returned!r}")
+        if len(rows) != len(made) or any(row is not one for row, one in zip(rows, made)):
+            self.fail(f"fetch {how} returned {rows!r}, not {made!r}")
 
     def do_end(self, slot: int, word: str) -> None:
         if pair := self.connections[slot]:

@@ -55,6 +55,8 @@ FORMS = [
 WEIGHTS = [weight for weight, _, _ in FORMS]
 CHANGES = [form for form in FORMS if form[1][:6] in ("INSERT", "UPDATE", "DELETE")]
 CHANGE_WEIGHTS = [weight for weight, _, _ in CHANGES]
+QUESTIONS = [form for form in FORMS if form[1].startswith(("SELECT", "SCAN ", "SHOW", "TABLES", "EXPLAIN"))]
+QUESTION_WEIGHTS = [weight for weight, _, _ in QUESTIONS]
 # What a finalizer may do while any other call runs: it changes nothing that another call looks at.
 QUIET_LINES = ["SELECT a.k FROM side a WHERE a.id = 1", "SELECT a.k FROM side a WHERE a.id >= 1", "SCAN side", "SCAN nothing", "SCAN"]
 
@@ -250,6 +252,18 @@ class Draw:
         how = self.rng.choice(("one", "one", "many", "all", "next", "list", "columns"))
         return ("fetch", self.cursor_slot(), how, self.rng.choice((0, 1, 2, 3, 5, -1)))
 
+    def asked(self, depth: int) -> tuple:
+        """A question and its rows, while objects wait for the collector."""
+        target = self.target()
+        [(_, text, kinds)] = self.rng.choices(QUESTIONS, QUESTION_WEIGHTS)
+        steps = [("execute", target, text, self.values(kinds, depth, 0))]
+        for _ in range(self.rng.choice((1, 2, 3))):
+            if self.rng.random() < 0.3:
+                steps.append(("garbage", Steps([self.steal(depth)]), self.rng.choice(("cycle", "exception"))))
+            _, _, how, size = self.fetch(depth)
+            steps.append(("fetch", target.at, how, size))
+        return ("asked", Steps(steps))
+
     def cursor(self, depth: int) -> tuple:
         kind = self.rng.choice(("none", "none", "row", "list", "nothing", "same"))
         factory = Factory(kind)
@@ -323,7 +337,7 @@ class Draw:
 
 # How often each kind of step is drawn.
 STEPS = {
-    "execute": 45, "executemany": 8, "fetch": 22, "cursor": 5, "end": 7, "script": 2, "close_cursor": 1, "drop_cursor": 1.5,
+    "execute": 35, "executemany": 8, "fetch": 10, "asked": 10, "cursor": 5, "end": 7, "script": 2, "close_cursor": 1, "drop_cursor": 1.5,
     "autocommit": 0.7, "block": 2, "savepoint": 4, "savepoints": 0.1, "lines": 1, "reconnect": 0.4, "in_thread": 2, "end_thread": 0.3,
     "garbage": 3, "collect": 1, "tables": 3, "many": 0.05, "trace": 0.7, "executecolumns": 2,
 }  # fmt: skip
