@@ -68,6 +68,8 @@ class Runner:
         self.connections: list[tuple[mmdb.Connection, Connection] | None] = [None] * CONNECTIONS
         self.cursors: list[tuple[mmdb.Cursor, Cursor, Made | str | None] | None] = [None] * (CURSORS + 2)
         self.kept: list[Any] = []
+        self.tuples: list[tuple] = []
+        self.use_up_tuples(2000)
         self.is_quiet = False
         # Whether the client is called right now, and none of its callbacks: where a signal handler may run lines.
         self.is_calling = False
@@ -170,6 +172,8 @@ class Runner:
         try:
             # A finalizer that ran in a finalizer's call would use its cursor.
             if collects and not self.is_quiet:
+                # The collector starts at the nth object that the call makes, for another n in each call.
+                gc.set_threshold(gc.get_count()[0] + self.count * 7 % 10, 3, 3)
                 gc.enable()
                 self.is_calling = True
             result = real()
@@ -500,7 +504,12 @@ class Runner:
         for line in ("INSERT side (77, 0)", "DELETE side WHERE id = 77"):
             self.performed(line, Target("connection", slot, QUIET), lambda on: on.execute(line), self.executes(line, NO_VALUES))
 
+    def use_up_tuples(self, count: int) -> None:
+        """The interpreter keeps tuples that are free, and starts no collector where it takes one of these for a row."""
+        self.tuples += [tuple([0] * width) for width in (1, 2, 3) for _ in range(count)]
+
     def do_garbage(self, steps: Steps, kind: str) -> None:
+        self.use_up_tuples(50)
         if kind == "weak":
             holder = type("Holder", (), {})()
             holder.me = holder

@@ -66,7 +66,6 @@ def in_child(work: Callable[[Callable[[str], None]], None], seconds: float) -> t
 def run(program: Steps, counts: collections.Counter | None = None) -> int:
     """Runs a program, and returns the number of its steps. At its end no object of the client is left."""
     gc.disable()
-    gc.set_threshold(4, 3, 3)
     runner = Runner(counts)
     runner.run(program)
     runner.ends()
