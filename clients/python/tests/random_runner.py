@@ -238,6 +238,8 @@ class Runner:
     def do_asked(self, steps: Steps) -> None:
         self.run(steps)
 
+    do_redefined = do_asked
+
     def do_connect(self, slot: int, autocommit: bool, is_checked: bool, texts: str, steps: Steps) -> None:
         real = mmdb.connect(autocommit=autocommit, check_same_thread=is_checked)
         factories: dict[str, Any] = {"none": None, "str": str, "bytes": bytes}

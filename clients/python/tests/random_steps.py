@@ -21,6 +21,7 @@ TABLE u (id INT KEY, r INT REF t CASCADE, x TEXT)
 TABLE v (name TEXT KEY, r INT REF t)
 TABLE side (id INT KEY, k INT)
 TABLE bulk (id INT KEY, s TEXT)
+TABLE z (a INT KEY, b TEXT)
 INDEX i ON t (k) TREE
 WATCH w SELECT a.id, b.x FROM t a, u b WHERE b.r = a.id
 INSERT side (0, 0), (1, 10), (2, 20), (3, 30)
@@ -39,7 +40,7 @@ FORMS = [
     (3, "SELECT a.id FROM t a WHERE a.k >= ? AND a.k < ?", "nn"), (2, "SELECT a.id, b.x FROM t a, u b WHERE b.r = a.id AND a.k > ?", "n"),
     (2, "SELECT DISTINCT a.k FROM t a ORDER 1", ""), (1, "SELECT a.id, b.id FROM t a, t b WHERE a.id = b.id + ?", "n"),
     (1, "SELECT a.r FROM v a WHERE a.name = ?", "s"), (4, "SCAN t", ""), (3, "SCAN u", ""), (1, "SCAN v", ""),
-    (1, "SCAN nothing", ""), (1, "SCAN bulk", ""),
+    (1, "SCAN nothing", ""), (1, "SCAN bulk", ""), (1, "SCAN z", ""), (1, "SELECT a.b FROM z a", ""),
     (1, "SELECT a.id, a.s, b.id FROM t a, t b", ""), (1, "SELECT a.s, b.x, a.s FROM t a, u b", ""),
     (2, "SCAN INDEX i", ""), (1, "SCAN INDEX j", ""), (3, "SHOW w", ""), (1, "SHOW x", ""), (1, "TABLES", ""),
     (1, "EXPLAIN SELECT a.id FROM t a WHERE a.k = ?", "n"), (1, "WATCH x SELECT a.s FROM t a WHERE a.k > 3", ""), (1, "UNWATCH x", ""),
@@ -57,6 +58,13 @@ CHANGES = [form for form in FORMS if form[1][:6] in ("INSERT", "UPDATE", "DELETE
 CHANGE_WEIGHTS = [weight for weight, _, _ in CHANGES]
 QUESTIONS = [form for form in FORMS if form[1].startswith(("SELECT", "SCAN ", "SHOW", "TABLES", "EXPLAIN"))]
 QUESTION_WEIGHTS = [weight for weight, _, _ in QUESTIONS]
+# Definitions of one table with other columns, each with a row.
+DEFINITIONS = [
+    ("TABLE z (a INT KEY, b TEXT)", "INSERT z (1, 'x')"),
+    ("TABLE z (b TEXT KEY)", "INSERT z ('y')"),
+    ("TABLE z (b INT KEY)", "INSERT z (7)"),
+    ("TABLE z (c INT, b TEXT, a INT KEY)", "INSERT z (3, 'z', 2)"),
+]
 # What a finalizer may do while any other call runs: it changes nothing that another call looks at.
 QUIET_LINES = ["SELECT a.k FROM side a WHERE a.id = 1", "SELECT a.k FROM side a WHERE a.id >= 1", "SCAN side", "SCAN nothing", "SCAN"]
 
@@ -264,6 +272,19 @@ class Draw:
             steps.append(("fetch", target.at, how, size))
         return ("asked", Steps(steps))
 
+    def redefined(self, depth: int) -> tuple:
+        """A table gets other columns, by a script or line by line, and lines that are kept prepared are asked again."""
+        target = self.target()._replace(where="connection")
+        lines = ("DROP TABLE z", *self.rng.choice(DEFINITIONS))
+        steps: list[tuple] = [("end", target.slot, "commit")]
+        if self.rng.random() < 0.5:
+            steps.append(("script", target, lines, "\n"))
+        else:
+            steps += [("execute", target, line, Values("tuple", ())) for line in lines]
+        for line in ("SCAN z", "SELECT a.b FROM z a"):
+            steps += [("execute", target, line, Values("tuple", ())), ("fetch", target.at, "all", 0)]
+        return ("redefined", Steps(steps))
+
     def cursor(self, depth: int) -> tuple:
         kind = self.rng.choice(("none", "none", "row", "list", "nothing", "same"))
         factory = Factory(kind)
@@ -339,7 +360,7 @@ class Draw:
 STEPS = {
     "execute": 35, "executemany": 8, "fetch": 10, "asked": 10, "cursor": 5, "end": 7, "script": 2, "close_cursor": 1, "drop_cursor": 1.5,
     "autocommit": 0.7, "block": 2, "savepoint": 4, "savepoints": 0.1, "lines": 1, "reconnect": 0.4, "in_thread": 2, "end_thread": 0.3,
-    "garbage": 3, "collect": 1, "tables": 3, "many": 0.05, "trace": 0.7, "executecolumns": 2,
+    "garbage": 3, "collect": 1, "tables": 3, "many": 0.05, "trace": 0.7, "redefined": 0.5, "executecolumns": 2,
 }  # fmt: skip
 
 
