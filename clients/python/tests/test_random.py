@@ -126,6 +126,6 @@ def test_random_programs() -> None:
     counted = [line.partition(" ") for line in told.splitlines() if line[0].isdigit()]
     counts = {name: int(count) for count, _, name in counted}
     print(told[told.rindex("program ") :])
-    # Each kind of step ran, a tenth as often as it is drawn at least.
-    seldom = [name for name, weight in STEPS.items() if counts.get(name, 0) < MOST_STEPS * weight / 1000]
+    # Each kind of step ran, a twentieth as often as it is drawn at least.
+    seldom = [name for name, weight in STEPS.items() if counts.get(name, 0) < int(MOST_STEPS * weight / 2000)]
     assert not seldom, f"{seldom} were too seldom among {counts}"
