@@ -130,9 +130,13 @@ static PyObject *row_repr(PyObject *object) {
     return repr;
 }
 
-static PyObject *row_keys(PyObject *self, PyObject *unused) {
+/* PySequence_List would do the same, but up to CPython 3.11 it loses a reference if an allocation fails. */
+static PyObject *row_keys(PyObject *object, PyObject *unused) {
     (void)unused;
-    return PySequence_List(((Row *)self)->names);
+    PyObject *names = ((Row *)object)->names;
+    PyObject *list = PyList_New(PyTuple_Size(names));
+    for (Py_ssize_t i = 0; list != NULL && i < PyTuple_Size(names); i++) PyList_SetItem(list, i, Py_NewRef(PyTuple_GetItem(names, i)));
+    return list;
 }
 
 static PyObject *row_count(PyObject *self, PyObject *value) {

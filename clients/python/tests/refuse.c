@@ -14,9 +14,11 @@
 void *__libc_malloc(size_t size);
 void *__libc_calloc(size_t count, size_t size);
 void *__libc_realloc(void *block, size_t size);
+void __libc_free(void *block);
 
 static long growths_until_refusal;
 static int was_refused;
+static size_t bytes_in_use;
 
 void refuse_growth(long number) {
     was_refused = 0;
@@ -28,10 +30,7 @@ int growth_was_refused(void) {
     return was_refused;
 }
 
-size_t memory_in_use(void) {
-    struct mallinfo2 info = mallinfo2();
-    return info.uordblks + info.hblkhd;
-}
+size_t memory_in_use(void) { return bytes_in_use; }
 
 static int is_refused(void) {
     if (growths_until_refusal == 0 || --growths_until_refusal > 0) return 0;
@@ -40,11 +39,28 @@ static int is_refused(void) {
     return 1;
 }
 
-void *malloc(size_t size) { return is_refused() ? NULL : __libc_malloc(size); }
+/* malloc_usable_size(NULL) is 0. */
+static void *counted(void *block) {
+    bytes_in_use += malloc_usable_size(block);
+    return block;
+}
 
-void *calloc(size_t count, size_t size) { return is_refused() ? NULL : __libc_calloc(count, size); }
+void *malloc(size_t size) { return is_refused() ? NULL : counted(__libc_malloc(size)); }
+
+void *calloc(size_t count, size_t size) { return is_refused() ? NULL : counted(__libc_calloc(count, size)); }
 
 void *realloc(void *block, size_t size) {
-    int grows = size > 0 && (block == NULL || size > malloc_usable_size(block));
-    return grows && is_refused() ? NULL : __libc_realloc(block, size);
+    size_t before = malloc_usable_size(block);
+    if (size > before && is_refused()) return NULL;
+    void *moved = __libc_realloc(block, size);
+    if (moved != NULL || size == 0) {
+        bytes_in_use -= before;
+        counted(moved);
+    }
+    return moved;
+}
+
+void free(void *block) {
+    bytes_in_use -= malloc_usable_size(block);
+    __libc_free(block);
 }

@@ -143,7 +143,7 @@ def made(memory: Memory, case: Case, given: Any, growth: int) -> tuple[bool, Bas
     except MemoryError as error:
         return bool(was_refused()), error
     except mmdb.OperationalError as error:
-        assert error.number == MEMORY and error.args[0].startswith("memory"), error
+        assert error.number == MEMORY and error.args[0].endswith("memory"), error
         return bool(was_refused()), error
     return bool(was_refused()), None
 
