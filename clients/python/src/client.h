@@ -371,14 +371,14 @@ void reply_clear(Reply *reply);
  * Parts 2 to 4 of a prepared change for rows of cells. Adds to the count of the reply the rows that changed, and to runs the runs that
  * were done. Returns false with an exception, which says the number of runs, if one is refused.
  */
-bool run_cells(Connection *connection, Statement *statement, const mmdb_cell *cells, size_t rows, Reply *reply, size_t *runs);
+bool run_cells(Cursor *cursor, Statement *statement, const mmdb_cell *cells, size_t rows, Reply *reply, size_t *runs);
 
 /* Runs the rows before one that is no row of values, whose exception is set. If they all succeed, it stays set, with the number of runs. */
-void run_cells_before_refused(Connection *connection, Statement *statement, const mmdb_cell *cells, size_t rows, Reply *reply,
+void run_cells_before_refused(Cursor *cursor, Statement *statement, const mmdb_cell *cells, size_t rows, Reply *reply,
                               size_t *runs);
 
 /* Runs a prepared change for the rows of an object. Returns false with an exception. */
-typedef bool (*RowRunner)(Connection *connection, Statement *statement, PyObject *rows, Reply *reply);
+typedef bool (*RowRunner)(Cursor *cursor, Statement *statement, PyObject *rows, Reply *reply);
 
 /* Runs a line, which must be a change, for the rows of an object. */
 bool cursor_run_rows(Cursor *self, PyObject *line, PyObject *rows, RowRunner run);

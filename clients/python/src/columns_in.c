@@ -137,22 +137,23 @@ static Conversion copy_rows(const State *state, const Sources *sources, size_t f
     return CONVERTED;
 }
 
-static bool run_sources(Connection *connection, Statement *statement, const Sources *sources, mmdb_cell *cells, Reply *reply) {
+static bool run_sources(Cursor *cursor, Statement *statement, const Sources *sources, mmdb_cell *cells, Reply *reply) {
+    const State *state = cursor->connection->state;
     size_t all = sources->sources[0].rows, runs = 0;
     for (size_t first = 0, rows; first < all; first += rows) {
         if (PyErr_CheckSignals() < 0) return false;
         rows = MANY_CELLS / sources->count;
         if (rows > all - first) rows = all - first;
-        Conversion conversion = copy_rows(connection->state, sources, first, &rows, cells);
-        if (conversion == REFUSED) run_cells_before_refused(connection, statement, cells, rows, reply, &runs);
+        Conversion conversion = copy_rows(state, sources, first, &rows, cells);
+        if (conversion == REFUSED) run_cells_before_refused(cursor, statement, cells, rows, reply, &runs);
         if (conversion != CONVERTED) return false;
-        if (!run_cells(connection, statement, cells, rows, reply, &runs)) return false;
+        if (!run_cells(cursor, statement, cells, rows, reply, &runs)) return false;
     }
     return true;
 }
 
 /* Runs a prepared change for the rows of columns. */
-static bool run_columns(Connection *connection, Statement *statement, PyObject *columns, Reply *reply) {
+static bool run_columns(Cursor *cursor, Statement *statement, PyObject *columns, Reply *reply) {
     size_t width = statement->parameters;
     if (width > MANY_CELLS) {
         PyErr_SetString(PyExc_ValueError, "the line has too many holes for columns");
@@ -163,7 +164,7 @@ static bool run_columns(Connection *connection, Statement *statement, PyObject *
     mmdb_cell *cells = sources == NULL ? NULL : malloc(MANY_CELLS * sizeof *cells);
     bool is_done = false;
     if (cells != NULL) {
-        is_done = sources_open(connection->state, sources, tuple, width) && run_sources(connection, statement, sources, cells, reply);
+        is_done = sources_open(cursor->connection->state, sources, tuple, width) && run_sources(cursor, statement, sources, cells, reply);
     } else if (tuple != NULL) {
         PyErr_NoMemory();
     }

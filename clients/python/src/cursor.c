@@ -82,10 +82,12 @@ static PyObject *next_tuple(Cursor *self) {
         self->one = NULL;
         return row;
     }
-    /* Making the row may run a finalizer that uses this cursor, so the result is held. */
+    /* Making the row may run code that uses this cursor or sets another text_factory, so both are held. */
     Result *result = result_retain(self->result);
-    PyObject *row = row_from_result(self->connection->text_factory, result, at);
+    PyObject *factory = Py_XNewRef(self->connection->text_factory);
+    PyObject *row = row_from_result(factory, result, at);
     if (row == NULL) give_back(self, result, at, 1);
+    Py_XDECREF(factory);
     result_release(result);
     return row;
 }

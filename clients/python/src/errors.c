@@ -162,18 +162,25 @@ static PyObject *words_of_hint(uint8_t status) {
     return hint == NULL ? PyUnicode_FromString("") : PyUnicode_FromFormat(": %s", hint);
 }
 
-void raise_refusal(const State *state, const Refusal *refusal) {
-    bool has_place = refusal->place <= refusal->length && (refusal->place > 0 || refusal->status == MMDB_SYNTAX);
+/* Returns the message of a refusal: "line 4: no such table: at 'nothing'". */
+static PyObject *message_of_refusal(const Refusal *refusal, bool has_place) {
     PyObject *words = words_of_status(refusal->status);
+    if (words == NULL) return NULL;
     PyObject *rest = has_place ? words_of_place(refusal) : words_of_hint(refusal->status);
     PyObject *message = NULL;
-    if (words != NULL && rest != NULL) {
-        message = refusal->script_line == 0 ? PyUnicode_FromFormat("%U%U", words, rest)
-                                            : PyUnicode_FromFormat("line %zu: %U%U", refusal->script_line, words, rest);
+    if (rest != NULL && refusal->script_line > 0) {
+        message = PyUnicode_FromFormat("line %zu: %U%U", refusal->script_line, words, rest);
+    } else if (rest != NULL) {
+        message = PyUnicode_FromFormat("%U%U", words, rest);
     }
-    Py_XDECREF(words);
+    Py_DECREF(words);
     Py_XDECREF(rest);
-    raise_message(state, refusal->status, message, has_place ? &refusal->place : NULL);
+    return message;
+}
+
+void raise_refusal(const State *state, const Refusal *refusal) {
+    bool has_place = refusal->place <= refusal->length && (refusal->place > 0 || refusal->status == MMDB_SYNTAX);
+    raise_message(state, refusal->status, message_of_refusal(refusal, has_place), has_place ? &refusal->place : NULL);
 }
 
 void add_runs(size_t runs) {

@@ -160,7 +160,9 @@ static bool cursor_take(Cursor *self, Connection *connection, Reply *reply) {
     bool is_text = reply->status == MMDB_TEXT, has_rows = reply->status == MMDB_ROWS || is_text;
     PyObject *one = NULL;
     if (has_rows && reply->count == 1 && reply->result == NULL) {
-        one = row_from_cells(connection->text_factory, reply->cells, reply->shape->width);
+        PyObject *factory = Py_XNewRef(connection->text_factory);
+        one = row_from_cells(factory, reply->cells, reply->shape->width);
+        Py_XDECREF(factory);
         if (one == NULL) return false;
     }
     cursor_forget(self);
@@ -267,7 +269,10 @@ static void batch_fill(const State *state, Batch *batch) {
     }
 }
 
-bool run_cells(Connection *connection, Statement *statement, const mmdb_cell *cells, size_t rows, Reply *reply, size_t *runs) {
+bool run_cells(Cursor *cursor, Statement *statement, const mmdb_cell *cells, size_t rows, Reply *reply, size_t *runs) {
+    /* The code that made the values may have closed the cursor. */
+    if (!cursor_check_open(cursor)) return false;
+    Connection *connection = cursor->connection;
     if (!connection_enter(connection)) return false;
     perform_many(connection, statement, cells, rows, reply);
     connection_leave(connection);
@@ -278,11 +283,11 @@ bool run_cells(Connection *connection, Statement *statement, const mmdb_cell *ce
     return false;
 }
 
-void run_cells_before_refused(Connection *connection, Statement *statement, const mmdb_cell *cells, size_t rows, Reply *reply,
+void run_cells_before_refused(Cursor *cursor, Statement *statement, const mmdb_cell *cells, size_t rows, Reply *reply,
                               size_t *runs) {
     PyObject *class, *error, *trace;
     PyErr_Fetch(&class, &error, &trace);
-    if (run_cells(connection, statement, cells, rows, reply, runs)) {
+    if (run_cells(cursor, statement, cells, rows, reply, runs)) {
         PyErr_Restore(class, error, trace);
         add_runs(*runs);
         return;
@@ -292,17 +297,18 @@ void run_cells_before_refused(Connection *connection, Statement *statement, cons
     Py_XDECREF(trace);
 }
 
-static bool run_batches(Connection *connection, Statement *statement, Batch *batch, Reply *reply) {
+static bool run_batches(Cursor *cursor, Statement *statement, Batch *batch, Reply *reply) {
+    const State *state = cursor->connection->state;
     size_t runs = 0;
     do {
         if (PyErr_CheckSignals() < 0) return false;
-        batch_fill(connection->state, batch);
+        batch_fill(state, batch);
         if (batch->conversion == REFUSED) {
-            run_cells_before_refused(connection, statement, batch->cells, batch->filled, reply, &runs);
+            run_cells_before_refused(cursor, statement, batch->cells, batch->filled, reply, &runs);
         }
         /* If the iterable raised an exception, the rows that wait are not run. */
         if (batch->conversion != CONVERTED) return false;
-        if (!run_cells(connection, statement, batch->cells, batch->filled, reply, &runs)) return false;
+        if (!run_cells(cursor, statement, batch->cells, batch->filled, reply, &runs)) return false;
     } while (!batch->is_last);
     return true;
 }
@@ -323,12 +329,12 @@ static bool prepare_change(Connection *connection, Statement *statement) {
 }
 
 /* Runs a prepared change for the rows of an iterable. */
-static bool run_rows(Connection *connection, Statement *statement, PyObject *rows, Reply *reply) {
+static bool run_rows(Cursor *cursor, Statement *statement, PyObject *rows, Reply *reply) {
     Batch batch = {.width = statement->parameters};
     batch.room = batch.width == 0 || batch.width > MANY_CELLS ? 1 : MANY_CELLS / batch.width;
     if ((batch.rows = PyObject_GetIter(rows)) == NULL) return false;
     batch.cells = malloc((batch.room * batch.width + 1) * sizeof(mmdb_cell));
-    bool is_done = batch.cells != NULL && run_batches(connection, statement, &batch, reply);
+    bool is_done = batch.cells != NULL && run_batches(cursor, statement, &batch, reply);
     if (batch.cells == NULL) PyErr_NoMemory();
     free(batch.cells);
     Py_DECREF(batch.rows);
@@ -344,11 +350,12 @@ bool cursor_run_rows(Cursor *self, PyObject *line, PyObject *rows, RowRunner run
     reply_clear(&reply);
     bool is_done = false;
     if (statement != NULL) {
-        is_done = prepare_change(connection, statement) && run(connection, statement, rows, &reply);
+        is_done = prepare_change(connection, statement) && run(self, statement, rows, &reply);
         statement_release(connection, statement);
-        cursor_forget(self);
-        if (is_done) self->row_count = (Py_ssize_t)reply.count;
     }
+    /* The code that ran meanwhile may have used this cursor. */
+    cursor_forget(self);
+    if (is_done) self->row_count = (Py_ssize_t)reply.count;
     Py_DECREF((PyObject *)connection);
     return is_done;
 }

@@ -53,13 +53,17 @@ static bool is_empty(const Command *command) {
     return command->status == MMDB_DONE && command->statement->kind == MMDB_KIND_NOTHING;
 }
 
-/* Returns whether reading two lines as one command got past the beginning of the second one. */
+/* Returns the number of blanks at the beginning of a command's line. */
+static size_t leading_blanks(const Command *command) {
+    size_t blanks = 0;
+    while (blanks < command->statement->length && is_blank(command->statement->line[blanks])) blanks++;
+    return blanks;
+}
+
+/* Returns whether reading two lines as one command got past the first word of the second one. */
 static bool reads_on(const Command *first, const Command *next, const Command *both) {
-    if (both->status != MMDB_SYNTAX) return true;
     /* A blank in both stands for the line feed. */
-    size_t begin = first->statement->length + 1, end = both->statement->length;
-    for (size_t i = 0; i < next->statement->length && begin < end && is_blank(both->statement->line[begin]); i++) begin++;
-    return both->place > begin;
+    return both->status != MMDB_SYNTAX || both->place > first->statement->length + 1 + leading_blanks(next);
 }
 
 static void command_close(Script *script, Command *command) {
@@ -74,16 +78,19 @@ static void command_close(Script *script, Command *command) {
 static bool join(Script *script, Command *command, Command *next, bool *is_joined) {
     *is_joined = false;
     if (is_empty(command) || is_empty(next)) return true;
-    if (command->status == MMDB_DONE && next->status != MMDB_SYNTAX) return true;
+    if (command->status != MMDB_SYNTAX && next->status != MMDB_SYNTAX) return true;
     Command both = {.begin = command->begin, .end = next->end, .line = command->line};
+    /* A byte that begins no token is found before any word is read, so the second line is cut where it stops by itself. */
+    if (next->status == MMDB_SYNTAX && next->place > leading_blanks(next)) both.end = next->begin + next->place;
     if (!command_prepare(script, &both)) return false;
     *is_joined = reads_on(command, next, &both);
-    command_close(script, *is_joined ? command : &both);
-    if (*is_joined) {
-        command_close(script, next);
-        *command = both;
-    }
-    return true;
+    command_close(script, &both);
+    if (!*is_joined) return true;
+    both.end = next->end;
+    command_close(script, command);
+    command_close(script, next);
+    *command = both;
+    return command_prepare(script, command);
 }
 
 /*

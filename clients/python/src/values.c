@@ -109,10 +109,10 @@ static Conversion cells_from_list(const State *state, PyObject *list, mmdb_cell 
 
 /* Returns whether an object may hold the values of a line: it has an order, and is no text. */
 static bool is_row(PyObject *object) {
-    if (PyTuple_Check(object) || PyList_Check(object)) return true;
+    if (PyTuple_Check(object) || PyList_Check(object) || PyIter_Check(object)) return true;
     if (PyUnicode_Check(object) || PyBytes_Check(object) || PyByteArray_Check(object)) return false;
     if (PyAnySet_Check(object) || PyObject_HasAttrString(object, "keys")) return false;
-    return PySequence_Check(object) || PyIter_Check(object) || PyObject_HasAttrString(object, "__iter__");
+    return PySequence_Check(object) || PyObject_HasAttrString(object, "__iter__");
 }
 
 /* Opens a tuple or a list with the values of a line. Runs Python code if the object is of another type. */
