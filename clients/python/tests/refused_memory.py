@@ -119,6 +119,8 @@ class Memory:
         self.refuse, self.was_refused, self.in_use = library.refuse_growth, library.growth_was_refused, library.memory_in_use
         self.refuse.argtypes, self.refuse.restype = [ctypes.c_long], None
         self.in_use.restype = ctypes.c_size_t
+        # Whether the interpreter lost an exception, and with it a frame and all that this refers to.
+        self.has_lost = False
 
 
 def is_refused(call: Callable[[], Any]) -> None:
@@ -145,6 +147,11 @@ def made(memory: Memory, case: Case, given: Any, growth: int) -> tuple[bool, Bas
     except mmdb.OperationalError as error:
         assert error.number == MEMORY and error.args[0].endswith("memory"), error
         return bool(was_refused()), error
+    except SystemError as error:
+        # The interpreter of 3.11 loses an exception if it has no memory for the frame of its traceback.
+        assert str(error) == "error return without exception set" and was_refused(), error
+        memory.has_lost = True
+        return True, error
     return bool(was_refused()), None
 
 
@@ -188,9 +195,9 @@ def leaks(memory: Memory, name: str) -> int:
         gc.collect()
         more = memory.in_use() - before
         least = more if least is None else min(least, more)
-        if least <= 0:
+        if least <= 0 or memory.has_lost:
             break
-    return least or 0
+    return 0 if memory.has_lost else least or 0
 
 
 def main() -> None:
@@ -198,6 +205,7 @@ def main() -> None:
     memory = Memory()
     total = 0
     for name in names:
+        memory.has_lost = False
         total += growths_of(memory, name)
         leaked = leaks(memory, name)
         assert leaked <= 0, (name, f"{leaked} bytes more are in use")

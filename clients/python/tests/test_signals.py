@@ -1,16 +1,16 @@
-"""Signal handlers that use the connection, or raise, at any point of a call: no row is lost, and all is as one of its parts left it."""
+"""Signal handlers that raise at any point of a call: no row is lost, and all is as one of its parts left it.
+
+test_reenter.py has a handler that uses the connection.
+"""
 
 import random
 import signal
 from collections.abc import Callable, Iterator
 
 import mmdb
-from random_runner import Runner
-from random_steps import CONNECTIONS, Draw
-from test_random import SEED, STEPS_OF_A_PROGRAM, in_child
+from test_random import SEED, in_child
 
-# A timer's interval in seconds, and how often a handler has to have come inside a call.
-INTERVAL = 0.0001
+# How often a handler has to have come inside a call.
 WANTED = 400
 SECONDS = 60
 # The rows that executemany takes at a time, if each has two values.
@@ -19,38 +19,6 @@ ROWS_AT_A_TIME = 512
 
 class Interrupted(BaseException):
     """What a handler raises."""
-
-
-def run_programs_with_handlers(tell: Callable[[str], None]) -> None:
-    """Runs random programs while a handler runs lines that change nothing which another call looks at."""
-    runner, times, number = Runner(), 0, 0
-    chance = Draw(f"{SEED}.handlers")
-
-    def handle(*_: object) -> None:
-        nonlocal times
-        if runner.is_calling:
-            times += 1
-            runner.is_calling = False
-            runner.aside(chance.quiet())
-            runner.is_calling = True
-
-    signal.signal(signal.SIGALRM, handle)
-    while times < WANTED:
-        tell(f"program {number}\n")
-        program = Draw(f"{SEED}.handlers.{number}").program(STEPS_OF_A_PROGRAM)
-        runner = Runner()
-        # First the tables are made.
-        runner.run(program[: 2 * CONNECTIONS])
-        signal.setitimer(signal.ITIMER_REAL, INTERVAL, INTERVAL)
-        runner.run(program[2 * CONNECTIONS :])
-        signal.setitimer(signal.ITIMER_REAL, 0)
-        runner.ends()
-        number += 1
-
-
-def test_handlers_that_use_the_connection() -> None:
-    failed, told = in_child(run_programs_with_handlers, SECONDS)
-    assert not failed, f"MMDB_SEED={SEED}: {failed}\n{told[-3000:]}"
 
 
 class Interruptions:
