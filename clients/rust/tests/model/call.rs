@@ -242,10 +242,10 @@ impl Call {
     pub fn columns(&self, model: &Model) -> Vec<(String, Type)> {
         let of = |table: &str, fields: Option<&[&str]>| -> Vec<(String, Type)> {
             let columns = model.table(table).map_or(vec![], |table| table.columns.clone());
+            // A field that the table does not have has no column.
             let find = |field: &&str| columns.iter().find(|column| column.0 == *field).copied();
-            let found: Option<Vec<_>> =
-                fields.map_or(Some(columns.clone()), |fields| fields.iter().map(find).collect());
-            found.unwrap_or_default().iter().map(|(name, data_type)| (String::from(*name), *data_type)).collect()
+            let found: Vec<_> = fields.map_or(columns.clone(), |fields| fields.iter().filter_map(find).collect());
+            found.iter().map(|(name, data_type)| (String::from(*name), *data_type)).collect()
         };
         match self {
             Call::Scan { table } => of(table, None),
