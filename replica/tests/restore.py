@@ -1,5 +1,5 @@
 #!/usr/bin/env python3
-"""Tests what docs/OPERATIONS.md says of backups, of a log whose servers lost their files, of snapshots that other replicas take over, and of
+"""Tests what replica/OPERATIONS.md says of backups, of a log whose servers lost their files, of snapshots that other replicas take over, and of
 connections that the servers refuse for a time.
 
     replica/tests/restore.py PROGRAMS
