@@ -160,12 +160,17 @@ class Run:
             if report := re.search(r"(ERROR|WARNING): \w+Sanitizer.*|.*runtime error:.*|.*LeakSanitizer.*", said):
                 yield f"sanitizer: {name}: {report[0]}"
         for status in self.statuses:
-            if status["lives"] > 1:
+            if status["lives"] - 1 > self.jumps(status["replica"]):
                 yield f"lives: {status['replica']} dropped its rows, and had no reason to"
             if status["doubted"]:
                 yield f"sums: {status['replica']} is in doubt"
         if not self.wrong and len(self.statuses) < len(REPLICAS):
             yield f"liveness: only {len(self.statuses)} replicas say their status"
+
+    def jumps(self, replica: str) -> int:
+        """How often a replica went on from a newer snapshot, because the log was cut after the rows that it had."""
+        is_cut = "--keep" in self.schedule.describe()
+        return self.said[replica].count("the log was cut off after its rows") if is_cut else 0
 
     def keep(self, folder: Path) -> None:
         self.history.write(folder / f"{self.schedule.seed}.history")
