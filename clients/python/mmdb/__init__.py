@@ -47,7 +47,7 @@ from ._types import (
     TimestampFromTicks,
 )
 
-__version__ = "1.0.0"
+__version__ = "1.1.0"
 
 apilevel = "2.0"
 # Threads may share the module, but not connections, unless these are opened with check_same_thread=False.
