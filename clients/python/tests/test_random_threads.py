@@ -99,6 +99,8 @@ def use_at_the_same_time(tell: Callable[[str], None]) -> None:
 
 
 def close_meanwhile(tell: Callable[[str], None]) -> None:
+    """Closes a connection while threads use it. A thread may have ended before, if the machine is late."""
+    ended = 0
     for round in range(40):
         connection = mmdb.connect(autocommit=True, check_same_thread=False)
         connection.execute("TABLE t (id INT KEY, k INT)")
@@ -111,8 +113,10 @@ def close_meanwhile(tell: Callable[[str], None]) -> None:
 
         raised = run_threads([*(part.run for part in parts), close])
         told = [str(error) for error in raised]
-        assert len(raised) == THREADS and all(type(error) is mmdb.ProgrammingError for error in raised), told
-        assert set(told) == {"the connection is closed"}, told
+        assert all(type(error) is mmdb.ProgrammingError for error in raised), told
+        assert set(told) <= {"the connection is closed"}, told
+        ended += len(raised)
+    assert ended >= 10, f"only {ended} threads met a closed connection"
 
 
 def test_threads_at_the_same_time() -> None:
