@@ -66,6 +66,7 @@ typedef struct State {
     PyTypeObject *connection_type, *cursor_type, *savepoint_type, *row_type, *columns_type, *buffer_type;
     PyObject *errors[ERROR_CLASSES];
     PyObject *no_values;        /* an empty tuple */
+    PyObject *keys, *iter;      /* the names keys and __iter__, interned */
     PyObject *make_row;         /* the function that unpickles a Row */
     Shape *line_shape;          /* the columns of the replies to EXPLAIN and TABLES: one text, line */
 } State;

@@ -92,6 +92,8 @@ static int module_exec(PyObject *module) {
     if (!errors_create(module, state) || !add_types(module, state)) return -1;
     if (!errors_add_to_type(state, state->connection_type)) return -1;
     if ((state->no_values = PyTuple_New(0)) == NULL) return -1;
+    if ((state->keys = PyUnicode_InternFromString("keys")) == NULL) return -1;
+    if ((state->iter = PyUnicode_InternFromString("__iter__")) == NULL) return -1;
     if ((state->make_row = PyObject_GetAttrString(module, "_row")) == NULL) return -1;
     if ((state->line_shape = shape_new(&line, 1)) == NULL) {
         PyErr_NoMemory();
@@ -117,6 +119,8 @@ static int module_traverse(PyObject *module, visitproc visit, void *arg) {
     for (size_t i = 0; i < sizeof types / sizeof *types; i++) Py_VISIT((PyObject *)types[i]);
     for (size_t i = 0; i < ERROR_CLASSES; i++) Py_VISIT(state->errors[i]);
     Py_VISIT(state->no_values);
+    Py_VISIT(state->keys);
+    Py_VISIT(state->iter);
     Py_VISIT(state->make_row);
     return 0;
 }
@@ -132,6 +136,8 @@ static int module_clear(PyObject *module) {
     }
     for (size_t i = 0; i < ERROR_CLASSES; i++) Py_CLEAR(state->errors[i]);
     Py_CLEAR(state->no_values);
+    Py_CLEAR(state->keys);
+    Py_CLEAR(state->iter);
     Py_CLEAR(state->make_row);
     shape_release(state->line_shape);
     state->line_shape = NULL;

@@ -65,7 +65,7 @@ static Conversion cell_from_index(const State *state, PyObject *value, mmdb_cell
 }
 
 static void raise_no_value(const State *state, PyObject *value) {
-    PyObject *name = PyObject_GetAttrString((PyObject *)Py_TYPE(value), "__name__");
+    PyObject *name = PyType_GetName(Py_TYPE(value));
     if (name == NULL) return;
     raise_words(state, NOT_SUPPORTED_ERROR, "a value is an int, a str or bytes, not %S", name);
     Py_DECREF(name);
@@ -108,11 +108,11 @@ static Conversion cells_from_list(const State *state, PyObject *list, mmdb_cell 
 }
 
 /* Returns whether an object may hold the values of a line: it has an order, and is no text. */
-static bool is_row(PyObject *object) {
-    if (PyTuple_Check(object) || PyList_Check(object) || PyIter_Check(object)) return true;
+static bool is_row(const State *state, PyObject *object) {
+    if (PyTuple_Check(object) || PyList_Check(object)) return true;
     if (PyUnicode_Check(object) || PyBytes_Check(object) || PyByteArray_Check(object)) return false;
-    if (PyAnySet_Check(object) || PyObject_HasAttrString(object, "keys")) return false;
-    return PySequence_Check(object) || PyObject_HasAttrString(object, "__iter__");
+    if (PyAnySet_Check(object) || PyObject_HasAttr(object, state->keys)) return false;
+    return PySequence_Check(object) || PyIter_Check(object) || PyObject_HasAttr(object, state->iter);
 }
 
 /* Opens a tuple or a list with the values of a line. Runs Python code if the object is of another type. */
@@ -121,11 +121,11 @@ static Conversion row_open(const State *state, PyObject *object, PyObject **row)
         *row = Py_NewRef(object);
         return CONVERTED;
     }
-    if (is_row(object)) {
+    if (is_row(state, object)) {
         *row = PySequence_Tuple(object);
         return *row != NULL ? CONVERTED : RAISED;
     }
-    PyObject *name = PyObject_GetAttrString((PyObject *)Py_TYPE(object), "__name__");
+    PyObject *name = PyType_GetName(Py_TYPE(object));
     if (name == NULL) return RAISED;
     raise_words(state, PROGRAMMING_ERROR, "the values of a line come in a tuple or a list, not in a %S", name);
     Py_DECREF(name);
