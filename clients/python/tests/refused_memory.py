@@ -103,10 +103,10 @@ CASES = {
     "watch": Case(lambda c: c.watch("v", "SELECT a.s FROM t a")),
     "show": Case(lambda c: c.show("w").fetchall()),
     "in_transaction": Case(lambda c: (c.in_transaction, c.total_changes, c._statements)),
-    "a refused line": Case(lambda c: is_refused(lambda: c.execute("SCAN nothing"))),
-    "a refused run": Case(lambda c: is_refused(lambda: c.execute(INSERT, (5, "x")))),
-    "a refused value": Case(lambda c: is_refused(lambda: c.execute(INSERT, (5000, 2.5)))),
-    "a refused row": Case(lambda c: is_refused(lambda: c.executemany(INSERT, [(4000,)]))),
+    "a refused line": Case(lambda c: is_refused(c.execute, "SCAN nothing")),
+    "a refused run": Case(lambda c: is_refused(c.execute, INSERT, (5, "x"))),
+    "a refused value": Case(lambda c: is_refused(c.execute, INSERT, (5000, 2.5))),
+    "a refused row": Case(lambda c: is_refused(c.executemany, INSERT, [(4000,)])),
     "the shell's calls": Case(lambda c: (c._execute_line(b"SCAN t"), c._reply_text(), c._reply_rows(b"SCAN t"), c._columns_of(b"SCAN t"))),
 }
 
@@ -119,14 +119,14 @@ class Memory:
         self.refuse, self.was_refused, self.in_use = library.refuse_growth, library.growth_was_refused, library.memory_in_use
         self.refuse.argtypes, self.refuse.restype = [ctypes.c_long], None
         self.in_use.restype = ctypes.c_size_t
-        # Whether the interpreter lost an exception, and with it a frame and all that this refers to.
-        self.has_lost = False
+        # The growths for which CPython lost an exception, and with it all that its frames refer to.
+        self.lost: set[tuple[str, int]] = set()
 
 
-def is_refused(call: Callable[[], Any]) -> None:
+def is_refused(call: Callable[..., Any], *arguments: Any) -> None:
     """Makes a call that is refused. Raises what says that memory was refused to it."""
     try:
-        call()
+        call(*arguments)
     except MemoryError:
         raise
     except mmdb.Error as error:
@@ -136,31 +136,34 @@ def is_refused(call: Callable[[], Any]) -> None:
     raise AssertionError("the call was not refused")
 
 
-def made(memory: Memory, case: Case, given: Any, growth: int) -> tuple[bool, BaseException | None]:
+def made(memory: Memory, name: str, given: Any, growth: int) -> tuple[bool, BaseException | None]:
     """Makes a call to which a growth is refused. Returns whether it was, and the exception that says so."""
     was_refused = memory.was_refused
     memory.refuse(growth)
     try:
-        case.call(given)
+        CASES[name].call(given)
     except MemoryError as error:
         return bool(was_refused()), error
     except mmdb.OperationalError as error:
         assert error.number == MEMORY and error.args[0].endswith("memory"), error
         return bool(was_refused()), error
     except SystemError as error:
-        # The interpreter of 3.11 loses an exception if it has no memory for the frame of its traceback.
-        assert str(error) == "error return without exception set" and was_refused(), error
-        memory.has_lost = True
-        return True, error
+        # CPython loses an exception if the traceback for it cannot be allocated, after the call. Of a function of the
+        # package that returns NULL without an exception it says something else.
+        assert error.args == ("error return without exception set",), error
+        memory.lost.add((name, growth))
+        return bool(was_refused()), error
     return bool(was_refused()), None
 
 
 def refused_once(memory: Memory, name: str, case: Case, growth: int) -> bool:
     """Refuses a call a growth. Returns whether there was such a growth."""
+    if (name, growth) in memory.lost:
+        return True
     connection = opened()
     given = case.before(connection)
     before = state_of(connection)
-    refused, error = made(memory, case, given, growth)
+    refused, error = made(memory, name, given, growth)
     if not refused:
         assert error is None, (name, growth, error)
         return False
@@ -195,9 +198,9 @@ def leaks(memory: Memory, name: str) -> int:
         gc.collect()
         more = memory.in_use() - before
         least = more if least is None else min(least, more)
-        if least <= 0 or memory.has_lost:
+        if least <= 0:
             break
-    return 0 if memory.has_lost else least or 0
+    return least or 0
 
 
 def main() -> None:
@@ -205,7 +208,6 @@ def main() -> None:
     memory = Memory()
     total = 0
     for name in names:
-        memory.has_lost = False
         total += growths_of(memory, name)
         leaked = leaks(memory, name)
         assert leaked <= 0, (name, f"{leaked} bytes more are in use")
