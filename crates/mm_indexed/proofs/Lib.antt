@@ -1,0 +1,15 @@
+pub mod Apart
+pub mod Bags
+pub mod Building
+pub mod Entries
+pub mod Levels
+pub mod Matches
+pub mod OneKey
+pub mod Ordered
+pub mod RefTests
+pub mod Served
+pub mod Steps
+pub mod Turning
+pub mod TwinPlaces
+pub mod Typed
+pub mod WalkRows

@@ -1,0 +1,4 @@
+pub mod InColumn
+pub mod Permuted
+pub mod Seeks
+pub mod SortedRows
