@@ -1,0 +1,36 @@
+use Rattle.std.proofs.Common.{◌≡◌, ℕ, ◌+◌, ◌-◌, ◌<◌, length, map, take, ap, ◌∙◌, arith}
+use Rattle.std.proofs.lemmas.List.{length-append, get_or_default}
+use Rattle.mm_tables.specs.Tables.{logged}
+use Rattle.mm_tables.proofs.InTables.{size_from_shapes, others_both}
+use Rattle.mm_tables.proofs.Making.{change_more, HasCapacity-fewer}
+use Rattle.mm_tables.proofs.tables.Tables.change_all.Goals as goal
+
+pub change-requires-clause-capacity : goal.change-requires-clause-capacity
+change-requires-clause-capacity c d =
+    let left : ℕ = length c.args.edits.now - c.loop-edit.edit-index in
+    let is : left + c.loop-edit.edit-index ≡ length c.args.edits.now = omega (arith, c.loop-edit-test.true) in
+    HasCapacity-fewer left 1 _ (omega (arith, c.loop-edit-test.true)) (c.loop-edit.invariant.capacity left is d)
+
+pub loop-edit-preserved : goal.loop-edit-preserved
+loop-edit-preserved c =
+    let inv = c.loop-edit.invariant in
+    let t : ℕ = c.args.table in
+    let i : ℕ = c.loop-edit.edit-index in
+    let edits = c.args.edits.now in
+    let start = c.args.self.now in
+    let old = c.loop-edit.self in
+    let new = c.change.new.self in
+    let within : t < length old.tables = omega (arith, size_from_shapes start.tables old.tables inv.shapes, c.requires.within) in
+    let more = change_more t start.log old new edits i _ _ c.change.ensures.log c.change.ensures.state c.loop-edit-test.true
+    (get_or_default edits i _ _ c.loop-edit-test.true) within c.change.ensures.shapes inv.fits inv.state inv.log in
+    record {
+      fits = more.0;
+      state = more.1;
+      log = more.2;
+      marks = λ mark here. c.change.ensures.marks mark
+          (omega (arith, here, ap length inv.log, length-append start.log (map (logged t) (take i edits)))) ∙ inv.marks mark here;
+      log_room = omega (arith, c.change.ensures.log_room, inv.log_room);
+      capacity = λ m is. c.change.ensures.capacity 0 m (inv.capacity (m + 1) (omega (arith, is)));
+      others = others_both t start.tables old.tables new.tables inv.others c.change.ensures.others;
+      shapes = c.change.ensures.shapes ∙ inv.shapes;
+    }

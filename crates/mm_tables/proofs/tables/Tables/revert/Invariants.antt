@@ -1,0 +1,14 @@
+use Rattle.std.proofs.Common.{◌≡◌, ◌≤◌, length, map}
+use Rattle.mm_tables.specs.Tables.{back, shape_of, state_of}
+use Rattle.mm_tables.proofs.Logs.{Reverting}
+use Rattle.mm_tables.proofs.tables.Tables.revert.Given as goal
+
+abbrev pub invariant-loop-self : goal.invariant-loop-self
+invariant-loop-self l = record {
+  least : l.mark ≤ length l.self.log;
+  reverting : Reverting back l.initial.self.log (state_of l.initial.self.tables) l.self.log (state_of l.self.tables);
+  shapes : map shape_of l.self.tables ≡ map shape_of l.initial.self.tables;
+}
+
+abbrev pub decreases-loop-self : goal.decreases-loop-self
+decreases-loop-self l = length l.self.log

@@ -1,0 +1,47 @@
+-- The edits of a command in one table.
+use Rattle.std.specs.Prelude.{◌≡◌, ◌≢◌, ℕ, List, [], ◌∷◌, Some, All, AllPairs}
+use Rattle.mm_value.specs.declared.row_ref.RowRef.{RowRef}
+use Rattle.mm_row_order.specs.Refs.{Slots, HasRow}
+use Rattle.mm_indexed.specs.Twins.{HasTwin}
+use Rattle.mm_tables.specs.Edits.{step, Fits, came_by}
+use Rattle.mm_tables.specs.declared.edit.Edit.{Edit}
+use Rattle.mm_tables.specs.declared.edit.Edit.TheVariants.{Stage, Insert, Update, Move, Delete}
+
+-- the slots after these edits, the first edit first
+abbrev pub after : List Edit → Slots → Slots
+after [] now = now
+after (e ∷ es) now = after es (step e now)
+
+-- each edit fits the slots after the edits before it
+abbrev pub FitsForth : ℕ → List Edit → Slots → Type 0
+FitsForth key [] now = Unit {0}
+FitsForth key (e ∷ es) now = Fits key now e × FitsForth key es (step e now)
+
+-- an edit does not name a slot
+abbrev pub LeavesOut : Edit → RowRef → Type 0
+LeavesOut (Stage s) r = s ≢ r
+LeavesOut (Insert s) r = s ≢ r
+LeavesOut (Update a b) r = (a ≢ r) × (b ≢ r)
+LeavesOut (Move a b) r = (a ≢ r) × (b ≢ r)
+LeavesOut (Delete s) r = s ≢ r
+
+-- two edits have no slot in common
+abbrev pub IsApart : Edit → Edit → Type 0
+IsApart e (Stage r) = LeavesOut e r
+IsApart e (Insert r) = LeavesOut e r
+IsApart e (Update a b) = LeavesOut e a × LeavesOut e b
+IsApart e (Move a b) = LeavesOut e a × LeavesOut e b
+IsApart e (Delete r) = LeavesOut e r
+
+-- The edits of one command: each fits the slots as they are, and no two have a slot in common.
+pub record IsCommand (key : ℕ) (edits : List Edit) (now : Slots) : Type 0 where
+  pub fits : All (Fits key now) edits
+  pub apart : AllPairs IsApart edits
+
+-- the row that an edit brought is in use
+abbrev pub CameLive : Slots → Edit → Type 0
+CameLive now e = (at : RowRef) → came_by e ≡ Some at → HasRow now at
+
+-- no other row has its key
+abbrev pub CameAlone : ℕ → Slots → Edit → Type 0
+CameAlone key now e = (at : RowRef) → came_by e ≡ Some at → HasTwin key now at → ⊥

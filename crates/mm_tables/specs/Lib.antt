@@ -1,0 +1,4 @@
+pub mod Edits
+pub mod Commands
+pub mod Log
+pub mod Tables

@@ -1,0 +1,9 @@
+//! The records of the log.
+use crate::edit::Edit;
+
+/// An edit of one table.
+#[derive(Clone, Copy)]
+pub struct LogRecord {
+    pub(crate) table: u16,
+    pub(crate) edit: Edit,
+}
