@@ -4,7 +4,7 @@ use Rattle.std.proofs.lemmas.List.{append_assoc, take-take, take_at, length-appe
 use Rattle.std.specs.Prelude.{Result, Ok, Err, OnErr}
 use Rattle.std.specs.List.{All}
 use Rattle.std.specs.List.Sorted.{IsNonDecreasingBy}
-use Rattle.std.specs.Ordering.{ordering_index, is_ge, is_le, is_lt, is_gt}
+use Rattle.std.specs.Ordering.{ordering_index, is_ge, is_le, is_gt}
 use Rattle.std.specs.declared.cmp.Ordering.{Ordering}
 use Rattle.std.specs.declared.cmp.Ordering.TheVariants.{Less, Equal, Greater}
 use Rattle.mm_value.specs.declared.row_ref.RowRef.{RowRef}
@@ -16,7 +16,7 @@ use Rattle.mm_order.proofs.Places.{less_below, greater_above, less_up_to, not_le
 use Rattle.ttree_node.specs.Entries.{first_entry, last_entry}
 use Rattle.ttree.proofs.Parts.{IsOrdered-front, IsOrdered-middle, IsOrdered-back, rest_ordered}
 
-and_false : (b : Bool) → (b && false) ≡ false
+pub and_false : (b : Bool) → (b && false) ≡ false
 and_false true = refl
 and_false false = refl
 
@@ -50,12 +50,6 @@ module _ (Covers : RowRef → Type 0) (cmp : RowRef → RowRef → Ordering) (le
       (rises.rises (get_or middle (length middle - 1) d) (get_or right k e) (covered_middle (length middle - 1) d (omega arith)) (covered_right k e within)
       (across (length middle - 1) d (omega arith) k e within))) in
       ap (λ o. is_ge (low (get_or right k e)) && is_le o) high_is ∙ and_false (is_ge (low (get_or right k e))))
-
--- `is_lt` holds of Less alone, and `is_gt` of Greater alone
-pub less_from_test : (o : Ordering) → is_lt o ≡ true → o ≡ Less
-less_from_test Less e = refl
-less_from_test Equal e = (cc)
-less_from_test Greater e = (cc)
 
 pub greater_from_test : (o : Ordering) → is_gt o ≡ true → o ≡ Greater
 greater_from_test Less e = (cc)

@@ -30,7 +30,7 @@ remove_last-append xs last some is =
     ap (λ ys. take n xs ++ ys ++ last ∷ []) none ∙ ap (λ ys. ys ++ last ∷ []) (append-nil (take n xs)) ∙ sym (ap (λ ys. take n xs ++ ys) end)
     ∙ take-append-drop n xs
 
-self_equal : (o : Ordering) → o ≡ ordering_reverse o → o ≡ Equal
+pub self_equal : (o : Ordering) → o ≡ ordering_reverse o → o ≡ Equal
 self_equal Less e = (cc)
 self_equal Equal e = refl
 self_equal Greater e = (cc)

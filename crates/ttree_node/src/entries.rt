@@ -11,11 +11,12 @@ use std::mem;
 /// The most entries of a node.
 const ROOM: usize = 16;
 
-/// At most 16 references, seen as the list of them. The length takes 2 bytes, where that of an `ArrayVec` takes 8.
+/// At most 16 references, seen as the list of them. The length takes 2 bytes, where that of an `ArrayVec` takes 8, and lies beside the
+/// first place.
 #[derive(Drop)]
 pub struct Entries {
-    places: [RowRef; ROOM],
     len: u16,
+    places: [RowRef; ROOM],
 }
 
 impl Model for Entries {
@@ -36,8 +37,8 @@ impl Entries {
         ensures { result ≡ [] }
     {
         Entries {
-            places: [RowRef { slot: 0 }; ROOM],
             len: 0,
+            places: [RowRef { slot: 0 }; ROOM],
         }
     }
 

@@ -21,14 +21,15 @@ pub struct Subtree {
 /// One block of memory: the root of a T-tree that is not empty, in its place.
 ///
 /// It keeps the height of each side in 16 bits, 0 where nothing stands. So a link needs no tag beside its pointer, and a node takes
-/// 88 bytes, a block of 96 by `malloc`.
+/// 88 bytes, a block of 96 by `malloc`. Fields lie in memory in this order: what a search reads of a node that it passes, the links,
+/// their heights and the first entry, is within the first 28 bytes.
 #[derive(Drop)]
 pub struct Node {
-    pub(crate) entries: Entries,
-    pub(crate) left_height: u16,
-    pub(crate) right_height: u16,
     pub(crate) left: MaybeOwned<Node, Global>,
     pub(crate) right: MaybeOwned<Node, Global>,
+    pub(crate) left_height: u16,
+    pub(crate) right_height: u16,
+    pub(crate) entries: Entries,
     alloc: Global,
 }
 
@@ -170,11 +171,11 @@ impl Subtree {
         let root = Owned::new(
             alloc,
             Node {
-                entries: Entries::new(),
-                left_height: 0,
-                right_height: 0,
                 left: MaybeOwned::none(alloc),
                 right: MaybeOwned::none(alloc),
+                left_height: 0,
+                right_height: 0,
+                entries: Entries::new(),
                 alloc,
             },
         )?;

@@ -4,9 +4,10 @@ use Rattle.std.specs.List.{All}
 use Rattle.std.specs.declared.cmp.Ordering.TheVariants.{Less, Greater}
 use Rattle.mm_value.specs.declared.row_ref.RowRef.{RowRef}
 use Rattle.ttree_node.specs.Entries.{first_entry, last_entry}
-use Rattle.ttree.proofs.Between.{none_from_low, none_to_high, less_from_test, greater_from_test}
+use Rattle.ttree.proofs.Between.{none_from_low, none_to_high, greater_from_test}
 use Rattle.ttree.proofs.Reached.{reached, reached_first, reached_last, risen}
 use Rattle.ttree.proofs.ranges.copy_part.Goals as goal
+use Rattle.mm_order.proofs.Places.{less_from_is_lt}
 
 pub place-requires : goal.place-requires
 place-requires g c =
@@ -25,7 +26,7 @@ returns-then-is_lt-clause-ok g c =
     let high = g.H.Probe.place_of c.args.high.now in
     let last : low (last_entry n.entries) ≡ Less =
     ap low (sym (c.last.ensures ∙ ap last_entry c.entries-entries.ensures.value)) ∙ sym c.place.ensures
-    ∙ less_from_test c.place.result (sym c.is_lt.ensures ∙ c.if-is_lt.true) in
+    ∙ less_from_is_lt c.place.result (sym c.is_lt.ensures ∙ c.if-is_lt.true) in
     let none = none_from_low low high n.entries c.requires.low.balanced.2.filled (risen _ _ _ _ n c.requires.low) (risen _ _ _ _ n c.requires.high) last in
     sym (ap (λ xs. c.args.out.now.items ++ xs) none ∙ append-nil c.args.out.now.items)
 

@@ -5,10 +5,11 @@ use Rattle.mm_order.specs.Probe.{entries_between}
 use Rattle.ttree_node.specs.Entries.{first_entry, last_entry}
 use Rattle.ttree_node.specs.Tree.{fork, in_order, node_count, tree_of}
 use Rattle.ttree.specs.Searchable.{IsSearchable}
-use Rattle.ttree.proofs.Between.{less_from_test, greater_from_test}
+use Rattle.ttree.proofs.Between.{greater_from_test}
 use Rattle.ttree.proofs.Meeting.{before_root, behind_root}
 use Rattle.ttree.proofs.Reached.{left_searchable, reached_first, reached_last, right_searchable}
 use Rattle.ttree.proofs.ranges.meeting.Goals as goal
+use Rattle.mm_order.proofs.Places.{less_from_is_lt}
 
 pub place-requires : goal.place-requires
 place-requires g c =
@@ -24,7 +25,7 @@ loop-at-preserved-then-is_lt g c =
     let is_high = rw c.in-Some.is at c.loop-at.invariant.high in
     let last : low (last_entry n.entries) ≡ Less =
     ap low (sym (c.last.ensures ∙ ap last_entry c.entries-entries.ensures.value)) ∙ (sym c.place.ensures
-    ∙ less_from_test c.place.result (sym c.is_lt.ensures ∙ c.if-is_lt.true)) in
+    ∙ less_from_is_lt c.place.result (sym c.is_lt.ensures ∙ c.if-is_lt.true)) in
     let whole : node_count (tree_of (option_copied c.loop-at.at)) ≡ node_count (fork n) = ap (λ o. node_count (tree_of (option_copied o))) c.in-Some.is in
     let side : node_count (tree_of (option_copied c.right-at.result)) ≡ node_count n.right = ap node_count c.right-at.ensures in
     record {
