@@ -1,6 +1,6 @@
 -- Where a column has an index.
-use Rattle.std.proofs.Common.{◌≡◌, ℕ, ◌<◌, ◌==◌, Bool, true, false, ◌||◌, List, [], ◌∷◌, length, get_or, Option, Some, None, inl, inr, refl, sym, ap, ◌∙◌}
-use Rattle.std.proofs.Common.{subst, arith}
+use Rattle.std.proofs.Common.{◌≡◌, ℕ, ◌<◌, ◌==◌, Bool, true, false, ◌||◌, length, get_or, Option, Some, None, inl, inr, refl, sym, ap, ◌∙◌}
+use Rattle.std.proofs.Common.{subst}
 use Rattle.std.specs.Prelude.{is_some}
 use Rattle.std.specs.List.{list_any}
 use Rattle.std.specs.Option.{option_map_or}
@@ -19,18 +19,12 @@ use Rattle.mm_store.specs.declared.index_ref.IndexRef.{IndexRef}
 use Rattle.mm_store.specs.declared.index_ref.IndexRef.TheVariants.{Key, Tree, Hash}
 use Rattle.mm_store.proofs.Joining.{some_at}
 use Rattle.mm_delta.specs.Edited.{has_index, is_indexed}
+use Rattle.mm_query.proofs.Updates.{or_false}
+use Rattle.mm_store.proofs.Looked.{any_of}
 
 either : (a b : Bool) → b ≡ true → (a || b) ≡ true
 either true b h = refl
 either false b h = h
-
-neither : (a b : Bool) → a ≡ false → b ≡ false → (a || b) ≡ false
-neither true b h e = cc
-neither false b h e = e
-
-any_of : (xs : List Index) (n : ℕ) → n < length xs → Index
-any_of [] n within = absurd (omega arith)
-any_of (x ∷ xs) n within = x
 
 module _ (stored : StoredRows) (column : ℕ) where
   abbrev on : Index → Bool
@@ -59,7 +53,7 @@ module _ (stored : StoredRows) (column : ℕ) where
 
   not_there : ((index : IndexRef) → IsIndexOn stored column index → ⊥) → is_indexed stored column ≡ false
   not_there none =
-      neither (column == stored.key) (list_any on stored.indexes)
+      or_false (column == stored.key) (list_any on stored.indexes)
       (elim (cases_Bool (column == stored.key)) [
         | inl met ↦ absurd (none Key (eqb-true column stored.key met))
         | inr unmet ↦ unmet

@@ -14,7 +14,8 @@ use Rattle.mm_query.specs.declared.atom.Operand.{Operand}
 use Rattle.mm_query.specs.declared.atom.Operand.TheVariants.{Literal, Column, Shifted}
 use Rattle.mm_query.specs.declared.bound_query.BoundQuery.{BoundQuery}
 use Rattle.mm_query.specs.declared.bound_query.FieldPlace.{FieldPlace}
-use Rattle.mm_relevance.specs.Relevance.{AddsToNumber, AddsToNumbers, IsCyclic, is_text}
+use Rattle.mm_relevance.specs.Relevance.{IsCyclic}
+use Rattle.mm_query.specs.Additions.{AddsToNumber, AddsToNumbers, is_text}
 use Rattle.mm_relevance.proofs.Adding.{adds_nothing}
 use Rattle.mm_multiset.specs.Counts.{count_of}
 use Rattle.mm_delta.specs.Edited.{after_at, before_at}

@@ -29,7 +29,7 @@ use Rattle.mm_delta.proofs.Goes.{after_edits}
 use Rattle.mm_delta.proofs.Product.{filter-map}
 use Rattle.mm_delta.proofs.Sums.{sum_by-map, sum_by_same}
 
-fit_nothing : (stored : StoredRows) → AreFit stored []
+pub fit_nothing : (stored : StoredRows) → AreFit stored []
 fit_nothing stored = record {
   standing = record { live = λ k d within. absurd (omega arith); apart = λ i j d before within. absurd (omega arith) };
   typed = λ k d within. absurd (omega arith);

@@ -22,10 +22,7 @@ use Rattle.mm_value.specs.declared.row_ref.RowRef.{RowRef}
 use Rattle.mm_value.specs.declared.values.Value.{Value}
 use Rattle.mm_value.specs.declared.values.Value.TheVariants.{Int}
 use Rattle.mm_delta.specs.Candidates.{Required, passes}
-
-any_of : (xs : List Index) (n : ℕ) → n < length xs → Index
-any_of [] n within = absurd (omega arith)
-any_of (x ∷ xs) n within = x
+use Rattle.mm_store.proofs.Looked.{any_of}
 
 filter_same : {X : Type 0} (p q : X → Bool) (xs : List X) → All (λ x. p x ≡ q x) xs → filter p xs ≡ filter q xs
 filter_same p q [] all = refl

@@ -3,7 +3,8 @@ use Rattle.std.specs.Prelude.{◌≡◌, ◌⊎◌, ℕ, Bool, true, List, Conta
 use Rattle.mm_store.specs.Tables.{Tables}
 use Rattle.mm_value.specs.declared.values.Value.{Value}
 use Rattle.mm_query.specs.declared.bound_query.BoundQuery.{BoundQuery}
-use Rattle.mm_relevance.specs.Relevance.{AddsToNumbers, IsCyclic}
+use Rattle.mm_relevance.specs.Relevance.{IsCyclic}
+use Rattle.mm_query.specs.Additions.{AddsToNumbers}
 use Rattle.mm_delta.specs.Edited.{after_at, before_at}
 use Rattle.mm_delta.specs.declared.edited.TableChange.{TableChange}
 

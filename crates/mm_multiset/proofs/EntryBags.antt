@@ -36,7 +36,7 @@ has_moved row es fs moved =
 abbrev part : List Value → List Value × ℕ → ℕ
 part row e = cond (same_row row e.0) e.1 0
 
-count_cons : (row : List Value) (e : List Value × ℕ) (es : Entries) → IsOnce (e ∷ es) → count_in row (e ∷ es) ≡ part row e + count_in row es
+pub count_cons : (row : List Value) (e : List Value × ℕ) (es : Entries) → IsOnce (e ∷ es) → count_in row (e ∷ es) ≡ part row e + count_in row es
 count_cons row e es once = by (same_row row e.0) refl
   where
     by : (b : Bool) → same_row row e.0 ≡ b → unwrap_or (cond b (Some e.1) (lookup (same_row row) es)) 0 ≡ cond b e.1 0 + count_in row es

@@ -8,11 +8,12 @@ pub mod Merging
 pub mod Pairs
 pub mod Passing
 pub mod Placing
-pub mod Reading
 pub mod Recounting
 pub mod Rooms
+pub mod Shown
 pub mod SlotEntries
 pub mod SlotLists
 pub mod Tallies
 pub mod Turning
 pub mod Undoing
+pub mod Walked

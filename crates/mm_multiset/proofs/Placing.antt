@@ -1,13 +1,14 @@
 -- A row comes into a slot, with its count and its pair, or goes out of it.
-use Rattle.std.proofs.Common.{◌≡◌, ℕ, ◌+◌, ◌<◌, ◌≤◌, ◌⊎◌, inl, inr, max, pos, List, [], ◌∷◌, ◌++◌, false, length, get_or, set, refl, sym, ◌∙◌, subst, arith}
+use Rattle.std.proofs.Common.{◌≡◌, ℕ, ◌+◌, ◌<◌, ◌≤◌, inl, inr, max, pos, List, [], ◌∷◌, ◌++◌, false, length, get_or, set, refl, sym, ◌∙◌, subst, arith}
 use Rattle.std.specs.Prelude.{IsPermutation}
 use Rattle.std.proofs.lemmas.List.Sorted.{IsPermutation-cons, IsPermutation-sym, IsPermutation-trans}
 use Rattle.mm_value.specs.declared.row_ref.RowRef.{RowRef}
 use Rattle.mm_value.specs.declared.values.Value.{Value}
 use Rattle.mm_partition.specs.Places.{ChangesOnly, Content, Free, Hidden, Live, Places, extent_of, slot_at}
+use Rattle.slot_counts.specs.Numbers.{IsWritten}
 use Rattle.mm_multiset.specs.Counts.{has_entry}
 use Rattle.mm_multiset.specs.RowHash.{row_hash}
-use Rattle.mm_multiset.specs.Slots.{AreMarked, IsKept, IsMarked, entries_of, no_row, pairs_from}
+use Rattle.mm_multiset.specs.Slots.{AreMarked, IsKept, IsMarked, entries_of, pairs_from}
 use Rattle.mm_multiset.proofs.EntryBags.{once_put, once_rest}
 use Rattle.mm_multiset.proofs.Pairs.{IsPermutation-uncons}
 use Rattle.mm_multiset.proofs.SlotEntries.{Turns, turned_at, turned_end}
@@ -16,53 +17,49 @@ use Rattle.mm_multiset.proofs.SlotLists.{live_inside, slots_push, slots_set}
 abbrev pairs_of : List Content → List (ℕ × RowRef)
 pairs_of slots = pairs_from 0 slots
 
-free_count : (s : Content) (n : ℕ) → IsMarked s n → s ≡ Free → n ≡ no_row
+free_count : (s : Content) (n : ℕ) → IsMarked s n → s ≡ Free → n ≡ 0
 free_count Free n is free = is
 free_count (Live row) n is free = let e : Live row ≡ Free = free in absurd (let no : ⊥ = cc in no)
 free_count (Hidden row) n is free = absurd is
-
--- A count is written where a slot is there, and else comes at the end.
-abbrev pub IsPut : ℕ → ℕ → List ℕ → List ℕ → Type 0
-IsPut i count old new = ((i < length old) × (new ≡ set old i count)) ⊎ ((length old ≤ i) × (new ≡ old ++ count ∷ []))
 
 module _ (old new : Places) (at : RowRef) (row : List Value) (counts new_counts : List ℕ) (count : ℕ) (marked : AreMarked old.slots counts)
     (free : slot_at old at ≡ Free) (placed : ChangesOnly old new at (Live row))
     (extent : extent_of new ≡ max (extent_of old) (at.slot + 1)) where
   abbrev turn : List Content → List ℕ → Type 0
-  turn slots written = Turns at.slot old.slots slots counts written Free (Live row) no_row count
+  turn slots written = Turns at.slot old.slots slots counts written Free (Live row) 0 count
 
-  pub turned_put : at.slot ≤ extent_of old → IsPut at.slot count counts new_counts → turn new.slots new_counts
+  pub turned_put : at.slot ≤ extent_of old → IsWritten at.slot count counts new_counts → turn new.slots new_counts
   turned_put within (inl (there, written)) =
       let i : ℕ = at.slot in
       let inside : i < length old.slots = omega (arith, there, marked.size) in
       let slots : new.slots ≡ set old.slots i (Live row) = slots_set old new at (Live row) placed (omega (arith, inside, extent)) inside in
-      let had : get_or counts i no_row ≡ no_row = free_count (get_or old.slots i Free) (get_or counts i no_row) (marked.each i) free in
+      let had : get_or counts i 0 ≡ 0 = free_count (get_or old.slots i Free) (get_or counts i 0) (marked.each i) free in
       subst (λ l. turn l new_counts) (sym slots)
       (subst (turn (set old.slots i (Live row))) (sym written)
       (subst (λ n. Turns i old.slots (set old.slots i (Live row)) counts (set counts i count) Free (Live row) n count) had
-      (subst (λ s. Turns i old.slots (set old.slots i (Live row)) counts (set counts i count) s (Live row) (get_or counts i no_row) count) free
+      (subst (λ s. Turns i old.slots (set old.slots i (Live row)) counts (set counts i count) s (Live row) (get_or counts i 0) count) free
       (turned_at i old.slots counts inside marked.size (Live row) count))))
   turned_put within (inr (past, written)) =
       let end : at.slot ≡ length old.slots = omega (arith, within, past, marked.size) in
       let slots : new.slots ≡ old.slots ++ Live row ∷ [] = slots_push old new at (Live row) placed (omega (arith, end, extent)) end in
       subst (λ l. turn l new_counts) (sym slots)
       (subst (turn (old.slots ++ Live row ∷ [])) (sym written)
-      (subst (λ i. Turns i old.slots (old.slots ++ Live row ∷ []) counts (counts ++ count ∷ []) Free (Live row) no_row count) (sym end)
+      (subst (λ i. Turns i old.slots (old.slots ++ Live row ∷ []) counts (counts ++ count ∷ []) Free (Live row) 0 count) (sym end)
       (turned_end old.slots counts marked.size (Live row) count)))
 
 module _ (i : ℕ) (slots new_slots : List Content) (counts new_counts : List ℕ) (row : List Value) (count : ℕ) where
-  module _ (turns : Turns i slots new_slots counts new_counts Free (Live row) no_row count) where
+  module _ (turns : Turns i slots new_slots counts new_counts Free (Live row) 0 count) where
     -- The row has an entry more.
     pub entries_put : IsPermutation (entries_of new_slots new_counts) ((row, count) ∷ entries_of slots counts)
     entries_put =
         IsPermutation-trans (entries_of new_slots new_counts) ((row, count) ∷ turns.rest) ((row, count) ∷ entries_of slots counts) turns.after
         (IsPermutation-cons (row, count) turns.rest (entries_of slots counts) (IsPermutation-sym (entries_of slots counts) turns.rest turns.before))
 
-    pub kept_put : (pairs new_pairs : List (ℕ × RowRef)) (hash : ℕ) → IsKept slots counts pairs → count < no_row
+    pub kept_put : (pairs new_pairs : List (ℕ × RowRef)) (hash : ℕ) → IsKept slots counts pairs
         → has_entry row (entries_of slots counts) ≡ false → hash ≡ row_hash row → IsPermutation new_pairs ((hash, record { slot = i }) ∷ pairs)
         → IsKept new_slots new_counts new_pairs
-    kept_put pairs new_pairs hash kept few none is put = record {
-      marked = turns.marked kept.marked few;
+    kept_put pairs new_pairs hash kept none is put = record {
+      marked = turns.marked kept.marked tt;
       once = once_put row count (entries_of slots counts) (entries_of new_slots new_counts) (pos 0) kept.once none entries_put;
       hashed =
           let at : RowRef = record { slot = i } in
@@ -75,7 +72,7 @@ module _ (i : ℕ) (slots new_slots : List Content) (counts new_counts : List �
           (IsPermutation-sym (pairs_of new_slots) ((row_hash row, at) ∷ turns.pairs) turns.pairs_after)));
     }
 
-  module _ (turns : Turns i slots new_slots counts new_counts (Live row) Free count no_row) where
+  module _ (turns : Turns i slots new_slots counts new_counts (Live row) Free count 0) where
     -- The row has no entry any more.
     pub entries_taken : IsPermutation (entries_of slots counts) ((row, count) ∷ entries_of new_slots new_counts)
     entries_taken =
@@ -109,12 +106,12 @@ changes_twice old mid new at first second a b = record { changed = b.changed; ot
 
 module _ (old new : Places) (at : RowRef) (row : List Value) (counts : List ℕ) (marked : AreMarked old.slots counts) (live : slot_at old at ≡ Live row)
     (freed : ChangesOnly old new at Free) (extent : extent_of new ≡ extent_of old) where
-  pub turned_taken : Turns at.slot old.slots new.slots counts (set counts at.slot no_row) (Live row) Free
-      (get_or counts at.slot no_row) no_row
+  pub turned_taken : Turns at.slot old.slots new.slots counts (set counts at.slot 0) (Live row) Free
+      (get_or counts at.slot 0) 0
   turned_taken =
       let i : ℕ = at.slot in
       let inside : i < length old.slots = live_inside old.slots i row live in
       let slots : new.slots ≡ set old.slots i Free = slots_set old new at Free freed extent inside in
-      subst (λ l. Turns i old.slots l counts (set counts i no_row) (Live row) Free (get_or counts i no_row) no_row) (sym slots)
-      (subst (λ s. Turns i old.slots (set old.slots i Free) counts (set counts i no_row) s Free (get_or counts i no_row) no_row) live
-      (turned_at i old.slots counts inside marked.size Free no_row))
+      subst (λ l. Turns i old.slots l counts (set counts i 0) (Live row) Free (get_or counts i 0) 0) (sym slots)
+      (subst (λ s. Turns i old.slots (set old.slots i Free) counts (set counts i 0) s Free (get_or counts i 0) 0) live
+      (turned_at i old.slots counts inside marked.size Free 0))

@@ -1,6 +1,6 @@
 -- The entry of a slot, and another count of it.
-use Rattle.std.proofs.Common.{◌≡◌, ◌≢◌, ℕ, zero, suc, ◌<◌, ℤ, pos, ◌+ℤ◌, Bool, true, false, true≢false, cond, is_some}
-use Rattle.std.proofs.Common.{List, [], ◌∷◌, ◌++◌, Option, Some, None, get_or, length, set, refl, sym, ap, ◌∙◌, subst, arith}
+use Rattle.std.proofs.Common.{◌≡◌, ◌≢◌, ℕ, zero, suc, ℤ, pos, ◌+ℤ◌, Bool, true, false, true≢false, cond, is_some}
+use Rattle.std.proofs.Common.{List, [], ◌∷◌, ◌++◌, Option, Some, None, get_or, set, refl, sym, ap, ◌∙◌, subst}
 use Rattle.std.proofs.lemmas.List.{set-get_or}
 use Rattle.std.specs.Map.{lookup}
 use Rattle.std.specs.Option.{unwrap_or}
@@ -10,7 +10,8 @@ use Rattle.mm_value.specs.declared.row_ref.RowRef.{RowRef}
 use Rattle.mm_value.specs.declared.values.Value.{Value}
 use Rattle.mm_partition.specs.Places.{Content, Free, Hidden, Live}
 use Rattle.mm_multiset.specs.Counts.{Adds, Entries, count_in, has_entry, total_of}
-use Rattle.mm_multiset.specs.Slots.{IsKept, IsMarked, IsRecounted, entries_of, entry_of, no_row}
+use Rattle.mm_multiset.specs.Slots.{IsKept, entries_of, entry_of}
+use Rattle.slot_counts.specs.Numbers.{IsRecounted}
 use Rattle.mm_multiset.proofs.EntryBags.{adds_recounted, count_found, entry_found, once_recounted, total_recounted}
 use Rattle.mm_multiset.proofs.SlotEntries.{Turns, turned_at}
 use Rattle.mm_multiset.proofs.SlotLists.{live_inside}
@@ -39,59 +40,48 @@ count_none row es none = by (lookup (same_row row) es) none
     by (Some n) h = absurd (true≢false h)
     by None h = refl
 
-few : (s : Content) (n : ℕ) (row : List Value) → IsMarked s n → s ≡ Live row → n < no_row
-few Free n row is live = let e : Free ≡ Live row = live in absurd (let no : ⊥ = cc in no)
-few (Live r) n row is live = is
-few (Hidden r) n row is live = absurd is
-
 module _ (slots : List Content) (counts : List ℕ) (pairs : List (ℕ × RowRef)) (i : ℕ) (row : List Value) (kept : IsKept slots counts pairs)
     (live : get_or slots i Free ≡ Live row) where
-  pub count_few : get_or counts i no_row < no_row
-  count_few = few (get_or slots i Free) (get_or counts i no_row) row (kept.marked.each i) live
-
-  pub index_inside : i < length counts
-  index_inside = omega (arith, live_inside slots i row live, kept.marked.size)
-
-  turned : (count : ℕ) → Turns i slots slots counts (set counts i count) (Live row) (Live row) (get_or counts i no_row) count
+  turned : (count : ℕ) → Turns i slots slots counts (set counts i count) (Live row) (Live row) (get_or counts i 0) count
   turned count =
-      subst (λ s. Turns i slots slots counts (set counts i count) s (Live row) (get_or counts i no_row) count) live
-      (subst (λ l. Turns i slots l counts (set counts i count) (get_or slots i Free) (Live row) (get_or counts i no_row) count)
+      subst (λ s. Turns i slots slots counts (set counts i count) s (Live row) (get_or counts i 0) count) live
+      (subst (λ l. Turns i slots l counts (set counts i count) (get_or slots i Free) (Live row) (get_or counts i 0) count)
       (ap (set slots i) (sym live) ∙ set-get_or slots i Free)
       (turned_at i slots counts (live_inside slots i row live) kept.marked.size (Live row) count))
 
-  same : Turns i slots slots counts (set counts i (get_or counts i no_row)) (Live row) (Live row) (get_or counts i no_row) (get_or counts i no_row)
-  same = turned (get_or counts i no_row)
+  same : Turns i slots slots counts (set counts i (get_or counts i 0)) (Live row) (Live row) (get_or counts i 0) (get_or counts i 0)
+  same = turned (get_or counts i 0)
 
   -- The row of a slot has an entry, of the count beside the slot.
-  pub count_there : count_in row (entries_of slots counts) ≡ get_or counts i no_row
+  pub count_there : count_in row (entries_of slots counts) ≡ get_or counts i 0
   count_there =
-      count_found row (get_or counts i no_row) (get_or counts i no_row) same.rest (entries_of slots counts) (entries_of slots counts) (pos 0) kept.once
+      count_found row (get_or counts i 0) (get_or counts i 0) same.rest (entries_of slots counts) (entries_of slots counts) (pos 0) kept.once
       same.before same.before
 
   pub entry_there : has_entry row (entries_of slots counts) ≡ true
   entry_there =
-      entry_found row (get_or counts i no_row) (get_or counts i no_row) same.rest (entries_of slots counts) (entries_of slots counts) (pos 0) kept.once
+      entry_found row (get_or counts i 0) (get_or counts i 0) same.rest (entries_of slots counts) (entries_of slots counts) (pos 0) kept.once
       same.before same.before
 
   module _ (new_counts : List ℕ) (change : ℤ) (recounted : IsRecounted i change counts new_counts) where
-    now : Turns i slots slots counts new_counts (Live row) (Live row) (get_or counts i no_row) recounted.count
+    now : Turns i slots slots counts new_counts (Live row) (Live row) (get_or counts i 0) recounted.count
     now =
-        subst (λ l. Turns i slots slots counts l (Live row) (Live row) (get_or counts i no_row) recounted.count) (sym recounted.set) (turned recounted.count)
+        subst (λ l. Turns i slots slots counts l (Live row) (Live row) (get_or counts i 0) recounted.count) (sym recounted.set) (turned recounted.count)
 
-    pub kept_there : recounted.count < no_row → IsKept slots new_counts pairs
-    kept_there small = record {
-      marked = now.marked kept.marked small;
-      once = once_recounted row (get_or counts i no_row) recounted.count now.rest (entries_of slots counts) (entries_of slots new_counts) change kept.once
+    pub kept_there : IsKept slots new_counts pairs
+    kept_there = record {
+      marked = now.marked kept.marked tt;
+      once = once_recounted row (get_or counts i 0) recounted.count now.rest (entries_of slots counts) (entries_of slots new_counts) change kept.once
           now.before now.after;
       hashed = kept.hashed;
     }
 
     pub adds_there : Adds (record { row = row; count = change }) (entries_of slots counts) (entries_of slots new_counts)
     adds_there =
-        adds_recounted row (get_or counts i no_row) recounted.count now.rest (entries_of slots counts) (entries_of slots new_counts) change kept.once
+        adds_recounted row (get_or counts i 0) recounted.count now.rest (entries_of slots counts) (entries_of slots new_counts) change kept.once
         now.before now.after recounted.changed
 
     pub total_there : pos (total_of (entries_of slots new_counts)) ≡ pos (total_of (entries_of slots counts)) +ℤ change
     total_there =
-        total_recounted row (get_or counts i no_row) recounted.count now.rest (entries_of slots counts) (entries_of slots new_counts) change kept.once
+        total_recounted row (get_or counts i 0) recounted.count now.rest (entries_of slots counts) (entries_of slots new_counts) change kept.once
         now.before now.after recounted.changed

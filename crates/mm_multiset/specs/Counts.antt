@@ -1,5 +1,5 @@
 -- Bags of rows kept as counts: an entry for a row has how often the row stands in the bag.
-use Rattle.std.specs.Prelude.{◌≡◌, ◌≢◌, ℕ, ℤ, pos, neg_ℤ, ◌+ℤ◌, ◌<ℤ◌, ◌^◌, Bool, true, if◌then◌else◌, is_some, List, [], ◌∷◌, All, map, sum}
+use Rattle.std.specs.Prelude.{◌==◌, not, ◌≡◌, ◌≢◌, ℕ, ℤ, pos, neg_ℤ, ◌+ℤ◌, ◌<ℤ◌, ◌^◌, Bool, true, if◌then◌else◌, is_some, List, [], ◌∷◌, All, map, sum}
 use Rattle.std.specs.List.{IsDistinct, count_by}
 use Rattle.std.specs.Map.{keys_of, values_of, lookup}
 use Rattle.std.specs.Option.{unwrap_or}
@@ -37,6 +37,10 @@ IsOnce entries = IsDistinct same_row (keys_of entries)
 -- How many rows the bag has, each as often as its count.
 abbrev pub total_of : Entries → ℕ
 total_of entries = sum (values_of entries)
+
+-- The count of the entry is not 0.
+abbrev pub has_rows : List Value × ℕ → Bool
+has_rows entry = not (entry.1 == 0)
 
 -- What a list of signed counts adds to the count of a row.
 abbrev pub signed_count : List Value → List Signed → ℤ

@@ -1,6 +1,7 @@
 //! Bags of rows of the types of their columns.
-ghost use Rattle.std.specs.Prelude.{◌≡◌, ◌+◌, ◌-◌, ◌≤◌, ◌<◌, ◌^◌, ◌⊎◌, pos, ◌+ℤ◌, ◌≤ℤ◌, ◌<ℤ◌, true, [], false, length, not, List, IfOk, OnOk, OnErr};
-ghost use Rattle.mm_multiset.specs.Counts.{Adds, IsOnce, count_in, has_entry, total_of};
+ghost use Rattle.std.specs.Prelude.{◌≡◌, ◌+◌, ◌-◌, ◌≤◌, ◌<◌, ◌^◌, ◌⊎◌, pos, ◌+ℤ◌, ◌≤ℤ◌, ◌<ℤ◌, true, []};
+ghost use Rattle.std.specs.Prelude.{false, filter, length, not, List, IfOk, IsPermutation, OnOk, OnErr};
+ghost use Rattle.mm_multiset.specs.Counts.{Adds, IsOnce, count_in, has_entry, has_rows, total_of};
 ghost use Rattle.mm_partition.specs.Types.{HasTypes};
 ghost use Rattle.mm_value.specs.Equality.{same_row};
 ghost use Rattle.mm_value.specs.declared.values.Value.{Value as Val};
@@ -16,7 +17,8 @@ use finding::{find, hash_of};
 use mlhash::HashRefs;
 use mm_partition::{Partitions, index_of};
 use mm_value::{ColType, Row};
-use slots::{add_at, changed, put, take};
+use slot_counts::{SlotCounts, changed};
+use slots::{put, take};
 use std::alloc::{AllocError, Global};
 use std::marker::Model;
 
@@ -30,27 +32,27 @@ const MAX_TOTAL: u32 = u32::MAX - 1;
 #[derive(Drop)]
 pub struct Bag {
     rows: Partitions,
-    /// The counts of the rows, by the index of the slot. A free slot has `NO_ROW`.
-    counts: Vec<u32>,
+    /// The counts of the rows by slot. The count of a free slot is 0.
+    counts: SlotCounts,
     by_hash: HashRefs,
     total: u32,
 }
 
 impl Model for Bag {
-    ghost use Rattle.std.specs.Prelude.{◌≡◌, ◌-◌, min, vec_capacity, vec_len};
+    ghost use Rattle.std.specs.Prelude.{◌≡◌, min};
     ghost use Rattle.mm_multiset.specs.Counts.{Counts, total_of};
     ghost use Rattle.mm_multiset.specs.Slots.{IsKept, entries_of};
 
     ghost Value = { Counts };
 
     ghost view = { λ b. record {
-      entries = entries_of b.rows.slots b.counts.items;
-      room = min b.rows.room (min b.by_hash.spare (vec_capacity b.counts - vec_len b.counts));
+      entries = entries_of b.rows.slots b.counts.counts;
+      room = min b.rows.room (min b.by_hash.spare b.counts.room);
       types = b.rows.types;
     } };
 
-    ghost invariant = { λ b. IsKept b.rows.slots b.counts.items b.by_hash.entries
-        × (b.total ≡ total_of (entries_of b.rows.slots b.counts.items)) };
+    ghost invariant = { λ b. IsKept b.rows.slots b.counts.counts b.by_hash.entries
+        × (b.total ≡ total_of (entries_of b.rows.slots b.counts.counts)) };
 }
 
 impl Bag {
@@ -61,7 +63,7 @@ impl Bag {
     {
         Ok(Bag {
             rows: Partitions::new(alloc, types)?,
-            counts: Vec::new(alloc),
+            counts: SlotCounts::new(alloc),
             by_hash: HashRefs::new(alloc),
             total: 0,
         })
@@ -74,7 +76,7 @@ impl Bag {
         ensures kept { self.old.room ≤ self.new.room }
         ensures types { self.new.types ≡ self.old.types }
     {
-        let alloc = *self.counts.allocator();
+        let alloc = self.counts.allocator();
         self.rows.reserve(alloc, n)?;
         self.counts.reserve(n)?;
         self.by_hash.reserve(alloc, n)
@@ -93,7 +95,7 @@ impl Bag {
         ensures { result ≡ count_in row.now self.now.entries }
     {
         match find(&self.rows, &self.by_hash, hash_of(row), row) {
-            Some(at) => self.counts[index_of(at)] as usize,
+            Some(at) => self.counts.count(index_of(at)) as usize,
             None => 0,
         }
     }
@@ -112,12 +114,22 @@ impl Bag {
         self.total as usize
     }
 
-    /// The entries one after the other, each row where it stands. It takes no memory.
+    /// Returns the number of entries whose count is not 0, without visiting them.
+    pub fn distinct(&self) -> usize
+        ensures { result ≡ length (filter has_rows self.now.entries) }
+    {
+        let shown = self.counts.counted();
+        shown.len()
+    }
+
+    /// Iterates the entries whose count is not 0, in no particular order, with their rows in place. A walk takes as many steps as there
+    /// are such entries, and allocates nothing.
     pub fn entries(&self) -> BagEntries<'_>
-        ensures entries { result ≡ self.now.entries }
+        ensures entries { IsPermutation result (filter has_rows self.now.entries) }
         ensures once { IsOnce self.now.entries }
     {
-        BagEntries::all(&self.rows, self.counts.as_slice())
+        let shown = self.counts.counted();
+        BagEntries::new(&self.rows, &self.counts, shown)
     }
 
     /// Adds to the count of a row, and tells whether the row had no entry before. It asks for a row of the types of the columns, for
@@ -140,7 +152,7 @@ impl Bag {
         self.total = changed(self.total, count);
         match find(&self.rows, &self.by_hash, hash, &row) {
             Some(at) => {
-                add_at(&mut self.counts, index_of(at), count);
+                self.counts.add(index_of(at), count);
                 false
             }
             None => {
@@ -172,7 +184,7 @@ impl Bag {
         let Signed { row, count } = change;
         if let Some(at) = find(&self.rows, &self.by_hash, hash_of(row), row) {
             self.total = changed(self.total, *count);
-            add_at(&mut self.counts, index_of(at), *count);
+            self.counts.add(index_of(at), *count);
         }
     }
 
@@ -205,14 +217,8 @@ impl Bag {
     {
         let hash = hash_of(row);
         if let Some(at) = find(&self.rows, &self.by_hash, hash, row) {
-            if self.counts[index_of(at)] == 0 {
-                take(
-                    &mut self.rows,
-                    &mut self.counts,
-                    &mut self.by_hash,
-                    hash,
-                    at,
-                );
+            if self.counts.count(index_of(at)) == 0 {
+                take(&mut self.rows, &self.counts, &mut self.by_hash, hash, at);
             }
         }
     }

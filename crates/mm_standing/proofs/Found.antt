@@ -5,7 +5,6 @@ use Rattle.std.specs.Option.{option_map}
 use Rattle.std.specs.Prelude.{slice_get}
 use Rattle.std.specs.List.Sorted.{IsPermutation}
 use Rattle.std.proofs.lemmas.Int.{ints}
-use Rattle.std.proofs.lemmas.List.{length-map}
 use Rattle.std.proofs.lemmas.List.Sorted.{IsPermutation-map, sum_by-IsPermutation}
 use Rattle.std.proofs.lemmas.List.Sums.{sum_by_push}
 use Rattle.std.proofs.lemmas.Option.{slice_get-map}
@@ -78,12 +77,6 @@ projected_at store list i combo is =
     slice_get-map shown (combo_rows store list) i
     ∙ (ap (option_map shown) (slice_get-map (rows_of_combo store list.tables) list.combos i)
     ∙ ap (λ o. option_map shown (option_map (rows_of_combo store list.tables) o)) is)
-
--- There is one for each combination.
-pub length_projected : (store : Tables) (list : Combos) → length (projected_rows store list) ≡ length list.combos
-length_projected store list =
-    length-map (combo_rows store list) (λ rows. values_of list.fields (map Some rows))
-    ∙ length-map list.combos (rows_of_combo store list.tables)
 
 -- ---- what a combination reads
 

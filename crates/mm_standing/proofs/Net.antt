@@ -1,7 +1,7 @@
 -- What changes add up to, of which each row has at most one.
 use Rattle.std.proofs.Common.{◌≡◌, ℕ, zero, suc, ℤ, pos, ◌+◌, ◌+ℤ◌, ◌-ℤ◌, ◌≤ℤ◌, ◌⊎◌, inl, inr, Bool, true, false, cond, List, [], ◌∷◌, drop, length, map}
 use Rattle.std.proofs.Common.{refl, sym, ap, ◌∙◌, subst, arith}
-use Rattle.std.specs.List.{AllByRecursion, IsDistinct}
+use Rattle.std.specs.List.{IsDistinct}
 use Rattle.std.proofs.lemmas.Int.{ints}
 use Rattle.std.proofs.lemmas.List.Sorted.{length_permutation}
 use Rattle.std.proofs.lemmas.Map.Keys.{IsDistinct-head, IsDistinct-tail}
@@ -16,6 +16,7 @@ use Rattle.mm_standing.specs.Bags.{sum_over}
 use Rattle.mm_standing.specs.Queries.{IsBagOf}
 use Rattle.mm_standing.proofs.Others.{Rows, count_in_others, length_others, none_in_others, others}
 use Rattle.mm_standing.proofs.Totals.{total_is_length}
+use Rattle.mm_multiset.proofs.Passing.{unchanged}
 
 abbrev pub rows_in : List Signed → Rows
 rows_in changes = map (λ (change : Signed). change.row) changes
@@ -30,15 +31,6 @@ sum_of changes = sum_over (λ (change : Signed). change.count) changes
 
 abbrev pub pick : Bool → ℤ → ℤ
 pick b n = cond b n (pos 0)
-
--- A row that has none of the changes.
-unchanged : (row : List Value) (changes : List Signed) → AllByRecursion (λ other. same_row row other ≡ false) (rows_in changes) → signed_count row changes
-    ≡ pos 0
-unchanged row [] h = refl
-unchanged row (c ∷ cs) h = none (pick (same_row row c.row) c.count) (signed_count row cs) (ap (λ b. pick b c.count) h.0) (unchanged row cs h.1)
-  where
-    none : (a b : ℤ) → a ≡ pos 0 → b ≡ pos 0 → a +ℤ b ≡ pos 0
-    none a b p q = omega (arith, ints)
 
 module _ (c : Signed) (cs : List Signed) (once : IsOnceEach (c ∷ cs)) where
   pub once_tail : IsOnceEach cs

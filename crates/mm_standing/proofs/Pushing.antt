@@ -1,7 +1,7 @@
--- The rows of the next entry, and their values.
-use Rattle.std.proofs.Common.{◌≡◌, ℕ, ◌+◌, ◌≤◌, Bool, true, List, [], ◌∷◌, ◌++◌, length, min, replicate, take, sym, ap, ◌∙◌, append_assoc, arith}
+-- The values of the rows of the next entry.
+use Rattle.std.proofs.Common.{◌≡◌, ℕ, ◌+◌, Bool, List, [], ◌∷◌, ◌++◌, replicate, take, sym, ap, ◌∙◌, append_assoc}
 use Rattle.std.specs.Prelude.{slice_get, Some}
-use Rattle.std.proofs.lemmas.List.{length-append, length-replicate, map-append, take_more}
+use Rattle.std.proofs.lemmas.List.{map-append, take_more}
 use Rattle.std.proofs.lemmas.List.Concat.{flat_map-append}
 use Rattle.std.proofs.lemmas.Option.{get_or_from_slice_get, slice_get_within}
 use Rattle.mm_value.specs.Views.{value_of}
@@ -11,22 +11,7 @@ use Rattle.mm_multiset.specs.Counts.{Entries}
 use Rattle.mm_templist.specs.Runs.{referred}
 use Rattle.mm_standing.specs.Showing.{rows_shown, times_shown, values_in_turn}
 
--- With DISTINCT no more rows are shown than there are entries.
-pub few_shown : (es : Entries) → length (rows_shown true es) ≤ length es
-few_shown [] = omega arith
-few_shown (e ∷ es) =
-    let more = length-append (replicate (min e.1 1) e.0) (rows_shown true es) in
-    let one = length-replicate (min e.1 1) e.0 in
-    omega (arith, more, one, few_shown es)
-
 module _ (es rest : Entries) (row : List Value) (count : ℕ) (is : es ≡ (row, count) ∷ rest) where
-  -- The rows of the next entry are counted.
-  pub counted_entry : length (rows_shown true es) ≡ times_shown true count + length (rows_shown true rest)
-  counted_entry =
-      ap (λ l. length (rows_shown true l)) is
-      ∙ length-append (replicate (times_shown true count) row) (rows_shown true rest)
-      ∙ ap (λ n. n + length (rows_shown true rest)) (length-replicate (times_shown true count) row)
-
   -- Their values are pushed.
   pub pushed_entry : (distinct : Bool) (now new due : List Value) → new ≡ now ++ values_in_turn (replicate (times_shown distinct count) row)
       → now ++ values_in_turn (rows_shown distinct es) ≡ due → new ++ values_in_turn (rows_shown distinct rest) ≡ due

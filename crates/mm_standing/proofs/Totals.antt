@@ -1,6 +1,8 @@
 -- A bag as counts has as many rows as the rows that it stands for, and shows the same.
-use Rattle.std.proofs.Common.{◌≡◌, ℕ, zero, suc, pos, ◌+◌, ◌<◌, ◌≤◌, min, Bool, true, false, true≢false, cond, is_some, List, [], ◌∷◌, get_or, length, map}
+use Rattle.std.proofs.Common.{◌≡◌, ◌≢◌, not, ℕ, zero, suc, pos, ◌+◌, ◌<◌, ◌≤◌, min}
+use Rattle.std.proofs.Common.{Bool, true, false, true≢false, cond, is_some, List, [], ◌∷◌, get_or, length, map}
 use Rattle.std.proofs.Common.{replicate, Some, None, refl, sym, ap, ◌∙◌, arith}
+use Rattle.std.specs.Prelude.{◌==◌}
 use Rattle.std.specs.List.{All, filter, sum_by}
 use Rattle.std.specs.List.Sorted.{IsPermutation}
 use Rattle.std.specs.Map.{keys_of, lookup, values_of}
@@ -17,27 +19,24 @@ use Rattle.mm_value.specs.EqualityLaws.{same_row_equiv}
 use Rattle.mm_value.specs.declared.refusal.Refusal.TheVariants.{StandingListTooLarge}
 use Rattle.mm_value.specs.declared.values.Value.{Value}
 use Rattle.mm_value.specs.declared.values.Value.TheVariants.{Int}
-use Rattle.mm_value.proofs.SameRows.{rows_exact}
 use Rattle.mm_schema.specs.Refused.{first_refusal}
 use Rattle.mm_schema.specs.Sorting.{in_order}
 use Rattle.mm_query.specs.Queries.{bag_of, combinations, fits, one_of_each, projected, rows_by_columns, value_at}
 use Rattle.mm_query.specs.declared.bound_query.BoundQuery.{BoundQuery}
-use Rattle.mm_laws.proofs.QueryLaws.{one_counted, shown_permutation}
+use Rattle.mm_laws.proofs.QueryLaws.{one_counted, shown_permutation, same_from}
 use Rattle.mm_laws.proofs.SortedRows.{shown_of_permutation}
-use Rattle.mm_multiset.specs.Counts.{Entries, IsOnce, count_in, count_of, total_of}
+use Rattle.mm_multiset.specs.Counts.{Entries, IsOnce, count_in, count_of, has_rows, total_of}
 use Rattle.mm_standing.specs.Queries.{IsBagOf, is_too_large, list_conditions, shown_of}
 use Rattle.mm_standing.specs.Showing.{rows_shown, times_shown}
 use Rattle.mm_standing.proofs.Counting.{counted_at, counted_once, find_counted, permutation_from_counts}
 use Rattle.mm_schema.specs.Rows.{most_rows}
+use Rattle.mm_multiset.proofs.Walked.{zero_is}
 
 itself : (row : List Value) → same_row row row ≡ true
 itself row = same_row_equiv.refl row
 
-exact : (a b : List Value) → same_row a b ≡ true → a ≡ b
-exact a b = (rows_exact a b).0
-
 pub permutation_of_rows : (xs ys : List (List Value)) → ((row : List Value) → count_of row xs ≡ count_of row ys) → IsPermutation xs ys
-permutation_of_rows = permutation_from_counts same_row itself exact
+permutation_of_rows = permutation_from_counts same_row itself same_from
 
 -- ---- how often a row is shown
 
@@ -83,6 +82,9 @@ module _ (distinct : Bool) where
       ∙ (λ i. length-replicate (times_shown distinct e.1) e.0 i + length_shown es i)
       ∙ sym (sum_by-cons (λ e. times_shown distinct e.1) e es)
 
+some_is : (n : ℕ) → not (n == 0) ≡ true → n ≢ 0
+some_is n is = grind arith
+
 -- As many rows as the counts add up to are shown without DISTINCT.
 pub total_shown : (es : Entries) → length (rows_shown false es) ≡ total_of es
 total_shown [] = refl
@@ -90,6 +92,18 @@ total_shown (e ∷ es) =
     length-append (replicate e.1 e.0) (rows_shown false es)
     ∙ (λ i. length-replicate e.1 e.0 i + total_shown es i)
     ∙ sym (sum_by-cons (λ x. x) e.1 (values_of es))
+
+-- With DISTINCT as many rows are shown as there are entries whose count is not 0.
+pub distinct_shown : (es : Entries) → length (rows_shown true es) ≡ length (filter has_rows es)
+distinct_shown [] = refl
+distinct_shown (e ∷ es) =
+    length-append (replicate (min e.1 1) e.0) (rows_shown true es)
+    ∙ (λ i. length-replicate (min e.1 1) e.0 i + distinct_shown es i)
+    ∙ by (has_rows e) refl
+  where
+    by : (b : Bool) → has_rows e ≡ b → min e.1 1 + length (filter has_rows es) ≡ length (cond b (e ∷ filter has_rows es) (filter has_rows es))
+    by true is = let some : e.1 ≢ 0 = some_is e.1 is in omega (arith, some)
+    by false is = let zero : e.1 ≡ 0 = zero_is e.1 is in omega (arith, zero)
 
 -- ---- what is shown are the rows of the bag
 
@@ -149,5 +163,5 @@ module _ (query : BoundQuery) where
       let counted = count_shown distinct row es once in
       let more : 0 < count_in row es = shown_some distinct (count_in row es) (omega (arith, some, counted)) in
       let found = find_counted (same_row row) row (bag_of query lists) (omega (arith, more, bag row)) in
-      ap (λ (r : List Value). length r) (exact row (get_or (bag_of query lists) found.0 row) found.2)
+      ap (λ (r : List Value). length r) (same_from row (get_or (bag_of query lists) found.0 row) found.2)
       ∙ each_wide (filter (fits query) (combinations lists)) found.0 row found.1

@@ -8,14 +8,14 @@ ghost use Rattle.mm_value.specs.declared.values.Value.{Value as Val};
 ghost use Rattle.mm_standing.specs.Queries.{IsBagOf, shown_of};
 ghost use Rattle.mm_standing.specs.Showing.{rows_shown, times_shown, values_in_turn};
 
-use mm_multiset::Bag;
+use mm_multiset::{Bag, BagEntries};
 use mm_partition::RowView;
 use mm_query::BoundQuery;
 use mm_templist::ShownRows;
 use mm_value::ValueRef;
 use std::alloc::{AllocError, Global};
 
-/// How many rows of a bag are shown: with `distinct` one of each.
+/// Returns the number of rows of a bag that are shown, with `distinct` one of each, without visiting them.
 pub(crate) fn count_shown(distinct: bool, bag: &Bag) -> usize
     ensures count { result ≡ length (rows_shown distinct bag.now.entries) }
     ensures once { IsOnce bag.now.entries }
@@ -24,12 +24,7 @@ pub(crate) fn count_shown(distinct: bool, bag: &Bag) -> usize
     if !distinct {
         return bag.total();
     }
-    let mut count = 0;
-    let mut entries = bag.entries();
-    while let Some((_, copies)) = entries.next() {
-        count += times_shown(true, copies);
-    }
-    count
+    bag.distinct()
 }
 
 /// The rows of a bag as its query shows them. `AllocError` where memory is refused.
@@ -44,22 +39,21 @@ pub(crate) fn list_shown<'s>(
     let width = query.fields.as_slice().len();
     let count = count_shown(query.distinct, bag);
     let mut values = Vec::with_capacity(alloc, count.saturating_mul(width))?;
-    push_entries(&mut values, query.distinct, bag)?;
+    push_entries(&mut values, query.distinct, bag.entries())?;
     // with DISTINCT no row is there twice, so none is left out here
     let order = query.order.as_slice();
     ShownRows::sorted(alloc, values, width, count, false, order)
 }
 
-/// Puts the values of the rows of a bag at the end, where they stand, of each row as often as it is shown.
+/// Appends references to the values of the rows of entries, for each row as often as it is shown.
 fn push_entries<'s>(
     values: &mut Vec<ValueRef<'s>>,
     distinct: bool,
-    bag: &'s Bag,
+    mut entries: BagEntries<'s>,
 ) -> Result<(), AllocError>
     ensures { OnOk result (referred values.new.items
-        ≡ referred values.old.items ++ values_in_turn (rows_shown distinct bag.now.entries)) }
+        ≡ referred values.old.items ++ values_in_turn (rows_shown distinct entries.entry)) }
 {
-    let mut entries = bag.entries();
     while let Some((row, count)) = entries.next() {
         push_copies(values, row, times_shown(distinct, count))?;
     }

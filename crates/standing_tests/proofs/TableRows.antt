@@ -19,7 +19,7 @@ use Rattle.mm_query.specs.declared.bound_query.FieldPlace.{FieldPlace}
 use Rattle.mm_relation.specs.Kept.{StoredRows}
 use Rattle.mm_relation.specs.RowLists.{rows_of}
 use Rattle.mm_relation.specs.declared.edits.Edit.{Edit}
-use Rattle.mm_relevance.specs.Relevance.{AddsToNumber}
+use Rattle.mm_query.specs.Additions.{AddsToNumber}
 use Rattle.mm_standing.specs.Queries.{RowsByPlace, StandingQuery}
 use Rattle.mm_standing.specs.Reads.{AreTypeTested}
 use Rattle.mm_store.specs.Tables.{AreFit, HasRows, IsAt, Tables, Turns, rows_at, rows_with}

@@ -125,3 +125,44 @@ fn lists_move_up(rt: HostRuntime) -> Result<(), Fail> {
     let mut case = sample(rt.alloc())?;
     unwatch_and_add(&rt, &mut case)
 }
+
+/// Inserts rows of these keys into the first table, each with its key as its number, and deletes all but the last.
+fn grow_and_shrink(case: &mut Case, alloc: Global, first: i64, last: i64) -> Result<(), Refusal> {
+    for key in first..last {
+        case.add(alloc, 0, key, key)?;
+    }
+    case.add(alloc, 0, last, last)?;
+    for key in first..last {
+        case.remove(alloc, 0, key)?;
+    }
+    Ok(())
+}
+
+/// What the lists show after they grew and shrank once.
+const SHRUNK: [&[&[i64]]; 3] = [&[&[1, 1], &[2, 1]], &[&[5], &[5], &[29]], &[&[5], &[29]]];
+
+/// What the lists show after they grew and shrank twice.
+const SHRUNK_TWICE: [&[&[i64]]; 3] = [
+    &[&[1, 1], &[2, 1]],
+    &[&[5], &[5], &[29], &[59]],
+    &[&[5], &[29], &[59]],
+];
+
+/// Lets the lists grow and shrink in two transactions, of which the second uses slots of the first again. Asserts what the lists show
+/// within the first transaction, after it, and within the second one.
+fn shrink_twice(rt: &(impl Abort + AllocGlobal), case: &mut Case) -> Result<(), Fail> {
+    grow_and_shrink(case, rt.alloc(), 10, 29)?;
+    assert_same(rt, counts(case)?, [2, 3, 2]);
+    assert_shown(rt, case, SHRUNK)?;
+    case.settle();
+    assert_shown(rt, case, SHRUNK)?;
+    grow_and_shrink(case, rt.alloc(), 40, 59)?;
+    assert_same(rt, counts(case)?, [2, 4, 3]);
+    assert_shown(rt, case, SHRUNK_TWICE)
+}
+
+#[test]
+fn lists_that_shrank_show_what_is_left(rt: HostRuntime) -> Result<(), Fail> {
+    let mut case = sample(rt.alloc())?;
+    shrink_twice(&rt, &mut case)
+}

@@ -9,10 +9,6 @@ use Rattle.mm_standing.specs.Showing.{rows_shown, times_shown, values_in_turn}
 use Rattle.mm_standing.proofs.Pushing.{pushed_entry}
 use Rattle.mm_standing.proofs.listing.push_entries.Goals as goal
 
-pub loop-row-init : goal.loop-row-init
-loop-row-init c =
-    ap (λ (es : Entries). referred c.args.values.now.items ++ values_in_turn (rows_shown c.args.distinct es)) c.entries-entries.ensures.entries
-
 pub loop-row-smaller : goal.loop-row-smaller
 loop-row-smaller c = omega (arith, ap length c.in-Some.ensures)
 
@@ -23,7 +19,7 @@ loop-row-preserved c =
     let pushed : referred c.push_copies.new.values.items ≡ now ++ values_in_turn (replicate (times_shown c.args.distinct c.in-Some.count) row) =
     c.in_ok-push_copies.ensures ∙ ap (λ k. now ++ values_in_turn (replicate k row)) c.times_shown.ensures in
     pushed_entry c.loop-row.entries c.next.new.self row c.in-Some.count c.in-Some.ensures c.args.distinct now (referred c.push_copies.new.values.items)
-    (referred c.args.values.now.items ++ values_in_turn (rows_shown c.args.distinct c.args.bag.now.entries)) pushed c.loop-row.invariant
+    (referred c.args.values.now.items ++ values_in_turn (rows_shown c.args.distinct c.args.entries)) pushed c.loop-row.invariant
 
 pub returns : goal.returns
 returns c =

@@ -7,7 +7,7 @@ use Rattle.mm_standing.proofs.listing.push_entries.Given as goal
 abbrev pub invariant-loop-row : goal.invariant-loop-row
 invariant-loop-row l =
     referred l.values.items ++ values_in_turn (rows_shown l.distinct l.entries)
-    ≡ referred l.fn.values.items ++ values_in_turn (rows_shown l.distinct l.bag.entries)
+    ≡ referred l.fn.values.items ++ values_in_turn (rows_shown l.distinct l.fn.entries)
 
 abbrev pub decreases-loop-row : goal.decreases-loop-row
 decreases-loop-row l = length l.entries

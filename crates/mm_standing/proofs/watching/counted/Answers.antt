@@ -11,8 +11,9 @@ use Rattle.mm_store.specs.Tables.{Tables}
 use Rattle.mm_templist.specs.Results.{projected_rows}
 use Rattle.mm_standing.specs.Bags.{ArePositive}
 use Rattle.mm_standing.specs.Queries.{IsBagOf}
-use Rattle.mm_standing.proofs.Found.{bag_more, length_projected, positive_more, positive_none}
+use Rattle.mm_standing.proofs.Found.{bag_more, positive_more, positive_none}
 use Rattle.mm_standing.proofs.watching.counted.Goals as goal
+use Rattle.mm_templist.proofs.Only.{length_projected}
 
 pub loop-i-init : goal.loop-i-init
 loop-i-init c = record {

@@ -19,16 +19,16 @@ changed-self-inside-requires-clause-least c =
     (let fits = c.self.ranges in omega arith) in
     total_least a (to_z-of_z w128 c.args.change.count (short a))
 
-pub add_at-requires-clause-least : goal.add_at-requires-clause-least
-add_at-requires-clause-least c =
+pub add-requires-clause-least : goal.add-requires-clause-least
+add-requires-clause-least c =
     let a = adding c.args.change.row c.args.change.count c.self.invariant (ap (λ v. v.entries) c.self.view_is) c.requires.count c.requires.total
     (let fits = c.self.ranges in omega arith) in
     let cast = to_z-of_z w128 c.args.change.count (short a) in
     let live = ap (λ i. get_or c.self.inside.rows.slots i Free) c.index_of.ensures ∙ c.in-Some.ensures.found in
     at_least a cast c.index_of.result live
 
-pub add_at-requires-clause-most : goal.add_at-requires-clause-most
-add_at-requires-clause-most c =
+pub add-requires-clause-most : goal.add-requires-clause-most
+add-requires-clause-most c =
     let a = adding c.args.change.row c.args.change.count c.self.invariant (ap (λ v. v.entries) c.self.view_is) c.requires.count c.requires.total
     (let fits = c.self.ranges in omega arith) in
     let cast = to_z-of_z w128 c.args.change.count (short a) in
@@ -41,9 +41,9 @@ invariant_of-self c =
     (let fits = c.self.ranges in omega arith) in
     let cast = to_z-of_z w128 c.args.change.count (short a) in
     let live = ap (λ i. get_or c.self.inside.rows.slots i Free) c.index_of.ensures ∙ c.in-Some.ensures.found in
-    let total = total_at a cast c.index_of.result live c.add_at.new.counts.items c.add_at.ensures.counts in (
-      kept_at a cast c.index_of.result live c.add_at.new.counts.items c.add_at.ensures.counts,
-      sum_is a cast c.changed-self-inside.result (entries_of c.self.inside.rows.slots c.add_at.new.counts.items) c.changed-self-inside.ensures total,
+    let total = total_at a cast c.index_of.result live c.add.new.self.counts c.add.ensures.counts in (
+      kept_at a cast c.index_of.result live c.add.new.self.counts c.add.ensures.counts,
+      sum_is a cast c.changed-self-inside.result (entries_of c.self.inside.rows.slots c.add.new.self.counts) c.changed-self-inside.ensures total,
     )
 
 pub returns-in-Some-clause-added : goal.returns-in-Some-clause-added
@@ -52,7 +52,7 @@ returns-in-Some-clause-added c =
     (let fits = c.self.ranges in omega arith) in
     let cast = to_z-of_z w128 c.args.change.count (short a) in
     let live = ap (λ i. get_or c.self.inside.rows.slots i Free) c.index_of.ensures ∙ c.in-Some.ensures.found in
-    adds_at a cast c.index_of.result live c.add_at.new.counts.items c.add_at.ensures.counts
+    adds_at a cast c.index_of.result live c.add.new.self.counts c.add.ensures.counts
 
 pub returns-in-Some-clause-total : goal.returns-in-Some-clause-total
 returns-in-Some-clause-total c =
@@ -60,8 +60,8 @@ returns-in-Some-clause-total c =
     (let fits = c.self.ranges in omega arith) in
     let cast = to_z-of_z w128 c.args.change.count (short a) in
     let live = ap (λ i. get_or c.self.inside.rows.slots i Free) c.index_of.ensures ∙ c.in-Some.ensures.found in
-    total_is a cast (entries_of c.self.inside.rows.slots c.add_at.new.counts.items)
-    (total_at a cast c.index_of.result live c.add_at.new.counts.items c.add_at.ensures.counts)
+    total_is a cast (entries_of c.self.inside.rows.slots c.add.new.self.counts)
+    (total_at a cast c.index_of.result live c.add.new.self.counts c.add.ensures.counts)
 
 pub returns-in-Some-clause-is_new : goal.returns-in-Some-clause-is_new
 returns-in-Some-clause-is_new c =
@@ -101,8 +101,8 @@ put-requires-clause-spare c =
     let left = room_left (has_entry c.args.change.row c.args.self.now.entries) c.args.self.now.room c.requires.room (lacks_as a cast c.in-None.ensures.none) in
     omega (arith, left, ap (λ v. v.room) c.self.view_is)
 
-pub put-requires-clause-capacity : goal.put-requires-clause-capacity
-put-requires-clause-capacity c =
+pub put-requires-clause-slots : goal.put-requires-clause-slots
+put-requires-clause-slots c =
     let a = adding c.args.change.row c.args.change.count c.self.invariant (ap (λ v. v.entries) c.self.view_is) c.requires.count c.requires.total
     (let fits = c.self.ranges in omega arith) in
     let cast = to_z-of_z w128 c.args.change.count (short a) in
@@ -115,9 +115,9 @@ invariant_of-self-in-None c =
     (let fits = c.self.ranges in omega arith) in
     let cast = to_z-of_z w128 c.args.change.count (short a) in
     let total = total_new a cast c.in-None.ensures.none c.changed-count.result c.changed-count.ensures
-    (entries_of c.put.new.rows.slots c.put.new.counts.items) c.put.ensures.put in (
+    (entries_of c.put.new.rows.slots c.put.new.counts.counts) c.put.ensures.put in (
       c.put.ensures.kept,
-      sum_is a cast c.changed-self-inside.result (entries_of c.put.new.rows.slots c.put.new.counts.items)
+      sum_is a cast c.changed-self-inside.result (entries_of c.put.new.rows.slots c.put.new.counts.counts)
           c.changed-self-inside.ensures total,
     )
 
@@ -126,7 +126,7 @@ returns-in-None-clause-added c =
     let a = adding c.args.change.row c.args.change.count c.self.invariant (ap (λ v. v.entries) c.self.view_is) c.requires.count c.requires.total
     (let fits = c.self.ranges in omega arith) in
     let cast = to_z-of_z w128 c.args.change.count (short a) in
-    adds_new a cast c.in-None.ensures.none c.changed-count.result c.changed-count.ensures (entries_of c.put.new.rows.slots c.put.new.counts.items)
+    adds_new a cast c.in-None.ensures.none c.changed-count.result c.changed-count.ensures (entries_of c.put.new.rows.slots c.put.new.counts.counts)
     c.put.ensures.put
 
 pub returns-in-None-clause-total : goal.returns-in-None-clause-total
@@ -134,8 +134,8 @@ returns-in-None-clause-total c =
     let a = adding c.args.change.row c.args.change.count c.self.invariant (ap (λ v. v.entries) c.self.view_is) c.requires.count c.requires.total
     (let fits = c.self.ranges in omega arith) in
     let cast = to_z-of_z w128 c.args.change.count (short a) in
-    total_is a cast (entries_of c.put.new.rows.slots c.put.new.counts.items)
-    (total_new a cast c.in-None.ensures.none c.changed-count.result c.changed-count.ensures (entries_of c.put.new.rows.slots c.put.new.counts.items)
+    total_is a cast (entries_of c.put.new.rows.slots c.put.new.counts.counts)
+    (total_new a cast c.in-None.ensures.none c.changed-count.result c.changed-count.ensures (entries_of c.put.new.rows.slots c.put.new.counts.counts)
     c.put.ensures.put)
 
 pub returns-in-None-clause-kept : goal.returns-in-None-clause-kept

@@ -16,16 +16,16 @@ changed-self-inside-requires-clause-least c =
     (let fits = c.self.ranges in omega arith) in
     total_least a (to_z-of_z w128 c.args.change.now.count (short a))
 
-pub add_at-requires-clause-least : goal.add_at-requires-clause-least
-add_at-requires-clause-least c =
+pub add-requires-clause-least : goal.add-requires-clause-least
+add-requires-clause-least c =
     let a = adding c.args.change.now.row c.args.change.now.count c.self.invariant (ap (λ v. v.entries) c.self.view_is) c.requires.count c.requires.total
     (let fits = c.self.ranges in omega arith) in
     let cast = to_z-of_z w128 c.args.change.now.count (short a) in
     let live = ap (λ i. get_or c.self.inside.rows.slots i Free) c.index_of.ensures ∙ c.in-Some.ensures.found in
     at_least a cast c.index_of.result live
 
-pub add_at-requires-clause-most : goal.add_at-requires-clause-most
-add_at-requires-clause-most c =
+pub add-requires-clause-most : goal.add-requires-clause-most
+add-requires-clause-most c =
     let a = adding c.args.change.now.row c.args.change.now.count c.self.invariant (ap (λ v. v.entries) c.self.view_is) c.requires.count c.requires.total
     (let fits = c.self.ranges in omega arith) in
     let cast = to_z-of_z w128 c.args.change.now.count (short a) in
@@ -38,9 +38,9 @@ invariant_of-self c =
     (let fits = c.self.ranges in omega arith) in
     let cast = to_z-of_z w128 c.args.change.now.count (short a) in
     let live = ap (λ i. get_or c.self.inside.rows.slots i Free) c.index_of.ensures ∙ c.in-Some.ensures.found in
-    let total = total_at a cast c.index_of.result live c.add_at.new.counts.items c.add_at.ensures.counts in (
-      kept_at a cast c.index_of.result live c.add_at.new.counts.items c.add_at.ensures.counts,
-      sum_is a cast c.changed-self-inside.result (entries_of c.self.inside.rows.slots c.add_at.new.counts.items) c.changed-self-inside.ensures total,
+    let total = total_at a cast c.index_of.result live c.add.new.self.counts c.add.ensures.counts in (
+      kept_at a cast c.index_of.result live c.add.new.self.counts c.add.ensures.counts,
+      sum_is a cast c.changed-self-inside.result (entries_of c.self.inside.rows.slots c.add.new.self.counts) c.changed-self-inside.ensures total,
     )
 
 pub returns-in-Some-clause-added : goal.returns-in-Some-clause-added
@@ -49,7 +49,7 @@ returns-in-Some-clause-added c =
     (let fits = c.self.ranges in omega arith) in
     let cast = to_z-of_z w128 c.args.change.now.count (short a) in
     let live = ap (λ i. get_or c.self.inside.rows.slots i Free) c.index_of.ensures ∙ c.in-Some.ensures.found in
-    adds_at a cast c.index_of.result live c.add_at.new.counts.items c.add_at.ensures.counts
+    adds_at a cast c.index_of.result live c.add.new.self.counts c.add.ensures.counts
 
 pub returns-in-Some-clause-total : goal.returns-in-Some-clause-total
 returns-in-Some-clause-total c =
@@ -57,8 +57,8 @@ returns-in-Some-clause-total c =
     (let fits = c.self.ranges in omega arith) in
     let cast = to_z-of_z w128 c.args.change.now.count (short a) in
     let live = ap (λ i. get_or c.self.inside.rows.slots i Free) c.index_of.ensures ∙ c.in-Some.ensures.found in
-    total_is a cast (entries_of c.self.inside.rows.slots c.add_at.new.counts.items)
-    (total_at a cast c.index_of.result live c.add_at.new.counts.items c.add_at.ensures.counts)
+    total_is a cast (entries_of c.self.inside.rows.slots c.add.new.self.counts)
+    (total_at a cast c.index_of.result live c.add.new.self.counts c.add.ensures.counts)
 
 lacks : (row : List Value) (slots : List Content) (counts : List ℕ) (es : Entries) → entries_of slots counts ≡ es
     → ((i : ℕ) → get_or slots i Free ≢ Live row) → has_entry row es ≡ true → ⊥
@@ -66,10 +66,10 @@ lacks row slots counts es same none has = true≢false (sym has ∙ (ap (has_ent
 
 pub returns-in_default-clause-added : goal.returns-in_default-clause-added
 returns-in_default-clause-added c =
-    absurd (lacks c.args.change.now.row c.self.inside.rows.slots c.self.inside.counts.items c.args.self.now.entries (ap (λ v. v.entries) c.self.view_is)
+    absurd (lacks c.args.change.now.row c.self.inside.rows.slots c.self.inside.counts.counts c.args.self.now.entries (ap (λ v. v.entries) c.self.view_is)
     c.in_default.ensures.none c.requires.found)
 
 pub returns-in_default-clause-total : goal.returns-in_default-clause-total
 returns-in_default-clause-total c =
-    absurd (lacks c.args.change.now.row c.self.inside.rows.slots c.self.inside.counts.items c.args.self.now.entries (ap (λ v. v.entries) c.self.view_is)
+    absurd (lacks c.args.change.now.row c.self.inside.rows.slots c.self.inside.counts.counts c.args.self.now.entries (ap (λ v. v.entries) c.self.view_is)
     c.in_default.ensures.none c.requires.found)

@@ -30,5 +30,5 @@ nothing (x ∷ xs) none = absurd (let no : ⊥ = omega (arith, none) in no)
 
 pub invariant_of-result : goal.invariant_of-result
 invariant_of-result c =
-    empty c.in_ok-new.field-0.slots c.new-2.result.items c.new-3.result.entries (nothing c.in_ok-new.field-0.slots c.in_ok-new.ensures.extent)
-    c.new-2.ensures.items c.new-3.ensures.entries
+    empty c.in_ok-new.field-0.slots c.new-2.result.counts c.new-3.result.entries (nothing c.in_ok-new.field-0.slots c.in_ok-new.ensures.extent)
+    c.new-2.ensures c.new-3.ensures.entries

@@ -5,34 +5,34 @@ use Rattle.mm_multiset.proofs.bag.Bag.reserve.Goals as goal
 
 pub invariant_of-self : goal.invariant_of-self
 invariant_of-self c =
-    kept_grown c.self.inside.rows c.reserve.new.self c.self.inside.counts.items c.self.inside.counts.items c.self.inside.by_hash.entries
+    kept_grown c.self.inside.rows c.reserve.new.self c.self.inside.counts.counts c.self.inside.counts.counts c.self.inside.by_hash.entries
     c.self.inside.by_hash.entries c.reserve.ensures.rows c.reserve.ensures.extent refl refl c.self.inside.total c.self.invariant
 
 pub returns-in_err-reserve-clause-entries : goal.returns-in_err-reserve-clause-entries
 returns-in_err-reserve-clause-entries c =
-    entries_grown c.self.inside.rows c.reserve.new.self c.self.inside.counts.items c.self.inside.counts.items c.self.inside.by_hash.entries
+    entries_grown c.self.inside.rows c.reserve.new.self c.self.inside.counts.counts c.self.inside.counts.counts c.self.inside.by_hash.entries
     c.self.inside.by_hash.entries c.reserve.ensures.rows c.reserve.ensures.extent refl refl
     ∙ ap (λ v. v.entries) c.self.view_is
 
 pub invariant_of-self-in_err-reserve-2 : goal.invariant_of-self-in_err-reserve-2
 invariant_of-self-in_err-reserve-2 c =
-    kept_grown c.self.inside.rows c.reserve.new.self c.self.inside.counts.items c.reserve-2.new.self.items c.self.inside.by_hash.entries
-    c.self.inside.by_hash.entries c.reserve.ensures.rows c.reserve.ensures.extent c.reserve-2.ensures.items refl c.self.inside.total c.self.invariant
+    kept_grown c.self.inside.rows c.reserve.new.self c.self.inside.counts.counts c.reserve-2.new.self.counts c.self.inside.by_hash.entries
+    c.self.inside.by_hash.entries c.reserve.ensures.rows c.reserve.ensures.extent c.reserve-2.ensures.counts refl c.self.inside.total c.self.invariant
 
 pub returns-in_err-reserve-2-clause-entries : goal.returns-in_err-reserve-2-clause-entries
 returns-in_err-reserve-2-clause-entries c =
-    entries_grown c.self.inside.rows c.reserve.new.self c.self.inside.counts.items c.reserve-2.new.self.items c.self.inside.by_hash.entries
-    c.self.inside.by_hash.entries c.reserve.ensures.rows c.reserve.ensures.extent c.reserve-2.ensures.items refl
+    entries_grown c.self.inside.rows c.reserve.new.self c.self.inside.counts.counts c.reserve-2.new.self.counts c.self.inside.by_hash.entries
+    c.self.inside.by_hash.entries c.reserve.ensures.rows c.reserve.ensures.extent c.reserve-2.ensures.counts refl
     ∙ ap (λ v. v.entries) c.self.view_is
 
 pub invariant_of-self-2 : goal.invariant_of-self-2
 invariant_of-self-2 c =
-    kept_grown c.self.inside.rows c.reserve.new.self c.self.inside.counts.items c.reserve-2.new.self.items c.self.inside.by_hash.entries
-    c.reserve-3.new.self.entries c.reserve.ensures.rows c.reserve.ensures.extent c.reserve-2.ensures.items c.reserve-3.ensures.entries
+    kept_grown c.self.inside.rows c.reserve.new.self c.self.inside.counts.counts c.reserve-2.new.self.counts c.self.inside.by_hash.entries
+    c.reserve-3.new.self.entries c.reserve.ensures.rows c.reserve.ensures.extent c.reserve-2.ensures.counts c.reserve-3.ensures.entries
     c.self.inside.total c.self.invariant
 
 pub returns-clause-entries : goal.returns-clause-entries
 returns-clause-entries c =
-    entries_grown c.self.inside.rows c.reserve.new.self c.self.inside.counts.items c.reserve-2.new.self.items c.self.inside.by_hash.entries
-    c.reserve-3.new.self.entries c.reserve.ensures.rows c.reserve.ensures.extent c.reserve-2.ensures.items c.reserve-3.ensures.entries
+    entries_grown c.self.inside.rows c.reserve.new.self c.self.inside.counts.counts c.reserve-2.new.self.counts c.self.inside.by_hash.entries
+    c.reserve-3.new.self.entries c.reserve.ensures.rows c.reserve.ensures.extent c.reserve-2.ensures.counts c.reserve-3.ensures.entries
     ∙ ap (λ v. v.entries) c.self.view_is
