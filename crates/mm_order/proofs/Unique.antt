@@ -9,7 +9,7 @@ use Rattle.mm_value.specs.declared.row_ref.RowRef.{RowRef}
 use Rattle.mm_order.specs.Order.{IsTotalOrderOn, IsOrdered}
 use Rattle.mm_order.proofs.Pairs.{AllPairs-append_across, AllPairs-append_right}
 
-only : (a b : RowRef) → Contains (a ∷ []) b → a ≡ b
+pub only : (a b : RowRef) → Contains (a ∷ []) b → a ≡ b
 only a b (k, within, is) = ap (λ n. get_or (a ∷ []) n b) (let first : 0 ≡ k = omega arith in first) ∙ is
 
 cons_cases : (a b : RowRef) (rest : List RowRef) → Contains (a ∷ rest) b → (a ≡ b) ⊎ Contains rest b

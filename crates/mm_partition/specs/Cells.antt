@@ -34,6 +34,17 @@ pub record Writes (old new : Column) (i : ℕ) (v : Value) : Type 0 where
   pub here : cell new i ≡ v
   pub others : (k : ℕ) → k ≢ i → cell new k ≡ cell old k
 
+-- what stood in two cells has changed places, and every other cell has what it had
+pub record Exchanges (old new : Column) (a b : ℕ) : Type 0 where
+  pub first : cell new a ≡ cell old b
+  pub second : cell new b ≡ cell old a
+  pub others : (k : ℕ) → k ≢ a → k ≢ b → cell new k ≡ cell old k
+
+-- the cell has no text: where it is one of texts, it has the empty one
+abbrev pub IsEmptied : Column → ℕ → Type 0
+IsEmptied (Numbers numbers) i = Unit {0}
+IsEmptied (Texts column) i = cell (Texts column) i ≡ value.Text []
+
 -- the types of the columns
 abbrev pub types_of : List Column → List ColType
 types_of columns = map type_in columns
@@ -41,6 +52,12 @@ types_of columns = map type_in columns
 -- the values that stand in one slot
 abbrev pub row_of : List Column → ℕ → List Value
 row_of columns i = map (λ c. cell c i) columns
+
+-- what stood in two slots has changed places, and every other slot has what it had
+pub record RowsExchanged (old new : List Column) (a b : ℕ) : Type 0 where
+  pub first : row_of new a ≡ row_of old b
+  pub second : row_of new b ≡ row_of old a
+  pub others : (k : ℕ) → k ≢ a → k ≢ b → row_of new k ≡ row_of old k
 
 -- a column has a cell for each of so many slots, and room for more
 pub record Fits (slots spare : ℕ) (column : Column) : Type 0 where

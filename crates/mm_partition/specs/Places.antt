@@ -1,5 +1,5 @@
 -- What the slots of the partitions hold, reference by reference.
-use Rattle.std.specs.Prelude.{◌≡◌, ◌≢◌, ℕ, ◌-◌, ◌^◌, ◌<◌, List, [], length, slice_index_or}
+use Rattle.std.specs.Prelude.{◌≡◌, ◌≢◌, ℕ, ◌-◌, ◌^◌, ◌<◌, List, [], Bool, true, false, length, slice_index_or}
 use Rattle.mm_value.specs.Storable.{AreStorable}
 use Rattle.mm_value.specs.declared.col_type.ColType.{ColType}
 use Rattle.mm_value.specs.declared.row_ref.RowRef.{RowRef}
@@ -35,6 +35,15 @@ row_in Free = []
 row_in (Live row) = row
 row_in (Hidden row) = row
 
+-- the slot has a row, in use or hidden
+abbrev pub holds_row : Content → Bool
+holds_row Free = false
+holds_row (Live row) = true
+holds_row (Hidden row) = true
+
+abbrev pub IsTaken : Content → Type 0
+IsTaken content = holds_row content ≡ true
+
 -- the reference gives a row
 abbrev pub IsLive : Places → RowRef → Type 0
 IsLive places at = (row : List Value) × (slot_at places at ≡ Live row)
@@ -51,6 +60,12 @@ IsUnchanged old new = (at : RowRef) → slot_at new at ≡ slot_at old at
 pub record ChangesOnly (old new : Places) (at : RowRef) (slot : Content) : Type 0 where
   pub changed : slot_at new at ≡ slot
   pub others : (other : RowRef) → other ≢ at → slot_at new other ≡ slot_at old other
+
+-- these two references have these slots now, and every other one has what it had
+pub record ChangesTwo (old new : Places) (a b : RowRef) (first_slot second_slot : Content) : Type 0 where
+  pub first : slot_at new a ≡ first_slot
+  pub second : slot_at new b ≡ second_slot
+  pub others : (other : RowRef) → other ≢ a → other ≢ b → slot_at new other ≡ slot_at old other
 
 -- the row in a slot, if there is one, has values that a program can have: whole numbers of 64 bits, and texts of at most 64 bytes
 abbrev pub IsStorableIn : Content → Type 0

@@ -18,7 +18,7 @@ pub enum Column {
 }
 
 impl Column {
-    ghost use Rattle.mm_partition.specs.Cells.{type_in, size_of, room_of, cell, Writes};
+    ghost use Rattle.mm_partition.specs.Cells.{type_in, size_of, room_of, cell, Writes, Exchanges, IsEmptied};
 
     /// A column with no cells. It takes no memory.
     pub fn new(alloc: Global, col_type: ColType) -> Column
@@ -102,12 +102,28 @@ impl Column {
         }
     }
 
-    /// Drops what stands in a cell of texts.
+    /// Lets what stands in two cells change places.
+    pub fn exchange(&mut self, a: usize, b: usize)
+        requires a { a < size_of self.old }
+        requires b { b < size_of self.old }
+        ensures typed { type_in self.new ≡ type_in self.old }
+        ensures size { size_of self.new ≡ size_of self.old }
+        ensures room { room_of self.new ≡ room_of self.old }
+        ensures cells { Exchanges self.old self.new a b }
+    {
+        match self {
+            Column::Numbers(numbers) => numbers.swap(a, b),
+            Column::Texts(texts) => texts.exchange(a, b),
+        }
+    }
+
+    /// Drops what stands in a cell of texts, which has the empty text then. A number stays.
     pub fn clear(&mut self, index: usize)
         requires { index < size_of self.old }
         ensures typed { type_in self.new ≡ type_in self.old }
         ensures size { size_of self.new ≡ size_of self.old }
         ensures room { room_of self.new ≡ room_of self.old }
+        ensures emptied { IsEmptied self.new index }
         ensures cells { (k : ℕ) → k ≢ index → cell self.new k ≡ cell self.old k }
     {
         match self {

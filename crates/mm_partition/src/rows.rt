@@ -1,10 +1,10 @@
 //! Rows by reference.
-ghost use Rattle.std.specs.Prelude.{◌≡◌, ◌+◌, ◌<◌, ◌≤◌, max, List, length, Some, slice_get, IfOk, OnOk};
+ghost use Rattle.std.specs.Prelude.{◌≡◌, ◌+◌, ◌<◌, ◌≤◌, ◌↔◌, max, List, length, Some, slice_get, IfOk, IsTrue, OnOk};
 ghost use Rattle.mm_value.specs.Views.{value_of};
 ghost use Rattle.mm_value.specs.declared.values.Value.{Value};
 ghost use Rattle.mm_partition.specs.Keys.{AreKeys};
-ghost use Rattle.mm_partition.specs.Places.{Free, Live, Hidden, extent_of, slot_at, content_at, IsLive, IsHidden, IsUnchanged, ChangesOnly};
-ghost use Rattle.mm_partition.specs.Places.{AreRowsStorable, AreReferencesSmall};
+ghost use Rattle.mm_partition.specs.Places.{Free, Live, Hidden, extent_of, slot_at, content_at, row_in, IsTaken, IsLive, IsHidden};
+ghost use Rattle.mm_partition.specs.Places.{IsUnchanged, ChangesOnly, ChangesTwo, AreRowsStorable, AreReferencesSmall};
 ghost use Rattle.mm_value.specs.Storable.{AreStorable};
 ghost use Rattle.mm_partition.specs.Types.{HasTypes};
 ghost use Rattle.mm_partition.specs.Views.{viewed};
@@ -12,7 +12,7 @@ ghost use Rattle.mm_partition.specs.Views.{viewed};
 use crate::columns::Column;
 use crate::keys::ColumnKeys;
 use crate::slots::{SLOTS, State, index_of, reference_to};
-use crate::sweeps::{clear_each, push_each, reserve_each, swap_each};
+use crate::sweeps::{clear_each, exchange_each, push_each, reserve_each, swap_each};
 use crate::view::RowView;
 use mm_value::{ColType, Row, RowRef, Value, ValueRef};
 use std::alloc::{AllocError, Global};
@@ -145,6 +145,18 @@ impl Partitions {
         }
     }
 
+    /// The hidden row of a reference, where it stands.
+    pub fn get_hidden(&self, at: RowRef) -> RowView<'_>
+        requires { IsHidden self.now at }
+        ensures { slot_at self.now at ≡ Hidden (viewed result) }
+    {
+        let _states = &self.states;
+        RowView {
+            rows: self,
+            index: index_of(at),
+        }
+    }
+
     /// What the row of a reference has in a column.
     #[inline(always)]
     pub fn value(&self, at: RowRef, column: usize) -> ValueRef<'_>
@@ -155,12 +167,21 @@ impl Partitions {
         self.columns[column].value(index_of(at))
     }
 
+    /// What the hidden row of a reference has in a column.
+    pub fn hidden_value(&self, at: RowRef, column: usize) -> ValueRef<'_>
+        requires hidden { IsHidden self.now at }
+        requires column { column < length self.now.types }
+        ensures { (row : List Value) → slot_at self.now at ≡ Hidden row → slice_get row column ≡ Some (value_of result) }
+    {
+        self.columns[column].value(index_of(at))
+    }
+
     /// What the row in the slot at an index has in a column.
     #[inline(always)]
     pub(crate) fn cell(&self, index: usize, column: usize) -> ValueRef<'_>
-        requires live { (row : List Value) × (content_at self.now index ≡ Live row) }
+        requires taken { IsTaken (content_at self.now index) }
         requires column { column < length self.now.types }
-        ensures { (row : List Value) → content_at self.now index ≡ Live row → slice_get row column ≡ Some (value_of result) }
+        ensures { slice_get (row_in (content_at self.now index)) column ≡ Some (value_of result) }
     {
         self.columns[column].value(index)
     }
@@ -257,6 +278,50 @@ impl Partitions {
                 self.states[index] = State::Live;
                 reference_to(index)
             }
+        }
+    }
+
+    /// Moves the values of a new row into a free slot that is hidden, and gives its reference.
+    pub fn stage(&mut self, values: &mut [Value]) -> RowRef
+        requires room { 1 ≤ self.old.room }
+        requires storable { AreStorable values.old }
+        requires typed { HasTypes self.old.types values.old }
+        ensures fresh { slot_at self.old result ≡ Free }
+        ensures staged { ChangesOnly self.old self.new result (Hidden values.old) }
+        ensures room { self.new.room + 1 ≡ self.old.room }
+        ensures within { result.slot ≤ extent_of self.old }
+        ensures extent { extent_of self.new ≡ max (extent_of self.old) (result.slot + 1) }
+        ensures types { self.new.types ≡ self.old.types }
+    {
+        let at = self.place(values);
+        self.hide(at);
+        at
+    }
+
+    /// Lets a row in use and a hidden one change places. The one keeps its reference, and the other its slot.
+    pub fn exchange(&mut self, at: RowRef, other: RowRef)
+        requires live { IsLive self.old at }
+        requires hidden { IsHidden self.old other }
+        ensures exchanged { (row hidden : List Value) → slot_at self.old at ≡ Live row → slot_at self.old other ≡ Hidden hidden
+            → ChangesTwo self.old self.new at other (Live hidden) (Hidden row) }
+        ensures room { self.new.room ≡ self.old.room }
+        ensures extent { extent_of self.new ≡ extent_of self.old }
+        ensures types { self.new.types ≡ self.old.types }
+    {
+        exchange_each(&mut self.columns, index_of(at), index_of(other));
+    }
+
+    /// Whether a slot has a hidden row.
+    pub fn is_hidden(&self, at: RowRef) -> bool
+        ensures { IsTrue result ↔ IsHidden self.now at }
+    {
+        let index = index_of(at);
+        if index >= self.states.len() {
+            return false;
+        }
+        match self.states[index] {
+            State::Hidden => true,
+            State::Free | State::Live => false,
         }
     }
 

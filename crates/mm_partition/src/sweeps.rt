@@ -1,6 +1,6 @@
 //! One slot in all columns.
 ghost use Rattle.std.specs.Prelude.{◌≡◌, ◌≢◌, ◌+◌, ◌<◌, ◌≤◌, ℕ, OnOk, All, length};
-ghost use Rattle.mm_partition.specs.Cells.{types_of, row_of, Fits, size_of};
+ghost use Rattle.mm_partition.specs.Cells.{types_of, row_of, Fits, IsEmptied, RowsExchanged, size_of};
 ghost use Rattle.mm_partition.specs.Types.{HasTypes};
 
 use crate::columns::Column;
@@ -50,10 +50,24 @@ pub fn swap_each(columns: &mut Vec<Column>, index: usize, values: &mut [Value])
     }
 }
 
-/// Drops the texts of a slot.
+/// Lets what stands in two slots change places.
+pub fn exchange_each(columns: &mut Vec<Column>, a: usize, b: usize)
+    requires a { All (λ c. a < size_of c) columns.old.items }
+    requires b { All (λ c. b < size_of c) columns.old.items }
+    ensures types { types_of columns.new.items ≡ types_of columns.old.items }
+    ensures cells { RowsExchanged columns.old.items columns.new.items a b }
+    ensures fits { (size spare : ℕ) → All (Fits size spare) columns.old.items → All (Fits size spare) columns.new.items }
+{
+    for i in 0..columns.len() {
+        columns[i].exchange(a, b);
+    }
+}
+
+/// Drops the texts of a slot, whose cells of texts are empty then.
 pub fn clear_each(columns: &mut Vec<Column>, index: usize)
     requires { All (λ c. index < size_of c) columns.old.items }
     ensures types { types_of columns.new.items ≡ types_of columns.old.items }
+    ensures emptied { All (λ c. IsEmptied c index) columns.new.items }
     ensures others { (k : ℕ) → k ≢ index → row_of columns.new.items k ≡ row_of columns.old.items k }
     ensures fits { (size spare : ℕ) → All (Fits size spare) columns.old.items → All (Fits size spare) columns.new.items }
 {

@@ -1,5 +1,5 @@
 //! One column of texts.
-ghost use Rattle.std.specs.Prelude.{◌≡◌, ◌+◌, ◌<◌, ◌≤◌, ◌++◌, ◌∷◌, [], length, map, OnOk, IfOk, slice_get, Some, slice_set, slice_index_or};
+ghost use Rattle.std.specs.Prelude.{◌≡◌, ◌+◌, ◌<◌, ◌≤◌, ◌++◌, ◌∷◌, [], length, map, OnOk, IfOk, slice_get, Some, slice_set, slice_index_or, swap};
 ghost use Rattle.std.specs.Option.{ForSome};
 ghost use Rattle.std.specs.Vec.{vec_capacity};
 ghost use Rattle.mm_partition.specs.TextCells.{prefix_of};
@@ -76,6 +76,22 @@ impl TextColumn {
             Some(prefixes) => {
                 prefixes[index] = order_prefix(&ValueRef::Text(text));
                 mem::swap(&mut self.texts[index], text);
+            }
+        }
+    }
+
+    /// Lets the texts of two cells change places.
+    pub fn exchange(&mut self, a: usize, b: usize)
+        requires a { a < length self.old.texts }
+        requires b { b < length self.old.texts }
+        ensures texts { self.new.texts ≡ swap self.old.texts a b }
+        ensures room { self.new.room ≡ self.old.room }
+    {
+        match &mut self.prefixes {
+            None => self.texts.swap(a, b),
+            Some(prefixes) => {
+                prefixes.swap(a, b);
+                self.texts.swap(a, b);
             }
         }
     }

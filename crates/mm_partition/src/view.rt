@@ -1,6 +1,6 @@
 //! Rows where they stand.
-ghost use Rattle.std.specs.Prelude.{◌≡◌};
-ghost use Rattle.mm_partition.specs.Places.{Live, content_at, row_in};
+ghost use Rattle.std.specs.Prelude.{◌≡◌, true};
+ghost use Rattle.mm_partition.specs.Places.{holds_row, content_at, row_in};
 ghost use Rattle.mm_partition.specs.Types.{HasTypes};
 
 use crate::rows::Partitions;
@@ -13,7 +13,7 @@ pub struct RowView<'a> {
     pub(crate) rows: &'a Partitions,
     /// Where the slot of the row lies among all slots.
     pub(crate) index: usize,
-    ghost live: { content_at rows.now index ≡ Live (row_in (content_at rows.now index)) },
+    ghost taken: { holds_row (content_at rows.now index) ≡ true },
     ghost typed: { HasTypes rows.now.types (row_in (content_at rows.now index)) },
 }
 

@@ -4,11 +4,8 @@ use Rattle.mm_value.specs.Types.{type_of}
 use Rattle.mm_partition.specs.Views.{viewed}
 use Rattle.mm_partition.proofs.view.RowView.value.Goals as goal
 
-pub cell-requires-clause-live : goal.cell-requires-clause-live
-cell-requires-clause-live c = (viewed c.args.self.now, c.args.self.now.live)
-
 pub cell-requires-clause-column : goal.cell-requires-clause-column
 cell-requires-clause-column c = omega (arith, length-map (viewed c.args.self.now) type_of, ap length c.args.self.now.typed, c.requires)
 
 pub returns : goal.returns
-returns c = c.cell.ensures (viewed c.args.self.now) c.args.self.now.live
+returns c = c.cell.ensures
