@@ -1,5 +1,5 @@
 -- One round of a join: what it finds behind a combination of the outer list, and what that costs.
-use Rattle.std.proofs.Common.{◌≡◌, ◌⊎◌, ℕ, ◌+◌, ◌<◌, ◌≤◌, List, [], ◌∷◌, ◌++◌, Err, Some, length, map, take, sym, ap, ◌∙◌, subst}
+use Rattle.std.proofs.Common.{◌≡◌, ◌⊎◌, ℕ, ◌+◌, ◌<◌, ◌≤◌, List, [], ◌∷◌, ◌++◌, Err, Some, length, map, take, sym, ap, ◌∙◌, subst, arith}
 use Rattle.std.specs.List.{All, slice_get, sum_by}
 use Rattle.mm_query.specs.Queries.{Partial}
 use Rattle.mm_query.specs.declared.atom.Atom.{Atom}
@@ -16,10 +16,13 @@ use Rattle.mm_join.proofs.JoinSteps.{Row}
 use Rattle.mm_join.proofs.Progress.{Progress, candidates_step, due_on_way, one_more, one_more_within}
 use Rattle.mm_join.specs.Caps.{cap_conditions}
 use Rattle.mm_join.specs.Joins.{Joins, found}
-use Rattle.mm_join.specs.AccessMethods.{AreCandidates, found_behind, inner_of, reads_along}
+use Rattle.mm_join.specs.AccessMethods.{AreCandidates, and_prefix, found_behind, inner_of, reads_along, with_prefix}
 use Rattle.mm_join.specs.declared.inner.Inner.{Inner}
 use Rattle.mm_join.specs.declared.join.Join.{Join}
 use Rattle.mm_join.specs.declared.access_methods.AccessMethod.{AccessMethod}
+use Rattle.mm_join.specs.declared.access_methods.AccessMethod.TheVariants as method
+use Rattle.mm_join.specs.declared.look_up.Among.{Among}
+use Rattle.mm_join.specs.declared.look_up.Among.TheVariants as among
 
 -- A join that is refused says why.
 pub refused : (store : Tables) (join : Join) (table : ℕ) (refusal : Refusal)
@@ -68,20 +71,39 @@ module _ (store : Tables) (join : Join) (table : ℕ) (inner : Inner) (is : inne
 
 -- ---- what it costs
 
+-- The prefix counts the same whatever else is read.
+prefix_counted : (method : AccessMethod) (n : ℕ) → with_prefix method n ≡ with_prefix method 0 + n
+prefix_counted (method.All refs) n = omega arith
+prefix_counted (method.Followed field) n = omega arith
+prefix_counted (method.Sought look_up) n = by look_up.among
+  where
+    by : (among : Among) → and_prefix among n ≡ and_prefix among 0 + n
+    by (among.Index index) = omega arith
+    by (among.Built pairs) = omega arith
+    by (among.Walk cursor) = omega arith
+
+pub prefix_within : (method w : AccessMethod) → w ≡ method → (before after : ℕ) → after ≤ with_prefix w before → after ≤ before + with_prefix method 0
+prefix_within method w same before after within =
+    let here : after ≤ with_prefix method before = subst (λ m. after ≤ with_prefix m before) same within in
+    omega (arith, here, prefix_counted method before)
+
 module _ (method : AccessMethod) (rows : List Row) (store : Tables) (outer : Combos) (i : ℕ) (front : List RowRef) (at : slice_get outer.combos i ≡ Some front)
     (live : AreLive store outer.tables front) where
   own_cost : reads_along method rows (rows_of_combo store outer.tables front)
-      ≡ length outer.tables + found_behind method rows (rows_of_combo store outer.tables front)
-  own_cost = ap (λ n. n + found_behind method rows (rows_of_combo store outer.tables front)) (length_rows store outer.tables front live)
+      ≡ with_prefix method 0 + (length outer.tables + found_behind method rows (rows_of_combo store outer.tables front))
+  own_cost =
+      ap (λ n. with_prefix method (n + found_behind method rows (rows_of_combo store outer.tables front))) (length_rows store outer.tables front live)
+      ∙ prefix_counted method (length outer.tables + found_behind method rows (rows_of_combo store outer.tables front))
 
   pub spent_more : sum_by (reads_along method rows) (take (i + 1) (combo_rows store outer))
       ≡ sum_by (reads_along method rows) (take i (combo_rows store outer))
-      + (length outer.tables + found_behind method rows (rows_of_combo store outer.tables front))
+      + (with_prefix method 0 + (length outer.tables + found_behind method rows (rows_of_combo store outer.tables front)))
   spent_more =
       one_more (reads_along method rows) store outer i front at ∙ ap (λ n. sum_by (reads_along method rows) (take i (combo_rows store outer)) + n) own_cost
 
   pub spent_within : sum_by (reads_along method rows) (take i (combo_rows store outer))
-      + (length outer.tables + found_behind method rows (rows_of_combo store outer.tables front)) ≤ sum_by (reads_along method rows) (combo_rows store outer)
+      + (with_prefix method 0 + (length outer.tables + found_behind method rows (rows_of_combo store outer.tables front)))
+      ≤ sum_by (reads_along method rows) (combo_rows store outer)
   spent_within =
       subst (λ n. sum_by (reads_along method rows) (take i (combo_rows store outer)) + n ≤ sum_by (reads_along method rows) (combo_rows store outer)) own_cost
       (one_more_within (reads_along method rows) store outer i front at)

@@ -1,18 +1,11 @@
 -- What refuses a list by its length.
-use Rattle.std.proofs.Common.{◌≡◌, ℕ, ◌<◌, ◌≤◌, Bool, true, false, cond, List, [], ◌∷◌, ◌++◌, Some, None, length, nat_lt, refl, ap, ◌∙◌, arith, length-append}
+use Rattle.std.proofs.Common.{◌≡◌, ℕ, ◌<◌, ◌≤◌, cond, List, [], ◌∷◌, ◌++◌, Some, None, length, nat_lt, ap, ◌∙◌, arith, length-append}
 use Rattle.std.proofs.lemmas.Bool.{le-ltb, lt-ltb, ltb-false, ltb-true}
 use Rattle.mm_schema.specs.Refused.{first_refusal}
 use Rattle.mm_value.specs.declared.refusal.Refusal.{Refusal}
 use Rattle.mm_value.specs.declared.refusal.Refusal.TheVariants.{ResultTooLarge}
 use Rattle.mm_join.specs.Caps.{cap_conditions}
-
-due_by : (b : Bool) (refusal : Refusal) → cond b (Some ResultTooLarge) None ≡ Some refusal → (b ≡ true) × (ResultTooLarge ≡ refusal)
-due_by true refusal e = (refl, cc)
-due_by false refusal e = cc
-
-none_by : (b : Bool) → cond b (Some ResultTooLarge) None ≡ None → b ≡ false
-none_by true e = cc
-none_by false e = refl
+use Rattle.mm_query.proofs.PlainEval.{due_by, none_by}
 
 module _ {X : Type 0} (cap : ℕ) (found : List X) where
   -- Nothing refuses just what is within the cap, ..

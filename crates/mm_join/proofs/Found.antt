@@ -1,5 +1,5 @@
 -- What a look-up by a value finds.
-use Rattle.std.proofs.Common.{◌≡◌, ℕ, ◌<◌, Bool, true, false, not, cond, List, [], ◌∷◌, ◌++◌, Option, Some, get_or, length, map, refl, sym, ap, ◌∙◌, subst}
+use Rattle.std.proofs.Common.{◌≡◌, ℕ, ◌<◌, Bool, true, false, cond, List, [], ◌∷◌, ◌++◌, Option, Some, get_or, length, map, refl, sym, ap, ◌∙◌, subst}
 use Rattle.std.proofs.Common.{arith}
 use Rattle.std.specs.Prelude.{◌==◌, ℤ, FitsSigned, pos}
 use Rattle.std.specs.Int.{w64}
@@ -204,10 +204,6 @@ finds_none stored column from number found all past empty = record {
 }
 
 -- ---- where no entry has a prefix
-
-pub false_from_not : (b : Bool) → not b ≡ true → b ≡ false
-false_from_not true e = cc
-false_from_not false e = refl
 
 -- Where no entry of a walk has the prefix of a value, no row has the value.
 pub none_along : (stored : StoredRows) (column : ℕ) (value : Value) (prefix : ℕ) (entries : List Entry) (walk : List RowRef) → IsPermutation walk stored.refs

@@ -1,8 +1,8 @@
 -- Prefixes stand along a column as the values do.
-use Rattle.std.proofs.Common.{◌≡◌, ◌≢◌, ℕ, ◌<◌, ◌≤◌, List, Option, None, Some, inl, inr, get_or, length, map, refl, sym, ap, ◌∙◌, subst, arith}
-use Rattle.std.specs.Prelude.{pos, slice_get}
+use Rattle.std.proofs.Common.{◌≡◌, ◌≢◌, ℕ, ◌+◌, ◌<◌, ◌≤◌, List, Option, None, Some, inl, inr, get_or, length, map, refl, sym, ap, ◌∙◌, subst, arith}
+use Rattle.std.proofs.Math.Nat.{min-le_left}
+use Rattle.std.specs.Prelude.{MatchOption, min, pos, slice_get}
 use Rattle.std.specs.Option.{option_map, unwrap_or}
-use Rattle.std.specs.Ordering.{ordering_then}
 use Rattle.std.specs.declared.cmp.Ordering.{Ordering}
 use Rattle.std.specs.declared.cmp.Ordering.TheVariants.{Less, Equal, Greater}
 use Rattle.std.proofs.lemmas.Bool.{cases_order}
@@ -24,6 +24,7 @@ use Rattle.mm_value.specs.declared.values.Value.{Value}
 use Rattle.mm_value.specs.declared.values.Value.TheVariants.{Int}
 use Rattle.mm_join.specs.Entries.{AreRising, entry_of}
 use Rattle.mm_join.specs.declared.entries.Entry.{Entry}
+use Rattle.mm_relation.proofs.Seeks.{then_less}
 
 -- ---- values
 
@@ -34,11 +35,6 @@ prefixes_rise v w Equal is not = let same : order_prefix v ≡ order_prefix w = 
 prefixes_rise v w Greater is not = absurd (not refl)
 
 -- ---- along a walk
-
-then_not_greater : (x y : Ordering) → ordering_then x y ≡ Less → x ≢ Greater
-then_not_greater Less y is = λ e. cc
-then_not_greater Equal y is = λ e. cc
-then_not_greater Greater y is = λ e. cc
 
 module _ (column key : ℕ) (slots : Slots) where
   -- the prefix of what the row has in the column
@@ -55,7 +51,7 @@ module _ (column key : ℕ) (slots : Slots) where
       let w = value_in column (row_at slots b) in
       let by_column : column_cmp column (row_at slots a) (row_at slots b) ≡ value_cmp v w = rw (has_there a in_a, has_there b in_b) refl in
       prefixes_rise v w (value_cmp v w) refl
-      (λ e. then_not_greater (column_cmp column (row_at slots a) (row_at slots b)) (column_cmp key (row_at slots a) (row_at slots b)) less (by_column ∙ e))
+      (λ e. then_less (column_cmp column (row_at slots a) (row_at slots b)) (column_cmp key (row_at slots a) (row_at slots b)) less (by_column ∙ e))
 
 -- The entries of a walk rise.
 pub walk_rises : (column : ℕ) (stored : StoredRows) (walk : List RowRef) → IsWalk column stored walk
@@ -98,3 +94,8 @@ prefix_read row column prefix has = read_from row column prefix (slice_get row c
 pub unwrapped : (o : Option Value) (prefix : ℕ) → option_map order_prefix o ≡ Some prefix → order_prefix (unwrap_or o (Int (pos 0))) ≡ prefix
 unwrapped None prefix is = cc
 unwrapped (Some v) prefix is = cc
+
+-- A prefix that was returned counts as one read.
+pub one_read : (most : ℕ) (prefix : Option ℕ) (before after : ℕ) → MatchOption prefix (after ≡ before) (λ p. after ≡ min (before + 1) most) → after ≤ before + 1
+one_read most None before after counted = omega (arith, counted)
+one_read most (Some p) before after counted = omega (arith, counted, min-le_left (before + 1) most)

@@ -1,9 +1,8 @@
 -- The row that a foreign key names is the only one with its key.
-use Rattle.std.proofs.Common.{◌≡◌, ℕ, zero, suc, ◌<◌, ◌&&◌, List, [], ◌∷◌, None, Some, get_or, length, map, refl, sym, ap, ◌∙◌, subst, arith}
+use Rattle.std.proofs.Common.{◌≡◌, ℕ, zero, suc, ◌<◌, List, [], ◌∷◌, None, Some, get_or, length, map, refl, sym, ap, ◌∙◌, subst, arith}
 use Rattle.std.specs.Prelude.{pos, slice_get}
 use Rattle.std.specs.List.{Contains}
 use Rattle.std.specs.List.Sorted.{IsPermutation}
-use Rattle.std.specs.Ordering.{is_eq, is_ge, is_le}
 use Rattle.std.specs.declared.cmp.Ordering.{Ordering}
 use Rattle.std.specs.declared.cmp.Ordering.TheVariants as ordering
 use Rattle.std.proofs.lemmas.List.Elements.{filter_agree}
@@ -30,15 +29,10 @@ use Rattle.mm_value.specs.declared.values.Value.{Value}
 use Rattle.mm_value.specs.declared.values.Value.TheVariants.{Int}
 use Rattle.mm_join.proofs.JoinKeys.{shifted_by_0}
 use Rattle.mm_join.proofs.Found.{finds_matches}
-use Rattle.mm_relation.proofs.OneKey.{one_of_key as range_of_key}
+use Rattle.mm_relation.proofs.OneKey.{one_of_key as range_of_key, not_apart}
 use Rattle.mm_join.specs.Equated.{HaveMatches, IsPartner, plain_key, sought}
 
 -- ---- the row of a key
-
-not_apart : (o : Ordering) → (is_ge o && is_le o) ≡ is_eq o
-not_apart ordering.Less = refl
-not_apart ordering.Equal = refl
-not_apart ordering.Greater = refl
 
 module _ (stored : StoredRows) (kept : IsKept stored.places.types stored.key (slot_at stored.places) stored.refs stored.indexes)
     (value : Value) (at : RowRef) (live : HasRow (slot_at stored.places) at) (own : slice_get (row_at (slot_at stored.places) at) stored.key ≡ Some value) where

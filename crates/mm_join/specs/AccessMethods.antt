@@ -80,9 +80,21 @@ listed (method.All refs) found = refs.items
 listed (method.Followed field) found = found
 listed (method.Sought look_up) found = found
 
+-- A count of reads, with one more for the prefix of a value that is looked up along a walk.
+abbrev pub and_prefix : Among → ℕ → ℕ
+and_prefix (among.Index index) reads = reads
+and_prefix (among.Built pairs) reads = reads
+and_prefix (among.Walk cursor) reads = 1 + reads
+
+-- A count of reads, with the prefix that the access method may read for a combination.
+abbrev pub with_prefix : AccessMethod → ℕ → ℕ
+with_prefix (method.All refs) reads = reads
+with_prefix (method.Followed field) reads = reads
+with_prefix (method.Sought look_up) reads = and_prefix look_up.among reads
+
 -- How many rows a join by the access method may read for a combination: its own, and those that are found.
 abbrev pub reads_along : AccessMethod → List (List Value) → List (List Value) → ℕ
-reads_along method rows combination = length combination + found_behind method rows combination
+reads_along method rows combination = with_prefix method (length combination + found_behind method rows combination)
 
 -- References of rows of a table, among them those of all that fit behind a combination, and no more than so many.
 pub record AreCandidates (store : Tables) (table : ℕ) (atoms : List (Atom FieldPlace)) (combination : List (List Value)) (most : ℕ)

@@ -38,6 +38,10 @@ has_prefix key rows row = order_prefix (value_in key.column row) == order_prefix
 abbrev pub reads_behind : (Partial → List Value → Bool) → List (List Value) → List (List Value) → ℕ
 reads_behind may_follow rows combination = length combination + count_by (may_follow (map Some combination)) rows
 
+-- For one combination of a merge: also the prefix of the value that is looked up.
+abbrev pub merge_reads : JoinKey → List (List Value) → List (List Value) → ℕ
+merge_reads key rows combination = 1 + reads_behind (has_prefix key) rows combination
+
 -- For each combination of the outer list that many.
 abbrev pub reads_of : Tables → Join → ℕ → (Partial → List Value → Bool) → ℕ
 reads_of store join table may_follow = sum_by (reads_behind may_follow (rows_at store.tables table)) (combo_rows store join.outer.now)

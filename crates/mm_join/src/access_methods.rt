@@ -1,9 +1,9 @@
 //! Access methods for the rows of the inner table that may stand behind a combination.
-ghost use Rattle.std.specs.Prelude.{◌≡◌, ℕ, ◌<◌, true, [], Contains, OnOk, Some, length, map, slice_index, slice_index_or};
+ghost use Rattle.std.specs.Prelude.{◌≤◌, ◌≡◌, ℕ, ◌<◌, true, [], Contains, OnOk, Some, length, map, slice_index, slice_index_or};
 ghost use Rattle.mm_partition.specs.Views.{viewed};
 ghost use Rattle.mm_query.specs.Queries.{rows_read};
 ghost use Rattle.mm_join.specs.Equated.{IsPartner};
-ghost use Rattle.mm_join.specs.AccessMethods.{AreCandidates, IsAccessMethod, found_behind, listed};
+ghost use Rattle.mm_join.specs.AccessMethods.{AreCandidates, IsAccessMethod, found_behind, listed, with_prefix};
 ghost use Rattle.mm_join.specs.declared.access_methods.AccessMethod.TheVariants.{Sought};
 ghost use Rattle.mm_partition.specs.Places.{IsLive};
 ghost use Rattle.mm_relation.specs.Kept.{StoredRows};
@@ -38,13 +38,15 @@ impl AccessMethod {
         AccessMethod::Sought(LookUp { among, key })
     }
 
-    /// Whether it is known with no look at a row that no row fits behind a combination.
-    pub fn has_none(&mut self, view: &View<'_>, _inner: &Inner<'_>, outer: Outer<'_>) -> bool
-        requires there { _inner.now.table < length view.now.store.tables }
-        requires live { AreLive view.now.store outer.tables.now outer.refs.now }
-        requires method { IsAccessMethod view.now.store outer.tables.now _inner.now self.old }
-        ensures none { result ≡ true → AreCandidates view.now.store _inner.now.table _inner.now.atoms.now
-            (rows_of_combo view.now.store outer.entry.tables.now outer.entry.refs.now) 0 [] }
+    /// Whether a prefix tells that no row fits behind a combination.
+    pub fn has_none(&mut self, view: &mut View<'_>, _inner: &Inner<'_>, outer: Outer<'_>) -> bool
+        requires there { _inner.now.table < length view.old.store.tables }
+        requires live { AreLive view.old.store outer.tables.now outer.refs.now }
+        requires method { IsAccessMethod view.old.store outer.tables.now _inner.now self.old }
+        ensures none { result ≡ true → AreCandidates view.old.store _inner.now.table _inner.now.atoms.now
+            (rows_of_combo view.old.store outer.entry.tables.now outer.entry.refs.now) 0 [] }
+        ensures reads { view.new.reads ≤ with_prefix self.old view.old.reads }
+        ensures store { view.new.store ≡ view.old.store }
         ensures same { self.new ≡ self.old }
     {
         match self {

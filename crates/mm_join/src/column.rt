@@ -35,7 +35,8 @@ pub(crate) fn hash_in(row: RowView<'_>, column: usize) -> u64
     hash64(&value_in(row, column))
 }
 
-/// The prefix of what the row of a reference of a table has in a column. The row is read only where its prefix is not kept.
+/// The prefix of what the row of a reference of a table has in a column. The row is read only if its prefix is not kept; either way
+/// one read is counted.
 pub(crate) fn prefix_there(view: &mut View<'_>, table: usize, column: usize, at: RowRef) -> u64
     requires there { table < length view.old.store.tables }
     requires live { (stored : StoredRows) → IsAt view.old.store table stored → IsLive stored.places at }

@@ -37,8 +37,8 @@ impl Model for Cursor {
 }
 
 impl Cursor {
-    /// At the front of the walk along a tree of a table, on a column. A row is read only where the prefixes of the column are not
-    /// kept. `AllocError` where memory is refused.
+    /// At the front of the walk along a tree of a table, on a column. Each row is read once, or its prefix in its place if the prefixes
+    /// of the column are kept. `AllocError` where memory is refused.
     pub fn new(
         alloc: Global,
         view: &mut View<'_>,

@@ -4,7 +4,7 @@ ghost use Rattle.std.specs.List.{sum_by};
 ghost use Rattle.mm_join.specs.Equated.{IsJoin, plain_key};
 ghost use Rattle.mm_join.specs.Joined.{IsNext};
 ghost use Rattle.mm_join.specs.Joins.{CanJoin, Joins};
-ghost use Rattle.mm_join.specs.Reads.{any_row, has_hash, has_prefix, has_sought, reads_of};
+ghost use Rattle.mm_join.specs.Reads.{any_row, has_hash, has_sought, merge_reads, reads_of};
 ghost use Rattle.mm_join.specs.AccessMethods.{IsAccessMethod, inner_of, reads_along};
 ghost use Rattle.mm_relation.specs.Kept.{StoredRows};
 ghost use Rattle.mm_store.specs.Links.{IsReference};
@@ -118,7 +118,7 @@ impl<'j, 'a> Join<'j, 'a> {
             → Joins view.old.store self.now table result }
         ensures reads { (table : ℕ) → IsNext view.old.store self.now.outer.now.tables self.now.descriptor.tables.now table
             → view.new.reads ≤ view.old.reads + length (rows_at view.old.store.tables table)
-            + reads_of view.old.store self.now table (has_prefix key) }
+            + sum_by (merge_reads key (rows_at view.old.store.tables table)) (combo_rows view.old.store self.now.outer.now) }
         ensures same { view.new.store ≡ view.old.store }
     {
         let cursor = Cursor::new(alloc, view, self.inner().table, index, key.column)?;

@@ -1,11 +1,11 @@
 //! Look-ups of the value that a key asks for.
-ghost use Rattle.std.specs.Prelude.{◌≡◌, ℕ, ◌+ℤ◌, ◌<◌, true, [], FitsSigned, IfSome, None, OnOk, Some, length, map, pos};
+ghost use Rattle.std.specs.Prelude.{◌+◌, ◌≤◌, ◌≡◌, ℕ, ◌+ℤ◌, ◌<◌, true, [], FitsSigned, IfSome, None, OnOk, Some, length, map, pos};
 ghost use Rattle.std.specs.Int.{w64};
 ghost use Rattle.std.specs.Option.{option_map, unwrap_or};
 ghost use Rattle.mm_value.specs.Views.{value_of};
 ghost use Rattle.mm_partition.specs.Views.{viewed};
 ghost use Rattle.mm_join.specs.Equated.{HaveMatches, added, sought};
-ghost use Rattle.mm_join.specs.AccessMethods.{Finds, IsAmong};
+ghost use Rattle.mm_join.specs.AccessMethods.{Finds, IsAmong, and_prefix};
 ghost use Rattle.mm_partition.specs.Places.{slot_at};
 ghost use Rattle.mm_query.specs.Queries.{rows_read, value_at};
 ghost use Rattle.mm_relation.specs.Kept.{StoredRows};
@@ -65,12 +65,14 @@ fn shifted_number(number: i64, shift: Shift) -> Option<i64>
     }
 }
 
-/// The prefix of the value of a field in the row of a combination, without a look at the row. None where it is not kept, or there
+/// The prefix of the value of a field in the row of a combination, which counts as one read. None if it is not kept, or if there
 /// is no such field.
-fn prefix_of_field(view: &View<'_>, outer: Outer<'_>, field: FieldPlace) -> Option<u64>
-    requires { AreLive view.now.store outer.tables.now outer.refs.now }
-    ensures { IfSome result (λ prefix.
-        option_map order_prefix (value_at (map Some (rows_of_combo view.now.store outer.entry.tables.now outer.entry.refs.now)) field) ≡ Some prefix) }
+fn prefix_of_field(view: &mut View<'_>, outer: Outer<'_>, field: FieldPlace) -> Option<u64>
+    requires { AreLive view.old.store outer.tables.now outer.refs.now }
+    ensures prefix { IfSome result (λ prefix.
+        option_map order_prefix (value_at (map Some (rows_of_combo view.old.store outer.entry.tables.now outer.entry.refs.now)) field) ≡ Some prefix) }
+    ensures reads { view.new.reads ≤ view.old.reads + 1 }
+    ensures same { view.new.store ≡ view.old.store }
 {
     if field.place >= outer.tables.len() {
         return None;
@@ -156,13 +158,15 @@ impl LookUp {
         }
     }
 
-    /// Whether it is known with no look at a row that no row has, in the key's column, the value that it asks for behind a
-    /// combination. Along a walk prefixes mostly tell, where the key asks for a field's own value.
-    pub fn has_none(&mut self, view: &View<'_>, outer: Outer<'_>) -> bool
-        requires live { AreLive view.now.store outer.tables.now outer.refs.now }
+    /// Whether a prefix tells that no row has, in the key's column, the value that it asks for behind a combination. Along a walk it
+    /// mostly does, if the key asks for a field's own value.
+    pub fn has_none(&mut self, view: &mut View<'_>, outer: Outer<'_>) -> bool
+        requires live { AreLive view.old.store outer.tables.now outer.refs.now }
         ensures none { result ≡ true → (stored : StoredRows) → IsAmong stored self.old.key.column self.old.among
             → HaveMatches self.old.key.column (slot_at stored.places)
-            (sought self.old.key (map Some (rows_of_combo view.now.store outer.entry.tables.now outer.entry.refs.now))) stored.refs [] }
+            (sought self.old.key (map Some (rows_of_combo view.old.store outer.entry.tables.now outer.entry.refs.now))) stored.refs [] }
+        ensures reads { view.new.reads ≤ and_prefix self.old.among view.old.reads }
+        ensures store { view.new.store ≡ view.old.store }
         ensures same { self.new ≡ self.old }
     {
         if !self.key.shift.adds_nothing() {

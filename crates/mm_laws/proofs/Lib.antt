@@ -14,7 +14,7 @@ pub mod SortedRows
 pub mod StandingQueries
 pub mod StillFound
 pub mod Throughout
-mod Transactions
+pub mod Transactions
 mod TypedAssignments
 pub mod TypedChanges
 pub mod TypedDefinitions

@@ -131,7 +131,7 @@ bag_counted query lists row = each_counted query row (combinations lists)
 
 -- ---- one of each row
 
-same_from : (a b : List Value) → same_row a b ≡ true → a ≡ b
+pub same_from : (a b : List Value) → same_row a b ≡ true → a ≡ b
 same_from a b same = row_cmp_exact a b (equal_from_is_eq (row_cmp a b) same)
 
 same_back : (a b : List Value) → same_row a b ≡ same_row b a

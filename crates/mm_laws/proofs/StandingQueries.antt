@@ -16,7 +16,7 @@ use Rattle.mm_schema.specs.declared.column.Column.{Column}
 use Rattle.mm_schema.specs.declared.standing.StandingDef.{StandingDef}
 use Rattle.mm_schema.specs.declared.table.Table.{Table}
 use Rattle.mm_schema.specs.declared.table.TableDef.{TableDef}
-use Rattle.mm_schema.proofs.Dues.{none_due_behind}
+use Rattle.mm_schema.proofs.Dues.{none_due_behind, none_here}
 use Rattle.mm_schema.proofs.NameLemmas.{same_bytes, same_name_refl}
 use Rattle.mm_schema.proofs.References.{as_there, first_none, same_with, same_without, second_none, there_behind, there_still}
 use Rattle.mm_value.specs.declared.refusal.Refusal.TheVariants.{AliasTaken, NoSuchAlias, NoSuchColumn, NoSuchTable, NotInTransaction, StandingListTooLarge}
@@ -45,7 +45,7 @@ use Rattle.mm_laws.proofs.KeyOrder.{none_due_by_rows}
 use Rattle.mm_laws.proofs.NamedRows.{rows_of_others, table_behind, table_left, told_kept}
 use Rattle.mm_query.proofs.PlacedQueries.{none_hold, query_within}
 use Rattle.mm_laws.proofs.QueryLaws.{shown_permutation, shown_sorted}
-use Rattle.mm_laws.proofs.Throughout.{kept_by_step, none_later}
+use Rattle.mm_laws.proofs.Throughout.{kept_by_step}
 
 -- ---- queries over another catalog
 
@@ -277,7 +277,7 @@ watched_by_command : (command : Command) (state : State) → first_refusal (cond
 watched_by_command Nothing state due is = is
 watched_by_command (Define definition) state due is =
     watched_by_definition definition state
-    (none_later (has_transaction state && not (is_of_index definition)) NotInTransaction (first_refusal (definition_conditions definition state)) due) is
+    (none_here (has_transaction state && not (is_of_index definition)) NotInTransaction (first_refusal (definition_conditions definition state)) due) is
 watched_by_command (Change mutation) state due is = is
 watched_by_command (Scan table) state due is = is
 watched_by_command (ScanIndex index) state due is = is

@@ -20,6 +20,7 @@ use Rattle.mm_query.specs.declared.command.Command.TheVariants.{Rollback, Savepo
 use Rattle.mm_query.specs.declared.command.Definition.{Definition}
 use Rattle.mm_query.specs.declared.command.Definition.TheVariants as define
 use Rattle.mm_query.specs.declared.command.Mutation.{Mutation}
+use Rattle.mm_schema.proofs.Dues.{none_here}
 
 -- ---- steps
 
@@ -60,11 +61,6 @@ saved_by_definition (define.Index index) state = refl
 saved_by_definition (define.DropIndex name) state = refl
 saved_by_definition (define.Watch watched) state = refl
 saved_by_definition (define.Unwatch name) state = refl
-
--- Where nothing is refused, nothing is by what comes later.
-pub none_later : (b : Bool) (refusal : Refusal) (rest : Option Refusal) → cond b (Some refusal) rest ≡ None → rest ≡ None
-none_later true refusal rest due = absurd (cc)
-none_later false refusal rest due = due
 
 -- A change of the catalog that nothing refuses is made outside a transaction, or concerns an index alone.
 pub closed_or_of_index : (is_open of_index : Bool) (refusal : Refusal) (rest : Option Refusal) → cond (is_open && not of_index) (Some refusal) rest ≡ None
@@ -149,7 +145,7 @@ module _ (P : Schema → Instance → Type 0)
   held_by_definition definition state due held = record { rows = by_definition definition state later held.rows; saved = by where_done }
     where
       later : first_refusal (definition_conditions definition state) ≡ None
-      later = none_later (has_transaction state && not (is_of_index definition)) NotInTransaction (first_refusal (definition_conditions definition state)) due
+      later = none_here (has_transaction state && not (is_of_index definition)) NotInTransaction (first_refusal (definition_conditions definition state)) due
 
       where_done : (has_transaction state ≡ false) ⊎ (is_of_index definition ≡ true)
       where_done = closed_or_of_index (has_transaction state) (is_of_index definition) NotInTransaction

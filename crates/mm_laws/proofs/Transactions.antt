@@ -28,6 +28,7 @@ use Rattle.mm_query.specs.declared.command.Mutation.TheVariants.{Insert, Update,
 use Rattle.mm_query.specs.declared.reply.Reply.TheVariants.{Refused}
 use Rattle.mm_query.proofs.Due.{step-done, step-refused}
 use Rattle.mm_laws.proofs.Throughout.{closed_or_of_index, kept_by_step, none_saved, saved_by_definition}
+use Rattle.mm_schema.proofs.ChangedRows.{not_true}
 
 -- ---- inside a transaction
 
@@ -202,17 +203,13 @@ module _ (state : State) (closed : has_transaction state ≡ false) where
 
 -- ---- behind a savepoint
 
-open_saved : (saved : Option Saved) → is_some saved ≡ true → (kept : Saved) × (saved ≡ Some kept)
+pub open_saved : (saved : Option Saved) → is_some saved ≡ true → (kept : Saved) × (saved ≡ Some kept)
 open_saved None is = absurd (false≢true is)
 open_saved (Some saved) is = (saved, refl)
 
 not_false : (b : Bool) → not b ≡ false → b ≡ true
 not_false true is = refl
 not_false false is = absurd (false≢true (sym is))
-
-not_true : (b : Bool) → not b ≡ true → b ≡ false
-not_true true is = absurd (false≢true is)
-not_true false is = refl
 
 module _ (name : List ℕ) where
   -- what going back to the name leaves saved

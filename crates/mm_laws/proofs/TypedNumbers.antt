@@ -18,7 +18,7 @@ use Rattle.mm_query.specs.declared.atom.Operand.TheVariants as operand
 use Rattle.mm_query.specs.declared.bound_query.BoundQuery.{BoundQuery}
 use Rattle.mm_query.specs.declared.bound_query.FieldPlace.{FieldPlace}
 use Rattle.mm_query.specs.declared.query.FromItem.{FromItem}
-use Rattle.mm_relevance.specs.Relevance.{AddsToNumber, AddsToNumbers, is_text}
+use Rattle.mm_query.specs.Additions.{AddsToNumber, AddsToNumbers, is_text}
 use Rattle.mm_laws.specs.Typing.{AreTyped, HasTypes, ShiftsNumber, ShiftsNumbers}
 use Rattle.mm_laws.proofs.TypedRows.{value_typed}
 use Rattle.mm_laws.proofs.TypedTables.{named_typed}

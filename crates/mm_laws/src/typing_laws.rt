@@ -13,7 +13,7 @@ ghost use Rattle.mm_query.specs.declared.command.Command.{Command};
 ghost use Rattle.mm_query.specs.declared.command.Definition.{Definition};
 ghost use Rattle.mm_query.specs.declared.command.Mutation.{Mutation};
 ghost use Rattle.mm_query.specs.declared.query.FromItem.{FromItem};
-ghost use Rattle.mm_relevance.specs.Relevance.{AddsToNumbers};
+ghost use Rattle.mm_query.specs.Additions.{AddsToNumbers};
 ghost use Rattle.mm_laws.specs.Typing.{AreTyped, IsTyped, ShiftsNumbers};
 
 /// All rows have the types of their columns, also the saved ones, and the standing queries add numbers only to columns of whole

@@ -26,6 +26,8 @@ use Rattle.mm_store.specs.Looked.{IsFirstSuch, IsHash, IsTree, created_before}
 use Rattle.mm_store.specs.Tables.{IsAt, Tables, key_at}
 use Rattle.mm_store.specs.declared.index_ref.IndexRef.{IndexRef}
 use Rattle.mm_store.specs.declared.index_ref.IndexRef.TheVariants.{Key, Tree, Hash}
+use Rattle.mm_relation.proofs.Served.{same_kind_told, same_kind_itself}
+use Rattle.mm_store.proofs.Referring.{agree}
 
 -- ---- the index that was created first
 
@@ -56,16 +58,6 @@ hashes_apart (Tree place) b first other same = absurd first
 hashes_apart (Hash place) Key first other same = absurd other
 hashes_apart (Hash place) (Tree further) first other same = absurd other
 hashes_apart (Hash place) (Hash further) first other same = let is : place ≡ further = omega (arith, same) in ap Hash is
-
-same_kind_told : (a b : IndexKind) → same_kind a b ≡ true → a ≡ b
-same_kind_told kind.Tree kind.Tree is = refl
-same_kind_told kind.Tree kind.Hash is = cc
-same_kind_told kind.Hash kind.Tree is = cc
-same_kind_told kind.Hash kind.Hash is = refl
-
-same_kind_itself : (a : IndexKind) → same_kind a a ≡ true
-same_kind_itself kind.Tree = refl
-same_kind_itself kind.Hash = refl
 
 any_of : {X : Type 0} (xs : List X) (place : ℕ) → place < length xs → X
 any_of [] place within = absurd (omega arith)
@@ -175,11 +167,6 @@ module _ (store : Tables) (table : ℕ) (within : table < length store.tables) w
 
 -- ---- references
 
-same_bool : (a b : Bool) → (a ≡ true → b ≡ true) → (b ≡ true → a ≡ true) → a ≡ b
-same_bool true b along back = sym (along refl)
-same_bool false true along back = back refl
-same_bool false false along back = refl
-
 -- The test of a reference tells what it is to tell, ..
 pub refers_told : (store : Tables) (from column to : ℕ) → refers_only store (record { from = from; column = column; to = to }) ≡ true
     → IsReference store.links from column to
@@ -191,7 +178,7 @@ pub refers_is : (store : Tables) (from column to : ℕ) (b : Bool) → (IsTrue b
     → b ≡ refers_only store (record { from = from; column = column; to = to })
 refers_is store from column to b told =
     let own = tells_only store.links from column to (refers_only store (record { from = from; column = column; to = to })) refl in
-    same_bool b (refers_only store (record { from = from; column = column; to = to })) (λ is. own.1 (told.0 is)) (λ is. told.1 (own.0 is))
+    agree b (refers_only store (record { from = from; column = column; to = to })) (λ is. own.1 (told.0 is)) (λ is. told.1 (own.0 is))
 
 -- ---- keys that are referred to
 

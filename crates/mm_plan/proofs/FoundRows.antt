@@ -1,5 +1,5 @@
 -- The references of the rows of one table that meet atoms.
-use Rattle.std.proofs.Common.{◌≡◌, ℕ, Bool, true, false, List, [], ◌∷◌, Some, length, get_or, refl, sym, ap, ◌∙◌, subst}
+use Rattle.std.proofs.Common.{◌≡◌, ℕ, Bool, List, [], ◌∷◌, Some, length, get_or, refl, sym, ap, ◌∙◌, subst}
 use Rattle.std.specs.List.{count_by, filter, list_any}
 use Rattle.std.specs.List.Sorted.{IsPermutation}
 use Rattle.std.specs.Option.{option_map_or}
@@ -29,14 +29,10 @@ use Rattle.mm_select.specs.declared.access.Access.{Access}
 use Rattle.mm_store.specs.Tables.{IsAt, Tables, rows_at}
 use Rattle.mm_value.specs.declared.row_ref.RowRef.{RowRef}
 use Rattle.mm_value.specs.declared.values.Value.{Value}
+use Rattle.mm_store.proofs.Referring.{agree}
 
 moved : (xs ys : List RowRef) → IsPermutation xs ys → (x : RowRef) → IsIn x xs → IsIn x ys
 moved xs ys there x here = IsIn-from_Contains ys x (Contains-permutation xs ys x there (Contains-from_IsIn xs x here))
-
-same_tests : (a b : Bool) → (a ≡ true → b ≡ true) → (b ≡ true → a ≡ true) → a ≡ b
-same_tests true b there back = sym (there refl)
-same_tests false true there back = back refl
-same_tests false false there back = refl
 
 -- The references of a relation among some are those that pass a test, where these are.
 among_passing : (p : RowRef → Bool) (refs : List RowRef) (stored : StoredRows) → IsPermutation refs (filter p stored.refs)
@@ -47,7 +43,7 @@ among_passing p refs stored same =
     (λ k d within.
     let x : RowRef = get_or stored.refs k d in
     let there : IsIn x stored.refs = IsIn-from_Contains stored.refs x (Contains-get_or stored.refs k d within) in
-    same_tests (list_any (same_ref x) refs) (p x)
+    agree (list_any (same_ref x) refs) (p x)
     (λ some.
     let (y, in_refs, is) = some_among (same_ref x) refs some in
     ap p (same_from_test x y is) ∙ from_filter p stored.refs y (moved refs passing same y in_refs))

@@ -1,12 +1,12 @@
 -- Keys that the steps of a plan go by.
-use Rattle.std.proofs.Common.{◌≡◌, ◌<◌, ℕ, Bool, true, List, Option, Some, get_or, length, sym, ap, ◌∙◌, subst}
+use Rattle.std.proofs.Common.{◌≡◌, ◌+◌, ◌<◌, ℕ, Bool, true, List, Option, Some, get_or, length, sym, ap, ◌∙◌, subst}
 use Rattle.std.proofs.lemmas.Option.{get_or_from_slice_get, same_Some, slice_get_within}
 use Rattle.std.specs.List.{sum_by}
 use Rattle.std.specs.Option.{option_and_then, option_map_or}
 use Rattle.std.specs.Prelude.{slice_get, slice_index}
 use Rattle.mm_join.specs.Equated.{IsJoin, plain_key}
 use Rattle.mm_join.specs.Keys.{key_of}
-use Rattle.mm_join.specs.Reads.{reads_behind}
+use Rattle.mm_join.specs.Reads.{has_prefix, merge_reads, reads_behind}
 use Rattle.mm_join.specs.declared.key.JoinKey.{JoinKey}
 use Rattle.mm_plan.proofs.Referred.{unshifted}
 use Rattle.mm_plan.specs.Naming.{key_by}
@@ -42,6 +42,12 @@ module _ (atoms : List (Atom FieldPlace)) (place atom : ℕ) (key : JoinKey) (is
       → sum_by (reads_behind (λ seen row. passes_key (λ k. follow k seen row) atoms place atom) rows) outers
       ≡ sum_by (reads_behind (follow key) rows) outers
   reads_by_key follow rows outers = λ i. sum_by (reads_behind (λ seen row. passed_key (λ k. follow k seen row) i) rows) outers
+
+  -- So it is in a merge, which looks at a prefix of each combination as well.
+  pub merge_reads_by_key : (rows : List (List Value)) (outers : List (List (List Value)))
+      → sum_by (λ combination. 1 + reads_behind (λ seen row. passes_key (λ k. has_prefix k seen row) atoms place atom) rows combination) outers
+      ≡ sum_by (merge_reads key rows) outers
+  merge_reads_by_key rows outers = λ i. sum_by (λ combination. 1 + reads_behind (λ seen row. passed_key (λ k. has_prefix k seen row) i) rows combination) outers
 
 -- An atom with a key of which something holds has one.
 pub any_key : (atoms : List (Atom FieldPlace)) (place atom : ℕ) (Holds : JoinKey → Type 0) → HasKey atoms place atom Holds

@@ -22,10 +22,7 @@ use Rattle.mm_select.specs.Accesses.{lies_between}
 use Rattle.mm_select.specs.Asked.{IsHigh, IsLow, compares}
 use Rattle.mm_store.specs.declared.index_ref.IndexRef.{IndexRef}
 use Rattle.mm_value.specs.declared.values.Value.{Value}
-
-not_true : (b : Bool) → not b ≡ true → b ≡ false
-not_true false is = refl
-not_true true is = sym is
+use Rattle.mm_schema.proofs.ChangedRows.{not_true}
 
 literal_is : (right : Operand FieldPlace) (value : Value) → literal_of right ≡ Some value → right ≡ Literal value
 literal_is (Literal v) value is = ap Literal (same_Some v value is)

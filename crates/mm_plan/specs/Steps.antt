@@ -116,9 +116,11 @@ may_look atoms place (step.BuiltHash atom) rows row = passes_key (λ key. has_ha
 may_look atoms place _ rows row = true
 
 -- How many rows the step may look at for each combination of the tables before its own: those of the combination, and of its own table
--- those that may follow them; along a foreign key there is one.
+-- those that may follow them; along a foreign key there is one. A merge looks at a prefix of the combination as well.
 abbrev pub reads_each : List (Atom FieldPlace) → ℕ → Step → List (List Value) → List (List Value) → ℕ
 reads_each atoms place (step.Precomputed atom) rows combination = length combination + 1
+reads_each atoms place (step.TreeMerge outer inner atom) rows combination =
+    1 + reads_behind (may_look atoms place (step.TreeMerge outer inner atom)) rows combination
 reads_each atoms place own rows combination = reads_behind (may_look atoms place own) rows combination
 
 -- How many it may look at once more, whatever stands before its table: each row, for a hash table that is built or a walk along a tree.

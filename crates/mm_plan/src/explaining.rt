@@ -39,8 +39,8 @@ pub fn explain(
     names.lines(alloc, query.atoms.as_slice(), steps.as_slice())
 }
 
-/// Just one column of each table is its key. The call does nothing.
-fn have_one_key(catalog: &Catalog)
+/// Law: exactly one column of each table of a catalog is its key. The call does nothing.
+pub fn have_one_key(catalog: &Catalog)
     ensures { HaveOneKey catalog.now.tables }
 {
     let tables = catalog.tables();

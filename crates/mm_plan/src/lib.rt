@@ -19,7 +19,7 @@ mod run;
 mod step;
 
 pub use choosing::plan_steps;
-pub use explaining::explain;
+pub use explaining::{explain, have_one_key};
 pub use finding::{find_rows, in_key_order};
 pub use laws::{
     join_equalities_ask_for_earlier_values, nested_loops_are_for_no_join_equality,

@@ -37,13 +37,13 @@ pub fn selections_of_four_rows_read_0_to_4()
 
 /// A worked example. The rows of `t` have the keys 1, 2 and 4, and those of `u` refer to 1, 1, 4 and 2.
 /// `SELECT a.id, b.id FROM t a, u b WHERE b.k = a.id` reads the 3 rows of `t` first. Nested loops read 5 more for each of them, its own
-/// and all of `u`, so 18 in all. Along an index each is read once more with its partners, so 10 in all. A merge of two trees, and a hash
-/// table that is built, read each row of `u` once more, so 14 in all.
+/// and all of `u`, so 18 in all. Along an index each is read once more with its partners, so 10 in all. A hash table that is built
+/// reads each row of `u` once more, so 14 in all, and so does a merge of two trees, which also reads a prefix of each row of `t`, so 17.
 pub fn joins_of_three_rows_and_four_read_10_to_18()
     ensures nested_loops { reads_from_t NestedLoops ≡ 18 }
     ensures tree { (index : IndexRef) → reads_from_t (TreeJoin index 0) ≡ 10 }
     ensures hash { (index : IndexRef) → reads_from_t (HashJoin index 0) ≡ 10 }
-    ensures merge { (outer inner : IndexRef) → reads_from_t (TreeMerge outer inner 0) ≡ 14 }
+    ensures merge { (outer inner : IndexRef) → reads_from_t (TreeMerge outer inner 0) ≡ 17 }
     ensures built_hash { reads_from_t (BuiltHash 0) ≡ 14 }
 {}
 

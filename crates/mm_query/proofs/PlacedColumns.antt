@@ -1,5 +1,5 @@
 -- Changes whose columns were resolved against their table.
-use Rattle.std.proofs.Common.{◌≡◌, ℕ, Bool, true, false, cond, List, [], Option, Some, None, length, map, nat_lt, slice_get, refl, sym, ap, subst, ◌∙◌}
+use Rattle.std.proofs.Common.{◌≡◌, ℕ, false, cond, List, [], Option, Some, None, length, map, nat_lt, slice_get, sym, ap, subst, ◌∙◌}
 use Rattle.std.specs.List.{list_any}
 use Rattle.std.specs.Option.{option_map_or}
 use Rattle.std.proofs.lemmas.Bool.{or_parts}
@@ -20,6 +20,7 @@ use Rattle.mm_query.specs.declared.bound_query.FieldPlace.{FieldPlace}
 use Rattle.mm_query.specs.declared.faults.Faults.{Faults}
 use Rattle.mm_query.proofs.Due.{lacks_nowhere, not_lacking}
 use Rattle.mm_query.proofs.Within.{assignments_within, tests_within}
+use Rattle.mm_schema.proofs.References.{first_none}
 
 -- what refuses an UPDATE or a DELETE by the catalog
 abbrev due_of : List ℕ → Schema → List (Assignment (List ℕ)) → List (Atom (List ℕ)) → Option Refusal
@@ -31,10 +32,6 @@ pub refused_nowhere : (name : List ℕ) (schema : Schema) (assignments : List (A
     → table_place name schema ≡ None → due_of name schema assignments tests ≡ Some NoSuchTable
 refused_nowhere name schema assignments tests nowhere =
     ap (λ b. cond b (Some NoSuchTable) (first_refusal (column_conditions (columns_named name schema) assignments tests))) (lacks_nowhere name schema nowhere)
-
-first_none : (b : Bool) (refusal : Refusal) (rest : Option Refusal) → cond b (Some refusal) rest ≡ None → b ≡ false
-first_none true refusal rest h = cc
-first_none false refusal rest h = refl
 
 -- No column is missing where nothing is refused.
 pub none_missing : (columns : List Column) (assignments : List (Assignment (List ℕ))) (tests : List (Atom (List ℕ)))

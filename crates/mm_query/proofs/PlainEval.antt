@@ -1,5 +1,5 @@
 -- What the plain evaluation finds is the bag of the query.
-use Rattle.std.proofs.Common.{◌≡◌, ℕ, ◌+◌, ◌≤◌, ◌<◌, Bool, true, false, cond, List, [], ◌∷◌, ◌++◌, Option, Some, None, get_or, length, map, nat_lt, take, Bor}
+use Rattle.std.proofs.Common.{◌≡◌, ℕ, ◌+◌, ◌≤◌, ◌<◌, Bool, true, false, cond, List, [], ◌∷◌, ◌++◌, Option, Some, None, get_or, length, map, nat_lt, take}
 use Rattle.std.proofs.Common.{refl, sym, ap, ◌∙◌, arith, append_assoc}
 use Rattle.std.specs.List.{filter, flat_map}
 use Rattle.std.specs.Option.{option_map}
@@ -77,11 +77,11 @@ module _ (query : BoundQuery) where
 
 -- ---- its size
 
-due_by : (b : Bool) (refusal : Refusal) → cond b (Some ResultTooLarge) None ≡ Some refusal → (b ≡ true) × (ResultTooLarge ≡ refusal)
+pub due_by : (b : Bool) (refusal : Refusal) → cond b (Some ResultTooLarge) None ≡ Some refusal → (b ≡ true) × (ResultTooLarge ≡ refusal)
 due_by true refusal e = (refl, cc)
 due_by false refusal e = cc
 
-none_by : (b : Bool) → cond b (Some ResultTooLarge) None ≡ None → b ≡ false
+pub none_by : (b : Bool) → cond b (Some ResultTooLarge) None ≡ None → b ≡ false
 none_by true e = cc
 none_by false e = refl
 

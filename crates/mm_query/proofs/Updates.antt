@@ -30,7 +30,7 @@ due_some : (b : Bool) (due refusal : Refusal) → cond b (Some due) None ≡ Som
 due_some true due refusal e = refl
 due_some false due refusal e = cc
 
-or_false : (a b : Bool) → a ≡ false → b ≡ false → (a || b) ≡ false
+pub or_false : (a b : Bool) → a ≡ false → b ≡ false → (a || b) ≡ false
 or_false a b e h = cc
 
 or_true : (a b c : Bool) → (b || false) ≡ true → (a || (b || c)) ≡ true

@@ -1,3 +1,4 @@
+pub mod Additions
 pub mod Atoms
 pub mod Binding
 pub mod Buffers

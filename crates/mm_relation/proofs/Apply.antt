@@ -25,7 +25,6 @@ use Rattle.mm_relation.specs.declared.log.UndoRecord.{UndoRecord}
 use Rattle.mm_relation.specs.declared.edits.Edit.{Edit}
 use Rattle.mm_relation.specs.declared.indexes.index.Index.{Index}
 use Rattle.mm_relation.specs.declared.indexes.names.Side.TheVariants.{Old, New}
-use Rattle.mm_relation.proofs.RefTests.{only}
 use Rattle.mm_relation.proofs.Steps.{refs_cancel}
 use Rattle.mm_relation.proofs.Changed.{olds, row_stays, new_rows_stand, rows_from}
 use Rattle.mm_relation.proofs.Came.{news, came, length_same, live_from}
@@ -35,6 +34,7 @@ use Rattle.mm_relation.proofs.Phase as phase
 use Rattle.mm_relation.proofs.Phase.{split_outs, keep_outs, wide_outs, stays, wide_ins}
 use Rattle.mm_relation.proofs.Unmoved.{EditsPaired, EditsPaired-changes}
 use Rattle.mm_relation.proofs.WaysBack.{fresh, news_apart}
+use Rattle.mm_order.proofs.Unique.{only}
 
 -- a new row has the types of the columns
 typed_there : (types : List ColType) (new : Slots) (names : List RowRef) (rows : List (List Value)) → map new names ≡ map Live rows → All (HasTypes types) rows

@@ -15,8 +15,9 @@ use Rattle.mm_relation.specs.declared.log.UndoRecord.TheVariants.{Added, Changed
 use Rattle.mm_relation.specs.declared.edits.Edit.{Edit}
 use Rattle.mm_relation.specs.declared.edits.Edit.TheVariants.{Add, Swap, Gone}
 use Rattle.mm_relation.specs.declared.indexes.names.Side.TheVariants.{New}
-use Rattle.mm_relation.proofs.RefTests.{same_or_apart, only}
+use Rattle.mm_relation.proofs.RefTests.{same_or_apart}
 use Rattle.mm_relation.proofs.Changed.{olds, olds_split, single}
+use Rattle.mm_order.proofs.Unique.{only}
 
 abbrev pub news : List UndoRecord → List RowRef
 news ns = named record_name New ns

@@ -14,9 +14,10 @@ use Rattle.std.proofs.lemmas.List.Folds.{list_any_none, list_any_at, list_any-ap
 use Rattle.std.proofs.lemmas.List.Sorted.{searchable_from_sorted, list_any-IsPermutation, IsPermutation-append_left}
 use Rattle.mm_value.specs.declared.row_ref.RowRef.{RowRef}
 use Rattle.mm_schema.specs.Rows.{column_cmp, same_in_column, has_duplicate_keys}
-use Rattle.mm_schema.proofs.Orderings.{equal_from_is_eq, less_from_is_lt}
+use Rattle.mm_schema.proofs.Orderings.{less_from_is_lt}
 use Rattle.mm_schema.proofs.StrictOrder.{IsStrictlySortedBy-nil, IsStrictlySortedBy-cons, IsStrictlySortedBy-before}
-use Rattle.mm_schema.proofs.Duplicates.{Row, column_cmp_total, same_in_column_comm, has_duplicate_keys-IsPermutation, no_duplicates_in_order}
+use Rattle.mm_schema.proofs.Duplicates.{Row, column_cmp_total, same_in_column_comm, has_duplicate_keys-IsPermutation}
+use Rattle.mm_schema.proofs.Duplicates.{no_duplicates_in_order, alike, list_any-agree}
 use Rattle.mm_relation.specs.Refs.{Slots, row_at, refs_by}
 use Rattle.mm_relation.specs.Index.{InOrder}
 use Rattle.mm_relation.specs.Kept.{RowsApart}
@@ -49,14 +50,6 @@ duplicates_together key (x ∷ xs) ys =
     ∙ ap (λ b. (list_any (same_in_column key x) xs || list_any (same_in_column key x) ys) || b) (duplicates_together key xs ys)
     ∙ regrouped (list_any (same_in_column key x) xs) (list_any (same_in_column key x) ys) (has_duplicate_keys key xs) (has_duplicate_keys key ys)
     (meet key xs ys)
-
-list_any-agree : {X : Type 0} (p q : X → Bool) → ((x : X) → p x ≡ q x) → (xs : List X) → list_any p xs ≡ list_any q xs
-list_any-agree p q same [] = refl
-list_any-agree p q same (x ∷ xs) = ap (λ b. b || list_any p xs) (same x) ∙ ap (λ b. q x || b) (list_any-agree p q same xs)
-
--- rows with one key are like the same rows
-alike : (key : ℕ) (a b c : Row) → same_in_column key a b ≡ true → same_in_column key a c ≡ same_in_column key b c
-alike key a b c same = ap is_eq ((column_cmp_total key).congr a b c (equal_from_is_eq (column_cmp key a b) same))
 
 -- where two lists don't meet, the key of a row is in one of them at most
 in_one : (key : ℕ) (row : Row) (xs ys : List Row) → meet key xs ys ≡ false → list_any (same_in_column key row) xs ≡ true

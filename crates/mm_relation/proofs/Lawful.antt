@@ -16,7 +16,7 @@ use Rattle.mm_relation.proofs.RowLists.{KeysApart-ordered}
 use Rattle.mm_relation.proofs.Steps.{keys_turn}
 
 -- of references with keys apart, two of one key are one
-one_of_key : (key : ℕ) (now : Slots) (refs : List RowRef) → KeysApart key now refs → (a b : RowRef) → Contains refs a → Contains refs b
+pub one_of_key : (key : ℕ) (now : Slots) (refs : List RowRef) → KeysApart key now refs → (a b : RowRef) → Contains refs a → Contains refs b
     → column_cmp key (row_at now a) (row_at now b) ≡ Equal → a ≡ b
 one_of_key key now refs apart a b at_a at_b tie =
     let is_a : get_or refs at_a.0 a ≡ a = at_a.2 in

@@ -19,7 +19,7 @@ pub mod Removed
 pub mod Rooms
 pub mod RowLists
 pub mod Seeks
-mod Served
+pub mod Served
 pub mod SortedRows
 pub mod Staying
 pub mod Steps

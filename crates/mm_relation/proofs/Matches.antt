@@ -3,14 +3,11 @@ use Rattle.std.proofs.Common.{◌≡◌, ℕ, suc, ◌+◌, ◌<◌, ◌≤◌, 
 use Rattle.std.proofs.Common.{refl, sym, ap, ◌∙◌, subst, append_assoc, add-one, arith}
 use Rattle.std.specs.Prelude.{◌==◌, map, slice_get, slice_set, IsPermutation}
 use Rattle.std.specs.List.{All, filter}
-use Rattle.std.specs.Ordering.{is_eq}
 use Rattle.std.proofs.Math.Seq.{drop-cons}
 use Rattle.std.proofs.lemmas.Bool.{eq-eqb}
 use Rattle.std.proofs.lemmas.List.{append-nil, length-append, take_more_set, drop-set-lt, length-set}
 use Rattle.std.proofs.lemmas.List.Elements.{All-head, All-tail, All-filter, filter-append}
 use Rattle.std.proofs.lemmas.List.Sorted.{IsPermutation-trans, IsPermutation-sym, IsPermutation-map, All-permutation}
-use Rattle.std.specs.declared.cmp.Ordering.{Ordering}
-use Rattle.std.specs.declared.cmp.Ordering.TheVariants.{Less, Equal, Greater}
 use Rattle.mm_value.specs.Hash.{value_hash}
 use Rattle.mm_value.specs.declared.row_ref.RowRef.{RowRef}
 use Rattle.mm_value.specs.declared.values.Value.{Value}
@@ -22,6 +19,7 @@ use Rattle.mm_relation.specs.Reads.{has_value}
 use Rattle.mm_relation.proofs.Bags.{IsPermutation-filter}
 use Rattle.mm_relation.proofs.RefTests.{same_from_test, test_from_same, same_pair, pair_from_test, pair_itself}
 use Rattle.mm_relation.proofs.Seeks.{place_exact}
+use Rattle.mm_schema.proofs.Orderings.{equal_from_is_eq}
 
 -- so far some are kept of those from a place on, and these are left
 pub record Keeping {X : Type 0} (p : X → Bool) (P : X → Type 0) (from : ℕ) (old out : List X) (kept i : ℕ) : Type 0 where
@@ -116,17 +114,12 @@ module _ {X : Type 0} (p u : X → Bool) (implies : (x : X) → p x ≡ true →
 abbrev pub has_hash : ℕ → Slots → ℕ → RowRef → Bool
 has_hash column now hash at = hash_of (slice_get (row_at now at) column) == hash
 
-equal_from_test : (o : Ordering) → is_eq o ≡ true → o ≡ Equal
-equal_from_test Less e = cc
-equal_from_test Equal e = refl
-equal_from_test Greater e = cc
-
 -- equal values have one hash
 pub hash_from_value : (column : ℕ) (now : Slots) (value : Value) (at : RowRef) → has_value column now value at ≡ true
     → has_hash column now (value_hash value) at ≡ true
 hash_from_value column now value at e =
     let is : slice_get (row_at now at) column ≡ Some value =
-    place_exact (slice_get (row_at now at) column) value (equal_from_test (place_by column now value at) e)
+    place_exact (slice_get (row_at now at) column) value (equal_from_is_eq (place_by column now value at) e)
     in
     eq-eqb (hash_of (slice_get (row_at now at) column)) (value_hash value) (ap hash_of is)
 

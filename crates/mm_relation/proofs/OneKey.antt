@@ -43,7 +43,7 @@ module _ {X : Type 0} (p : X → Bool) where
 
 -- ---- the rows of a key
 
-not_apart : (o : Ordering) → (is_ge o && is_le o) ≡ is_eq o
+pub not_apart : (o : Ordering) → (is_ge o && is_le o) ≡ is_eq o
 not_apart Less = refl
 not_apart Equal = refl
 not_apart Greater = refl

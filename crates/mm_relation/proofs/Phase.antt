@@ -24,7 +24,6 @@ use Rattle.mm_relation.specs.Kept.{IsKept}
 use Rattle.mm_relation.specs.Lawful.{IsLawful}
 use Rattle.mm_relation.specs.declared.indexes.index.Index.{Index}
 use Rattle.mm_relation.specs.declared.indexes.names.Side.{Side}
-use Rattle.mm_relation.proofs.RefTests.{only}
 use Rattle.mm_relation.proofs.Ordered.{less_than_itself}
 use Rattle.mm_relation.proofs.Steps.{AllPairs-permutation}
 use Rattle.mm_relation.proofs.Changed.{first_absent}
@@ -32,6 +31,7 @@ use Rattle.mm_relation.proofs.Indexing.{Same, Keeps-permutation}
 use Rattle.mm_relation.proofs.Staying.{staying, All-staying}
 use Rattle.mm_relation.proofs.Unmoved.{ArePaired, IsLevel, levels, levels_same, same_stay, InOrder-level, Keeps-level, unmoved_same}
 use Rattle.mm_relation.proofs.Turning.{All-turned}
+use Rattle.mm_order.proofs.Unique.{only}
 
 -- references of a list, each once, and the rest of it
 pub split_off : (names refs : List RowRef) → AllPairs (λ a b. a ≢ b) names → All (Contains refs) names → Among refs names

@@ -1,6 +1,5 @@
 -- References and pairs of references that are one, or apart.
-use Rattle.std.proofs.Common.{◌≡◌, ◌≢◌, ℕ, ◌⊎◌, inl, inr, ⊎_elim, ◌<◌, [], ◌∷◌, get_or, Bool, true, false, ◌&&◌, eqb, cond, refl, ap, ◌∙◌, arith}
-use Rattle.std.specs.List.{Contains}
+use Rattle.std.proofs.Common.{◌≡◌, ◌≢◌, ℕ, ◌⊎◌, inl, inr, ⊎_elim, ◌<◌, Bool, true, false, ◌&&◌, eqb, cond, refl, ap, arith}
 use Rattle.std.proofs.lemmas.Bool.{and_parts, eq-eqb, eqb-true, cases_order}
 use Rattle.mm_value.specs.declared.row_ref.RowRef.{RowRef}
 use Rattle.mm_partition.specs.Places.{Content}
@@ -28,9 +27,6 @@ same_or_apart a b =
     (λ (s : a.slot ≡ b.slot). let same : a ≡ b = λ i. record { slot = s i } in inl same)
     (λ (n : a.slot ≢ b.slot). inr (λ (e : a ≡ b). n (ap (λ (r : RowRef). r.slot) e)))
     (same_number a.slot b.slot)
-
-pub only : (a b : RowRef) → Contains (a ∷ []) b → a ≡ b
-only a b (k, within, is) = ap (λ n. get_or (a ∷ []) n b) (let first : 0 ≡ k = omega arith in first) ∙ is
 
 pub same_pair : ℕ × RowRef → ℕ × RowRef → Bool
 same_pair p q = eqb p.0 q.0 && same_ref p.1 q.1

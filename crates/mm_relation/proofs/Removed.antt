@@ -18,12 +18,13 @@ use Rattle.mm_relation.specs.declared.log.UndoRecord.TheVariants.{Added, Changed
 use Rattle.mm_relation.specs.declared.edits.Edit.{Edit}
 use Rattle.mm_relation.specs.declared.edits.Edit.TheVariants.{Add, Swap, Gone}
 use Rattle.mm_relation.specs.declared.indexes.index.Index.{Index}
-use Rattle.mm_relation.proofs.RefTests.{only, same_or_apart}
+use Rattle.mm_relation.proofs.RefTests.{same_or_apart}
 use Rattle.mm_relation.proofs.Changed.{olds, single, first_absent, Standing-rest}
 use Rattle.mm_relation.proofs.Came.{empty}
 use Rattle.mm_relation.proofs.Indexing.{Same, Keeps-stays, InOrder-stays}
 use Rattle.mm_order.proofs.Pairs.{AllPairs-append_right}
 use Rattle.mm_relation.proofs.WaysBack.{among}
+use Rattle.mm_order.proofs.Unique.{only}
 
 -- out of use, with its row kept
 abbrev IsKeptHidden : Slots → RowRef → Type 0

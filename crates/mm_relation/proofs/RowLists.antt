@@ -46,7 +46,7 @@ less_alone Greater e = cc
 not_equal_from_less : (o : Ordering) → o ≡ Less → o ≢ Equal
 not_equal_from_less o less same = let no : ◌≡◌ {A = Ordering} Less Equal = sym less ∙ same in cc
 
-equal_turned : (o : Ordering) → ordering_reverse o ≡ Equal → o ≡ Equal
+pub equal_turned : (o : Ordering) → ordering_reverse o ≡ Equal → o ≡ Equal
 equal_turned Less e = cc
 equal_turned Equal e = refl
 equal_turned Greater e = cc

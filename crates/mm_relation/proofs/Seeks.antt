@@ -17,8 +17,9 @@ use Rattle.mm_schema.specs.Rows.{column_cmp}
 use Rattle.mm_order.specs.Probe.{IsMonotone}
 use Rattle.mm_relation.specs.Reads.{end_place}
 use Rattle.mm_relation.specs.Refs.{Slots, row_at, refs_by, place_by, IsWide}
+use Rattle.ttree.proofs.Taken.{self_equal}
 
-then_less : (x y : Ordering) → ordering_then x y ≡ Less → x ≢ Greater
+pub then_less : (x y : Ordering) → ordering_then x y ≡ Less → x ≢ Greater
 then_less Less y p = λ e. cc
 then_less Equal y p = λ e. cc
 then_less Greater y p = λ e. cc
@@ -51,11 +52,6 @@ IsMonotone-at_value column key places value = record {
       (then_less (column_cmp column (row_at places a) (row_at places b)) (column_cmp key (row_at places a) (row_at places b)) less);
 }
 
-equal_itself : (o : Ordering) → o ≡ ordering_reverse o → o ≡ Equal
-equal_itself Less e = cc
-equal_itself Equal e = refl
-equal_itself Greater e = cc
-
 -- a value lies at its own place, and no other does
 pub place_exact : (o : Option Value) (value : Value) → option_cmp value_cmp o (Some value) ≡ Equal → o ≡ Some value
 place_exact None value e = cc
@@ -63,7 +59,7 @@ place_exact (Some x) value e = ap Some (value_cmp_exact x value e)
 
 pub place_own : (o : Option Value) (value : Value) → o ≡ Some value → option_cmp value_cmp o (Some value) ≡ Equal
 place_own o value e =
-    let own : option_cmp value_cmp (Some value) (Some value) ≡ Equal = equal_itself (value_cmp value value) (value_cmp_total.antisymm value value) in
+    let own : option_cmp value_cmp (Some value) (Some value) ≡ Equal = self_equal (value_cmp value value) (value_cmp_total.antisymm value value) in
     subst (λ (x : Option Value). option_cmp value_cmp x (Some value) ≡ Equal) (sym e) own
 
 -- what follows from what is said where nothing is found

@@ -14,13 +14,13 @@ use Rattle.mm_relation.specs.declared.indexes.index.Index.{Index}
 
 -- ---- the test and what it says
 
-same_kind_told : (a b : IndexKind) → same_kind a b ≡ true → a ≡ b
+pub same_kind_told : (a b : IndexKind) → same_kind a b ≡ true → a ≡ b
 same_kind_told kind.Tree kind.Tree e = refl
 same_kind_told kind.Tree kind.Hash e = cc
 same_kind_told kind.Hash kind.Tree e = cc
 same_kind_told kind.Hash kind.Hash e = refl
 
-same_kind_itself : (a : IndexKind) → same_kind a a ≡ true
+pub same_kind_itself : (a : IndexKind) → same_kind a a ≡ true
 same_kind_itself kind.Tree = refl
 same_kind_itself kind.Hash = refl
 

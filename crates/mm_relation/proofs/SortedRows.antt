@@ -10,7 +10,7 @@ use Rattle.std.proofs.lemmas.List.{get_or-map, length-map}
 use Rattle.std.proofs.lemmas.List.Elements.{All-map}
 use Rattle.mm_value.specs.Order.{value_cmp}
 use Rattle.mm_value.specs.declared.values.Value.{Value}
-use Rattle.mm_value.proofs.Orders.{value_cmp_total}
+use Rattle.mm_value.proofs.Orders.{value_cmp_total, then_second}
 use Rattle.mm_schema.specs.Rows.{column_cmp}
 use Rattle.mm_schema.proofs.Orderings.{less_from_no_tie}
 use Rattle.mm_schema.proofs.StrictOrder.{IsStrictlySortedBy-at, IsStrictlySortedBy-from_neighbours}
@@ -19,7 +19,6 @@ use Rattle.mm_relation.specs.Refs.{Slots, IsWide, refs_by, row_at}
 use Rattle.mm_relation.specs.Sorting.{AreSorted, IsOf, ref_of, sortable_cmp}
 use Rattle.mm_relation.specs.declared.indexes.sorting.Sortable.{Sortable}
 use Rattle.mm_relation.proofs.RowLists.{not_tied}
-use Rattle.mm_relation.proofs.Steps.{then_second}
 
 pub sortable_total : {V : Type 0} (read : V → Value) → IsTotalOrder (sortable_cmp read)
 sortable_total {V} read =

@@ -15,12 +15,12 @@ use Rattle.std.specs.declared.cmp.Ordering.{Ordering}
 use Rattle.mm_value.specs.declared.row_ref.RowRef.{RowRef}
 use Rattle.mm_order.specs.Refs.{AddsInOrder}
 use Rattle.mm_order.proofs.Ordered.{IsPermutation-added}
-use Rattle.std.specs.Ordering.{ordering_then, ordering_reverse}
-use Rattle.std.specs.declared.cmp.Ordering.TheVariants.{Less, Equal, Greater}
+use Rattle.std.specs.Ordering.{ordering_reverse}
+use Rattle.std.specs.declared.cmp.Ordering.TheVariants.{Equal}
 use Rattle.std.specs.Cmp.{IsTotalOrder, on_total}
 use Rattle.std.specs.Cmp.Lexicographic.{options_total}
 use Rattle.std.specs.Prelude.{slice_get}
-use Rattle.mm_value.proofs.Orders.{value_cmp_total}
+use Rattle.mm_value.proofs.Orders.{value_cmp_total, then_second}
 use Rattle.mm_schema.specs.Rows.{column_cmp}
 use Rattle.mm_order.proofs.Pairs.{AllPairs-append_across, All-append_right}
 use Rattle.mm_relation.specs.Refs.{Slots, row_at, refs_by, IsWide}
@@ -169,12 +169,6 @@ first_wide column key now names before left refs at all_names all_before moved =
     All-head (IsWide column key now) at (left ++ refs)
     (All-permutation (IsWide column key now) (names ++ before) (at ∷ (left ++ refs)) moved
     (All-append (IsWide column key now) names before all_names all_before))
-
--- the second of two comparisons ties where both together do
-pub then_second : (a b : Ordering) → ordering_then a b ≡ Equal → b ≡ Equal
-then_second Less b p = cc
-then_second Equal b p = p
-then_second Greater b p = cc
 
 key_total : (key : ℕ) (now : Slots) → IsTotalOrder (λ (a b : RowRef). column_cmp key (row_at now a) (row_at now b))
 key_total key now = on_total (λ at. slice_get (row_at now at) key) (options_total value_cmp_total)

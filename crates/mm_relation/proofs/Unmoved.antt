@@ -119,7 +119,7 @@ abbrev pub IsLevel : ℕ → ℕ → Slots → Slots → RowRef → Type 0
 IsLevel column key old new at =
     (slice_get (row_at new at) column ≡ slice_get (row_at old at) column) × (slice_get (row_at new at) key ≡ slice_get (row_at old at) key)
 
-options_exact : (a b : Option Value) → option_cmp value_cmp a b ≡ Equal → a ≡ b
+pub options_exact : (a b : Option Value) → option_cmp value_cmp a b ≡ Equal → a ≡ b
 options_exact None None e = refl
 options_exact None (Some y) e = cc
 options_exact (Some x) None e = cc

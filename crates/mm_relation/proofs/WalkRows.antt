@@ -26,7 +26,8 @@ use Rattle.mm_relation.specs.RowLists.{rows_of}
 use Rattle.mm_relation.specs.declared.indexes.index.Index.{Index}
 use Rattle.mm_relation.specs.declared.indexes.index.Index.TheVariants.{Tree}
 use Rattle.mm_relation.proofs.RowLists.{KeysApart-ordered, at_place, not_tied}
-use Rattle.mm_relation.proofs.Steps.{AllPairs-permutation, then_second}
+use Rattle.mm_relation.proofs.Steps.{AllPairs-permutation}
+use Rattle.mm_value.proofs.Orders.{then_second}
 
 module _ (column key : ℕ) where
   rows_by_total : IsTotalOrder (rows_by column key)

@@ -16,10 +16,11 @@ use Rattle.mm_relation.specs.declared.log.UndoRecord.TheVariants.{Added, Changed
 use Rattle.mm_relation.specs.declared.edits.Edit.{Edit}
 use Rattle.mm_relation.specs.declared.edits.Edit.TheVariants.{Add, Swap, Gone}
 use Rattle.mm_relation.specs.declared.indexes.names.Side.TheVariants.{Old}
-use Rattle.mm_relation.proofs.RefTests.{same_or_apart, only}
+use Rattle.mm_relation.proofs.RefTests.{same_or_apart}
 use Rattle.mm_relation.proofs.Changed.{olds, olds_split, single, first_absent, free_absent, Standing-rest, Standing-behind, before_changes, row_stays}
 use Rattle.mm_relation.proofs.Changed.{new_rows_stand}
 use Rattle.mm_relation.proofs.Came.{news, news_split, empty, came, live_from}
+use Rattle.mm_order.proofs.Unique.{only}
 
 step_stands : (old mid : Slots) (e : Edit) (n : UndoRecord) → Step e old n mid → Stands mid n
 step_stands old mid (Add row) (Added r) step = (row, step.turns.changed)

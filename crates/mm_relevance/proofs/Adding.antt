@@ -13,7 +13,8 @@ use Rattle.mm_query.specs.declared.atom.Operand.{Operand}
 use Rattle.mm_query.specs.declared.atom.Operand.TheVariants.{Literal, Column, Shifted}
 use Rattle.mm_query.specs.declared.bound_query.BoundQuery.{BoundQuery}
 use Rattle.mm_query.specs.declared.bound_query.FieldPlace.{FieldPlace}
-use Rattle.mm_relevance.specs.Relevance.{AddsToNumber, AddsToNumbers, IsCombinationWith, IsCyclic, is_text, shifts_text}
+use Rattle.mm_relevance.specs.Relevance.{IsCombinationWith, IsCyclic, shifts_text}
+use Rattle.mm_query.specs.Additions.{AddsToNumber, AddsToNumbers, is_text}
 use Rattle.mm_relevance.proofs.Irrelevance.{at_or_none, irrelevant_by}
 
 abbrev Row : Type 0

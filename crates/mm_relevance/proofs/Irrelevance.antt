@@ -1,5 +1,5 @@
 -- A row with a cycle is irrelevant.
-use Rattle.std.proofs.Common.{◌≡◌, ℕ, suc, zero, ◌<◌, Bool, true, false, cond, ◌&&◌, ◌||◌, ◌==◌, not, inl, inr, ℤ, pos, ◌+ℤ◌, ◌-ℤ◌, List, [], ◌∷◌, Option}
+use Rattle.std.proofs.Common.{◌≡◌, ℕ, suc, zero, ◌<◌, Bool, true, false, cond, ◌&&◌, ◌==◌, not, inl, inr, ℤ, pos, ◌+ℤ◌, ◌-ℤ◌, List, [], ◌∷◌, Option}
 use Rattle.std.proofs.Common.{Some, None, get_or, length, map, refl, sym, ap, subst, ◌∙◌, arith}
 use Rattle.std.specs.Prelude.{nat_lt, slice_get}
 use Rattle.std.specs.List.{AllByRecursion, list_all, list_any}
@@ -29,10 +29,12 @@ use Rattle.mm_relevance.specs.declared.term.Point.{Point}
 use Rattle.mm_relevance.specs.declared.term.Point.TheVariants.{Zero, Column as At}
 use Rattle.mm_relevance.specs.declared.term.Term.{Term}
 use Rattle.mm_relevance.specs.Relevance.{IsAccepted, IsCombinationWith, IsCyclic, IsIrrelevant, IsNegativeCycle, IsWalk, edge_at, edge_between, edge_of}
-use Rattle.mm_relevance.specs.Relevance.{fails_on_texts, field_term, is_text, known, lower_edge, moved, number_term, operand_term, shifts_text, total}
+use Rattle.mm_relevance.specs.Relevance.{fails_on_texts, field_term, known, lower_edge, moved, number_term, operand_term, shifts_text, total}
+use Rattle.mm_query.specs.Additions.{is_text}
 use Rattle.mm_relevance.specs.Relevance.{upper_edge}
 use Rattle.mm_relevance.proofs.Bounds.{IsPlain, UpTo, at_most_says, below_says, never_below_itself, up_to_itself, up_to_on}
 use Rattle.mm_relevance.proofs.Points.{and_true, same_number}
+use Rattle.mm_query.proofs.Within.{neither}
 
 -- ---- Lists
 
@@ -47,15 +49,11 @@ all_get p [] i a h k = absurd (let b : ⊥ = cc in b)
 all_get p (x ∷ atoms) zero a h k = let same : x ≡ a = cc in ap p (sym same) ∙ (and_true (p x) (list_all p atoms) h).0
 all_get p (x ∷ atoms) (suc i) a h k = all_get p atoms i a (and_true (p x) (list_all p atoms) h).1 k
 
-or_false : (a b : Bool) → (a || b) ≡ false → (a ≡ false) × (b ≡ false)
-or_false true b h = absurd (let b : ⊥ = cc in b)
-or_false false b h = (refl, h)
-
 any_get : (p : Atom FieldPlace → Bool) (atoms : List (Atom FieldPlace)) (i : ℕ) (a : Atom FieldPlace) → list_any p atoms ≡ false → slice_get atoms i ≡ Some a
     → p a ≡ false
 any_get p [] i a h k = absurd (let b : ⊥ = cc in b)
-any_get p (x ∷ atoms) zero a h k = let same : x ≡ a = cc in ap p (sym same) ∙ (or_false (p x) (list_any p atoms) h).0
-any_get p (x ∷ atoms) (suc i) a h k = any_get p atoms i a (or_false (p x) (list_any p atoms) h).1 k
+any_get p (x ∷ atoms) zero a h k = let same : x ≡ a = cc in ap p (sym same) ∙ (neither (p x) (list_any p atoms) h).0
+any_get p (x ∷ atoms) (suc i) a h k = any_get p atoms i a (neither (p x) (list_any p atoms) h).1 k
 
 -- ---- What terms stand for
 

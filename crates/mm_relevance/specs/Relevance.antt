@@ -2,10 +2,11 @@
 -- inequalities that show it (Rosenkrantz and Hunt).
 use Rattle.std.specs.Prelude.{◌≡◌, ◌⊎◌, ℕ, ◌≤◌, ◌==◌, nat_lt, ℤ, pos, ◌+ℤ◌, ◌-ℤ◌, ◌≤ℤ◌, ◌<ℤ◌, Bool, true, false, not, ◌&&◌, if◌then◌else◌, List, [], ◌∷◌}
 use Rattle.std.specs.Prelude.{Option, Some, None, get_or, length, map, slice_get}
-use Rattle.std.specs.List.{All, list_any}
+use Rattle.std.specs.List.{list_any}
 use Rattle.std.specs.Option.{option_and_then, option_map, option_map_or}
 use Rattle.mm_value.specs.declared.values.Value.{Value}
 use Rattle.mm_value.specs.declared.values.Value.TheVariants.{Int, Text}
+use Rattle.mm_query.specs.Additions.{is_text}
 use Rattle.mm_query.specs.Atoms.{holds, operand_of, value_in}
 use Rattle.mm_query.specs.Queries.{Partial, fits, value_at}
 use Rattle.mm_query.specs.declared.atom.Atom.{Atom}
@@ -22,12 +23,6 @@ use Rattle.mm_relevance.specs.declared.term.Point.TheVariants.{Zero, Column as A
 use Rattle.mm_relevance.specs.declared.term.Term.{Term}
 
 -- ---- what irrelevant means
-
--- A value is there, and it is a text.
-abbrev pub is_text : Option Value → Bool
-is_text (Some (Text text)) = true
-is_text (Some (Int number)) = false
-is_text None = false
 
 -- An operand adds a number to a text.
 abbrev pub shifts_text : Partial → Operand FieldPlace → Bool
@@ -46,16 +41,6 @@ pub record IsCombinationWith (query : BoundQuery) (place : ℕ) (row : List Valu
 abbrev pub IsIrrelevant : BoundQuery → ℕ → List Value → Type 0
 IsIrrelevant query place row =
     (combination : List (List Value)) → IsCombinationWith query place row combination → fits query combination ≡ false
-
--- An operand adds a number to no text of the rows at the places of FROM.
-abbrev pub AddsToNumber : (ℕ → List (List Value)) → Operand FieldPlace → Type 0
-AddsToNumber rows (Literal value) = Unit {0}
-AddsToNumber rows (Column field) = Unit {0}
-AddsToNumber rows (Shifted field by) = All (λ (row : List Value). is_text (Some (value_in field.column row)) ≡ false) (rows field.place)
-
--- No atom of a query adds a number to a text of the rows at the places of FROM.
-abbrev pub AddsToNumbers : BoundQuery → (ℕ → List (List Value)) → Type 0
-AddsToNumbers query rows = All (λ (atom : Atom FieldPlace). AddsToNumber rows atom.right) query.atoms
 
 -- ---- the inequalities of an atom
 

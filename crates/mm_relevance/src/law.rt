@@ -6,7 +6,8 @@ ghost use Rattle.mm_query.specs.Queries.{bag_of, value_at};
 ghost use Rattle.mm_query.specs.declared.atom.Atom.{Atom as Asked};
 ghost use Rattle.mm_query.specs.declared.bound_query.BoundQuery.{BoundQuery as Query};
 ghost use Rattle.mm_query.specs.declared.bound_query.FieldPlace.{FieldPlace as Field};
-ghost use Rattle.mm_relevance.specs.Relevance.{AddsToNumbers, ComparesNumbers, IsCombinationWith, IsCyclic, IsIrrelevant, IsTrueOf, edge_at};
+ghost use Rattle.mm_relevance.specs.Relevance.{ComparesNumbers, IsCombinationWith, IsCyclic, IsIrrelevant, IsTrueOf, edge_at};
+ghost use Rattle.mm_query.specs.Additions.{AddsToNumbers};
 ghost use Rattle.mm_relevance.specs.Walks.{name_of};
 
 /// A row that has an accepted cycle is irrelevant: no combination with it fits the query.

@@ -103,11 +103,11 @@ references_without_index name schema = behind_kept (table_without_index name) (s
 
 -- ---- names that are there
 
-placed : (at len : ℕ) → at < len → unwrap_or (cond (ltb at len) (Some at) None) 0 ≡ at
+pub placed : (at len : ℕ) → at < len → unwrap_or (cond (ltb at len) (Some at) None) 0 ≡ at
 placed at len h = grind (arith, nat_tests)
 
 -- A name that a table has is within the catalog.
-within : (name : List ℕ) (tables : List Table) → lacks name tables ≡ false → first name tables < length tables
+pub within : (name : List ℕ) (tables : List Table) → lacks name tables ≡ false → first name tables < length tables
 within name [] there = cc
 within name (t ∷ ts) there = by (has name t) there (within name ts)
   where
@@ -122,7 +122,7 @@ target_place name schema there = placed _ _ (within name schema.tables there)
 
 -- ---- a new table
 
-first_behind : (name : List ℕ) (tables : List Table) (table : Table) → lacks name tables ≡ false → first name (tables ++ table ∷ []) ≡ first name tables
+pub first_behind : (name : List ℕ) (tables : List Table) (table : Table) → lacks name tables ≡ false → first name (tables ++ table ∷ []) ≡ first name tables
 first_behind name [] table there = cc
 first_behind name (t ∷ ts) table there = by (has name t) there (first_behind name ts table)
   where
@@ -184,13 +184,13 @@ above_before gone place h = grind (arith, nat_tests)
 above_behind : (gone place : ℕ) → gone ≤ place → above gone (place + 1) ≡ place
 above_behind gone place h = grind (arith, nat_tests)
 
-above_next : (gone place : ℕ) → 1 + above gone place ≡ above (1 + gone) (1 + place)
+pub above_next : (gone place : ℕ) → 1 + above gone place ≡ above (1 + gone) (1 + place)
 above_next gone place = grind (arith, nat_tests)
 
-above_first : (gone : ℕ) → 0 ≡ above (1 + gone) 0
+pub above_first : (gone : ℕ) → 0 ≡ above (1 + gone) 0
 above_first gone = grind (arith, nat_tests)
 
-next_above_first : (place : ℕ) → place ≡ above 0 (1 + place)
+pub next_above_first : (place : ℕ) → place ≡ above 0 (1 + place)
 next_above_first place = grind (arith, nat_tests)
 
 module _ (gone : List ℕ) where

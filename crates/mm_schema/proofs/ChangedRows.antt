@@ -91,7 +91,7 @@ stays_from_none key row ((gone, come) ∷ ps) none old new (inr later) same =
 
 -- ---- which rows are there after a change
 
-not_true : (b : Bool) → not b ≡ true → b ≡ false
+pub not_true : (b : Bool) → not b ≡ true → b ≡ false
 not_true true e = (cc)
 not_true false e = refl
 

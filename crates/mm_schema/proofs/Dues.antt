@@ -31,7 +31,7 @@ neither_due true b r s h = cc
 neither_due false true r s h = cc
 neither_due false false r s h = (refl, refl)
 
-none_here : (b : Bool) (refusal : Refusal) (rest : Option Refusal) → cond b (Some refusal) rest ≡ None → rest ≡ None
+pub none_here : (b : Bool) (refusal : Refusal) (rest : Option Refusal) → cond b (Some refusal) rest ≡ None → rest ≡ None
 none_here true refusal rest h = cc
 none_here false refusal rest h = h
 

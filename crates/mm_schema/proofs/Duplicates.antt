@@ -37,7 +37,7 @@ pub same_in_column_comm : (key : ℕ) (a b : Row) → same_in_column key a b ≡
 same_in_column_comm key a b = ap is_eq ((column_cmp_total key).antisymm a b) ∙ is_eq_reversed (column_cmp key b a)
 
 -- rows with one key are like the same rows
-alike : (key : ℕ) (a b c : Row) → same_in_column key a b ≡ true → same_in_column key a c ≡ same_in_column key b c
+pub alike : (key : ℕ) (a b c : Row) → same_in_column key a b ≡ true → same_in_column key a c ≡ same_in_column key b c
 alike key a b c same = ap is_eq ((column_cmp_total key).congr a b c (equal_from_is_eq (column_cmp key a b) same))
 
 -- ---- counts
@@ -181,7 +181,7 @@ list_any-or p q (x ∷ xs) = ap (λ b. (p x || q x) || b) (list_any-or p q xs) �
     regrouped false true false d = refl
     regrouped false false c d = refl
 
-list_any-agree : {X : Type 0} (p q : X → Bool) → ((x : X) → p x ≡ q x) → (xs : List X) → list_any p xs ≡ list_any q xs
+pub list_any-agree : {X : Type 0} (p q : X → Bool) → ((x : X) → p x ≡ q x) → (xs : List X) → list_any p xs ≡ list_any q xs
 list_any-agree p q same [] = refl
 list_any-agree p q same (x ∷ xs) = ap (λ b. b || list_any p xs) (same x) ∙ ap (λ b. q x || b) (list_any-agree p q same xs)
 

@@ -4,7 +4,7 @@ use Rattle.std.specs.List.{All, count_by, filter, list_any}
 use Rattle.std.specs.List.Sorted.{IsPermutation}
 use Rattle.std.specs.Option.{option_copied, option_map_or}
 use Rattle.std.proofs.lemmas.List.{append-nil, drop_all, length-map}
-use Rattle.std.proofs.lemmas.List.Elements.{All-filter, All-head, All-tail}
+use Rattle.std.proofs.lemmas.List.Elements.{All-filter}
 use Rattle.std.proofs.lemmas.List.Sums.{length-filter}
 use Rattle.std.proofs.lemmas.List.Sorted.{length_permutation}
 use Rattle.mm_partition.specs.Places.{IsLive, slot_at}
@@ -30,6 +30,7 @@ use Rattle.mm_store.specs.Tables.{IsAt, Tables, rows_at}
 use Rattle.mm_templist.specs.Combos.{row_of}
 use Rattle.mm_value.specs.declared.row_ref.RowRef.{RowRef}
 use Rattle.mm_value.specs.declared.values.Value.{Value}
+use Rattle.mm_order.proofs.Filtered.{filter-all}
 
 -- A relation that stands at a place is the only one there.
 pub live_there : (store : Tables) (table : ℕ) (relation : StoredRows) → IsAt store table relation → (found : List RowRef)
@@ -60,17 +61,11 @@ matching_along store table stored here a atoms asks =
 abbrev pub IsCandidate : Tables → ℕ → Access → RowRef → Type 0
 IsCandidate store table a at = ((stored : StoredRows) → IsAt store table stored → IsLive stored.places at) × (is_along a (row_of store table at) ≡ true)
 
-filter_whole : {X : Type 0} (p : X → Bool) (xs : List X) → All (λ x. p x ≡ true) xs → filter p xs ≡ xs
-filter_whole p [] all = refl
-filter_whole p (x ∷ xs) all =
-    (λ i. cond (All-head (λ y. p y ≡ true) x xs all i) (x ∷ filter p xs) (filter p xs))
-    ∙ ap (λ l. x ∷ l) (filter_whole p xs (All-tail (λ y. p y ≡ true) x xs all))
-
 -- Where no atom asks more than the access, all candidates match.
 pub all_match : (store : Tables) (table : ℕ) (a : Access) (atoms : List (Atom FieldPlace)) (found : List RowRef) → All (IsCandidate store table a) found
     → list_any (asks_along a) atoms ≡ false → matching store table atoms [] found ≡ found
 all_match store table a atoms found candidates silent =
-    filter_whole (λ at. none_fails atoms (Some (row_of store table at) ∷ [])) found
+    filter-all (λ at. none_fails atoms (Some (row_of store table at) ∷ [])) found
     (λ k d within. all_admit (row_of store table (get_or found k d)) a (candidates k d within).1 atoms silent)
 
 -- In the end those are kept that match.

@@ -1,5 +1,5 @@
 -- Matches, one candidate after another.
-use Rattle.std.proofs.Common.{◌≡◌, ℕ, ◌<◌, Bool, true, false, cond, List, [], ◌∷◌, ◌++◌, Some, get_or, length, map, sym, ap, ◌∙◌, subst, append_assoc}
+use Rattle.std.proofs.Common.{◌≡◌, ℕ, ◌<◌, Bool, true, false, cond, List, [], ◌∷◌, ◌++◌, Some, get_or, length, map, sym, ap, ◌∙◌, subst}
 use Rattle.std.specs.List.{All, Contains, filter}
 use Rattle.std.proofs.lemmas.List.{append-nil, map-append}
 use Rattle.std.proofs.lemmas.List.Elements.{All-contains, Contains-append_left, Contains-append_right, Contains-push, filter-append}
@@ -22,11 +22,6 @@ pub holds_next : {X : Type 0} (P : X → Type 0) (all done rest : List X) (x : X
 holds_next P all done rest x split every =
     All-contains P all x every
     (subst (λ l. Contains l x) (sym split) (Contains-append_right done (x ∷ rest) x (Contains-append_left (x ∷ []) rest x (Contains-push [] x))))
-
--- .. which is then among those that are done, ..
-pub split_next : {X : Type 0} (all done left rest : List X) (x : X) → all ≡ done ++ left → left ≡ x ∷ rest → all ≡ done ++ x ∷ [] ++ rest
-split_next all done left rest x split next =
-    split ∙ (ap (λ l. done ++ l) next ∙ sym (append_assoc done (x ∷ []) rest))
 
 -- .. and in the end all are.
 pub split_all : {X : Type 0} (all done left : List X) → all ≡ done ++ left → left ≡ [] → all ≡ done

@@ -21,10 +21,11 @@ use Rattle.mm_relation.specs.declared.log.UndoRecord.TheVariants.{Added, Changed
 use Rattle.mm_relation.specs.declared.indexes.names.Side.TheVariants.{New, Old}
 use Rattle.mm_relation.proofs.Came.{empty}
 use Rattle.mm_relation.proofs.Changed.{first_absent, single}
-use Rattle.mm_relation.proofs.RefTests.{only, same_from_test, test_from_same}
+use Rattle.mm_relation.proofs.RefTests.{same_from_test, test_from_same}
 use Rattle.mm_value.specs.declared.row_ref.RowRef.{RowRef}
 use Rattle.mm_value.specs.declared.values.Value.{Value}
 use Rattle.mm_store.specs.Behind.{Describes, IsOut, Switches, ref_of}
+use Rattle.mm_order.proofs.Unique.{only}
 
 -- ---- lists of references
 

@@ -1,27 +1,25 @@
 -- Which index is the first on a column, and what is found along it.
-use Rattle.std.proofs.Common.{◌≡◌, ◌≢◌, ℕ, ◌+◌, ◌<◌, ◌≤◌, Bool, true, false, cond, ◌&&◌, List, [], ◌∷◌, ◌++◌, length, get_or, Option, Some, None, ⊎_elim}
-use Rattle.std.proofs.Common.{refl, sym, ap, ◌∙◌, subst, arith}
+use Rattle.std.proofs.Common.{◌≡◌, ◌≢◌, ℕ, ◌+◌, ◌<◌, ◌≤◌, Bool, true, false, cond, List, [], ◌∷◌, ◌++◌, length, get_or, Option, Some, None, ⊎_elim}
+use Rattle.std.proofs.Common.{refl, sym, ◌∙◌, subst, arith}
 use Rattle.std.specs.Prelude.{IfNone, IfSome, position, slice_get}
 use Rattle.std.specs.List.{All, Contains, cons_option, filter, position_or_len}
 use Rattle.std.specs.List.Sorted.{IsPermutation}
-use Rattle.std.specs.Ordering.{is_eq, is_ge, is_le}
 use Rattle.std.specs.declared.cmp.Ordering.{Ordering}
 use Rattle.std.specs.declared.cmp.Ordering.TheVariants as ordering
-use Rattle.std.proofs.lemmas.Bool.{cases_lt, eq-eqb, false≢true}
+use Rattle.std.proofs.lemmas.Bool.{cases_lt, false≢true}
 use Rattle.std.proofs.lemmas.List.Elements.{All-append, All-filter, Contains-get_or, filter_agree}
 use Rattle.std.proofs.lemmas.List.Sorted.{All-permutation, IsPermutation-refl, IsPermutation-sym}
 use Rattle.std.proofs.lemmas.List.Sums.{fails_before_first}
 use Rattle.mm_order.specs.Probe.{entries_between, is_between}
 use Rattle.mm_partition.specs.Places.{IsLive, slot_at}
 use Rattle.mm_relation.proofs.Bags.{IsPermutation-filter}
-use Rattle.mm_relation.proofs.OneKey.{none_of_key, one_of_key}
+use Rattle.mm_relation.proofs.OneKey.{none_of_key, one_of_key, not_apart}
 use Rattle.mm_relation.proofs.RefTests.{same_from_test, test_from_same}
 use Rattle.mm_relation.specs.Before.{same_ref}
-use Rattle.mm_relation.specs.Index.{column_of, kind_of}
 use Rattle.mm_relation.specs.Kept.{IsKept, StoredRows}
-use Rattle.mm_relation.specs.Reads.{Appends, AreMatches, HasIndex, IsOn, IsRange, IsWalk, end_place, has_value}
+use Rattle.mm_relation.specs.Reads.{Appends, AreMatches, HasIndex, IsRange, IsWalk, end_place, has_value}
 use Rattle.mm_relation.specs.Refs.{Slots, place_by, row_at}
-use Rattle.mm_relation.specs.Served.{is_on, same_kind}
+use Rattle.mm_relation.specs.Served.{is_on}
 use Rattle.mm_relation.specs.declared.indexes.index.Index.{Index}
 use Rattle.mm_schema.specs.declared.index.IndexKind.{IndexKind}
 use Rattle.mm_schema.specs.declared.index.IndexKind.TheVariants as kind
@@ -30,6 +28,7 @@ use Rattle.mm_value.specs.declared.values.Value.{Value}
 use Rattle.mm_store.specs.Looked.{IsFirstOn, IsFirstSuch, IsHash, IsIndexOn, IsTree, created_before}
 use Rattle.mm_store.specs.declared.index_ref.IndexRef.{IndexRef}
 use Rattle.mm_store.specs.declared.index_ref.IndexRef.TheVariants.{Key, Tree, Hash}
+use Rattle.mm_relation.proofs.Served.{test_from_IsOn}
 
 -- ---- the first place of a list that passes
 
@@ -53,16 +52,7 @@ module _ {X : Type 0} (p : X → Bool) (xs : List X) where
 
 -- ---- the first index on a column
 
-same_kind_itself : (a : IndexKind) → same_kind a a ≡ true
-same_kind_itself kind.Tree = refl
-same_kind_itself kind.Hash = refl
-
-test_from_IsOn : (column : ℕ) (k : IndexKind) (x : Index) → IsOn column k x → is_on column k x ≡ true
-test_from_IsOn column k x on =
-    ap (λ b. b && same_kind (kind_of x) k) (eq-eqb (column_of x) column on.0)
-    ∙ ap (λ own. same_kind own k) on.1 ∙ same_kind_itself k
-
-any_of : (xs : List Index) (n : ℕ) → n < length xs → Index
+pub any_of : (xs : List Index) (n : ℕ) → n < length xs → Index
 any_of [] n within = absurd (omega arith)
 any_of (x ∷ xs) n within = x
 
@@ -160,11 +150,6 @@ pub walk_of_keys : (stored : StoredRows) → IsKept stored.places.types stored.k
 walk_of_keys stored kept = record { ordered = kept.by_key; same = IsPermutation-refl stored.refs }
 
 -- ---- rows of one value
-
-not_apart : (o : Ordering) → (is_ge o && is_le o) ≡ is_eq o
-not_apart ordering.Less = refl
-not_apart ordering.Equal = refl
-not_apart ordering.Greater = refl
 
 -- The range from a value to itself are the rows that have it.
 pub matches_in_range : (column : ℕ) (stored : StoredRows) (value : Value) (found : List RowRef) → IsRange column stored (Some value) (Some value) found

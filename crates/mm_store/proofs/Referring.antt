@@ -1,30 +1,25 @@
 -- Rows that refer to rows, sought by their references.
-use Rattle.std.proofs.Common.{◌≡◌, ◌≢◌, ℕ, ◌<◌, ◌≤◌, ◌⊎◌, Bool, true, false, List, [], ◌∷◌, length, get_or, Option, None, Some, ⊎_elim, refl, sym, ap, ◌∙◌}
+use Rattle.std.proofs.Common.{◌≡◌, ◌≢◌, ℕ, ◌<◌, ◌⊎◌, Bool, true, false, List, [], ◌∷◌, length, get_or, Option, None, Some, ⊎_elim, refl, sym, ap, ◌∙◌}
 use Rattle.std.proofs.Common.{subst, arith}
 use Rattle.std.specs.Prelude.{map, not, slice_get, is_some, IfSome, IfNone}
 use Rattle.std.specs.List.{All, Contains, list_any}
 use Rattle.std.specs.Option.{option_cmp}
-use Rattle.std.specs.Ordering.{is_eq, ordering_reverse}
-use Rattle.std.specs.declared.cmp.Ordering.{Ordering}
-use Rattle.std.specs.declared.cmp.Ordering.TheVariants.{Less, Equal, Greater}
+use Rattle.std.specs.Ordering.{is_eq}
+use Rattle.std.specs.declared.cmp.Ordering.TheVariants.{Equal}
 use Rattle.std.specs.Cmp.Lexicographic.{options_total}
-use Rattle.std.proofs.lemmas.Bool.{cases_Bool, cases_order}
+use Rattle.std.proofs.lemmas.Bool.{cases_Bool}
 use Rattle.std.proofs.lemmas.Cmp.{tied_itself}
-use Rattle.std.proofs.lemmas.List.{get_or_default}
 use Rattle.std.proofs.lemmas.List.Folds.{Any-from_list_any, list_any_at, list_any_none}
-use Rattle.std.proofs.lemmas.Option.{slice_get_past, slice_get-get_or}
+use Rattle.std.proofs.lemmas.Option.{slice_get-get_or}
 use Rattle.mm_foreign_key.specs.Ties.{IsReferred, Ties, target_at}
 use Rattle.mm_partition.specs.Places.{Content, Free, Live, Hidden}
-use Rattle.mm_relation.specs.Index.{KeysApart}
 use Rattle.mm_relation.specs.Kept.{IsKept}
 use Rattle.mm_relation.specs.Refs.{HasRow, IsWide, Slots, row_at, row_in}
 use Rattle.mm_relation.specs.declared.indexes.index.Index.{Index}
 use Rattle.mm_relation.proofs.RowLists.{KeysApart-ordered}
-use Rattle.mm_relation.proofs.Seeks.{place_exact}
 use Rattle.mm_relation.proofs.Duplicates.{list_any-map}
 use Rattle.mm_schema.specs.Rows.{column_cmp}
 use Rattle.mm_schema.proofs.Orderings.{equal_from_is_eq}
-use Rattle.mm_schema.proofs.Duplicates.{column_cmp_total}
 use Rattle.mm_value.proofs.Orders.{value_cmp_total}
 use Rattle.mm_value.specs.Order.{value_cmp}
 use Rattle.mm_value.specs.declared.col_type.ColType.{ColType}
@@ -32,17 +27,8 @@ use Rattle.mm_value.specs.declared.row_ref.RowRef.{RowRef}
 use Rattle.mm_value.specs.declared.values.Value.{Value}
 use Rattle.mm_store.specs.Links.{Follows, IsTied, RefersTo}
 use Rattle.mm_schema.specs.References.{is_referred, lacks_target_row, refers}
-
-equal_exact : (a b : Option Value) → option_cmp value_cmp a b ≡ Equal → a ≡ b
-equal_exact None None e = refl
-equal_exact None (Some y) e = cc
-equal_exact (Some x) None e = cc
-equal_exact (Some x) (Some y) e = place_exact (Some x) y e
-
-equal_turned : (o : Ordering) → ordering_reverse o ≡ Equal → o ≡ Equal
-equal_turned Less e = cc
-equal_turned Equal e = refl
-equal_turned Greater e = cc
+use Rattle.mm_relation.proofs.Lawful.{one_of_key}
+use Rattle.mm_relation.proofs.Unmoved.{options_exact}
 
 pub agree : (a b : Bool) → (a ≡ true → b ≡ true) → (b ≡ true → a ≡ true) → a ≡ b
 agree true b to from = sym (to refl)
@@ -57,7 +43,7 @@ module _ (column key : ℕ) (row : List Value) where
 
   pub same_from_refers : (target : List Value) → refers column key row target ≡ true → slice_get row column ≡ slice_get target key
   same_from_refers target holds =
-      equal_exact (slice_get row column) (slice_get target key) (equal_from_is_eq (option_cmp value_cmp (slice_get row column) (slice_get target key)) holds)
+      options_exact (slice_get row column) (slice_get target key) (equal_from_is_eq (option_cmp value_cmp (slice_get row column) (slice_get target key)) holds)
 
   refers_other : (target : List Value) → slice_get row column ≢ slice_get target key → refers column key row target ≡ false
   refers_other target differs =
@@ -92,27 +78,6 @@ module _ (column key : ℕ) (row : List Value) where
         value_of : (xs : List Value) → key < length xs → Value
         value_of [] within = absurd (omega arith)
         value_of (x ∷ xs) within = x
-
--- of two references of one key there is but one
-pub one_of_key : (key : ℕ) (now : Slots) (refs : List RowRef) → KeysApart key now refs → (a b : RowRef) → Contains refs a → Contains refs b
-    → column_cmp key (row_at now a) (row_at now b) ≡ Equal → a ≡ b
-one_of_key key now refs apart a b (i, i_in, i_is) (j, j_in, j_is) tie =
-    ⊎_elim
-    (λ (same : i ≡ j). sym i_is ∙ (ap (λ n. get_or refs n a) same ∙ (get_or_either j j_in ∙ j_is)))
-    (λ (o : (i < j) ⊎ (j < i)).
-    ⊎_elim
-    (λ (before : i < j). absurd (apart i j a before j_in
-    (subst (λ (x : RowRef). column_cmp key (row_at now x) (row_at now (get_or refs j a)) ≡ Equal) (sym i_is)
-    (subst (λ (y : RowRef). column_cmp key (row_at now a) (row_at now y) ≡ Equal) (sym (get_or_either j j_in ∙ j_is)) tie))))
-    (λ (behind : j < i). absurd (apart j i a behind i_in
-    (subst (λ (x : RowRef). column_cmp key (row_at now x) (row_at now (get_or refs i a)) ≡ Equal) (sym (get_or_either j j_in ∙ j_is))
-    (subst (λ (y : RowRef). column_cmp key (row_at now b) (row_at now y) ≡ Equal) (sym i_is)
-    (equal_turned (column_cmp key (row_at now b) (row_at now a)) (sym ((column_cmp_total key).antisymm (row_at now a) (row_at now b)) ∙ tie))))))
-    o)
-    (cases_order i j)
-  where
-    get_or_either : (n : ℕ) → n < length refs → get_or refs n a ≡ get_or refs n b
-    get_or_either n within = get_or_default refs n a b within
 
 module _ (column key : ℕ) (now then : Slots) (ties : Ties) (follows : Follows column key now then ties) where
   -- what is tied to a row is a live row that refers to it

@@ -85,7 +85,7 @@ no_more_left key (p ∷ ps) rows none = no_more_sorted key (p ∷ ps) rows none
 
 -- ---- removals from a relation
 
-come : (now : Slots) (edits : List Edit) → filter_map (λ (p : Pair). p.1) (edit_pairs now edits) ≡ new_rows edits
+pub come : (now : Slots) (edits : List Edit) → filter_map (λ (p : Pair). p.1) (edit_pairs now edits) ≡ new_rows edits
 come now [] = refl
 come now (Add new ∷ es) = ap (λ rows. new ∷ rows) (come now es)
 come now (Swap at new ∷ es) = ap (λ rows. new ∷ rows) (come now es)

@@ -11,7 +11,7 @@ ghost use Rattle.mm_store.specs.Ordered.{rows_in_order};
 ghost use Rattle.mm_store.specs.Tables.{IsAt, rows_at};
 ghost use Rattle.mm_schema.specs.Rows.{most_rows};
 
-use crate::view::View;
+use crate::store::Store;
 use mm_order::OrderedRefs;
 use mm_partition::RowView;
 use mm_relation::Relation;
@@ -70,21 +70,22 @@ impl<'a> Model for StoredRows<'a> {
     ghost invariant = { λ r. All (IsLive r.relation.now.places) r.walk };
 }
 
-impl<'a> View<'a> {
-    /// The rows of a table in the order of its key. No row is counted.
-    pub fn rows_by_key(&self, table: usize) -> TableRows<'a>
-        requires { table < length self.now.store.tables }
-        ensures { result ≡ rows_at self.now.store.tables table }
+// Whole tables are read from the store alone. A view gives no store, so code that is given a view cannot read rows uncounted.
+impl Store {
+    /// Returns the rows of a table in the order of its key. No row is counted.
+    pub fn rows_by_key(&self, table: usize) -> TableRows<'_>
+        requires { table < length self.now.tables }
+        ensures { result ≡ rows_at self.now.tables table }
     {
         TableRows {
-            relation: self.relation(table),
+            relation: self.table(table),
             order: Order::Key,
         }
     }
 
-    /// The rows of a table by the values in the column of the index at a place of the table's, and those of one value by their
-    /// keys. A TREE index has their order; for a HASH index their references are put in order first. No row is counted.
-    /// `AllocError` where memory is refused.
+    /// Returns the rows of a table ordered by the values in the column of the index at a place of the table's, and by their keys
+    /// within a value. A TREE index has this order; for a HASH index the references are sorted first. No row is counted.
+    /// Returns `AllocError` if an allocation fails.
     pub fn rows_by_index(
         &self,
         alloc: Global,
@@ -92,13 +93,13 @@ impl<'a> View<'a> {
         place: usize,
         column: usize,
         kind: IndexKind,
-    ) -> Result<TableRows<'a>, AllocError>
-        requires there { table < length self.now.store.tables }
-        requires index { (stored : Stored) → IsAt self.now.store table stored → HasIndex stored.indexes place column kind }
-        requires column { (stored : Stored) → IsAt self.now.store table stored → column < length stored.places.types }
-        ensures { IfOk result (λ rows. (stored : Stored) → IsAt self.now.store table stored → rows ≡ rows_in_order column stored) }
+    ) -> Result<TableRows<'_>, AllocError>
+        requires there { table < length self.now.tables }
+        requires index { (stored : Stored) → IsAt self.now table stored → HasIndex stored.indexes place column kind }
+        requires column { (stored : Stored) → IsAt self.now table stored → column < length stored.places.types }
+        ensures { IfOk result (λ rows. (stored : Stored) → IsAt self.now table stored → rows ≡ rows_in_order column stored) }
     {
-        let relation = self.relation(table);
+        let relation = self.table(table);
         let order = match kind {
             IndexKind::Tree => Order::Tree { place, column },
             IndexKind::Hash => Order::Made(relation.ordered_by(alloc, column)?),

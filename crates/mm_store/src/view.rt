@@ -1,5 +1,6 @@
 //! What a query sees of a store.
-ghost use Rattle.std.specs.Prelude.{◌≡◌, ℕ, ◌+◌, ◌<◌, ◌≤◌, ◌↔◌, [], length, min, filter, All, IfOk, IfSome, IsOk, IsTrue, OnOk, OnErr, Contains, Some, slice_get};
+ghost use Rattle.std.specs.Prelude.{◌≡◌, ℕ, ◌+◌, ◌<◌, ◌≤◌, ◌↔◌, [], length, min, filter, Contains, Some, slice_get};
+ghost use Rattle.std.specs.Prelude.{All, IfOk, IfSome, IsOk, IsTrue, MatchOption, OnOk, OnErr};
 ghost use Rattle.std.specs.List.{cons_option};
 ghost use Rattle.std.specs.Option.{option_map};
 ghost use Rattle.mm_partition.specs.Places.{AreReferencesSmall, IsLive, Live, slot_at};
@@ -100,15 +101,20 @@ impl<'a> View<'a> {
         store.table(table).row(at)
     }
 
-    /// The `order_prefix` of what the row of a live reference of a table has in a column, without a look at the row, so that
-    /// it is not counted. None where the prefixes of the column are not kept.
-    pub fn prefix_of(&self, table: usize, column: usize, at: RowRef) -> Option<u64>
-        requires there { table < length self.now.store.tables }
-        requires live { (stored : StoredRows) → IsAt self.now.store table stored → IsLive stored.places at }
-        ensures { (stored : StoredRows) → IsAt self.now.store table stored → IfSome result (λ prefix.
+    /// Returns the `order_prefix` of what the row of a live reference of a table has in a column, without reading a text, or `None`
+    /// if the prefixes of the column are not kept. A prefix determines a small number or a short text, so a prefix that is returned
+    /// counts as a read row: it adds 1 to the count of reads, up to `u64::MAX`.
+    pub fn prefix_of(&mut self, table: usize, column: usize, at: RowRef) -> Option<u64>
+        requires there { table < length self.old.store.tables }
+        requires live { (stored : StoredRows) → IsAt self.old.store table stored → IsLive stored.places at }
+        ensures prefix { (stored : StoredRows) → IsAt self.old.store table stored → IfSome result (λ prefix.
             option_map order_prefix (slice_get (row_at (slot_at stored.places) at) column) ≡ Some prefix) }
+        ensures counted { MatchOption result (self.new.reads ≡ self.old.reads) (λ _. self.new.reads ≡ min (self.old.reads + 1) u64.MAX) }
+        ensures same { self.new.store ≡ self.old.store }
     {
-        self.relation(table).prefix_of(column, at)
+        let prefix = self.relation(table).prefix_of(column, at)?;
+        self.row(table, at);
+        Some(prefix)
     }
 
     /// How many rows a table has: at most 1,048,576.

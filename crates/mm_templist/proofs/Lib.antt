@@ -1,6 +1,6 @@
 pub mod Fields
 mod Live
-mod Only
+pub mod Only
 mod Pieces
 mod Placed
 mod RowOrder

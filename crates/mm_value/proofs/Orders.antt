@@ -53,7 +53,7 @@ then_first Equal b p = refl
 then_first Greater b p = p
 
 -- and so does the second
-then_second : (a b : Ordering) → ordering_then a b ≡ Equal → b ≡ Equal
+pub then_second : (a b : Ordering) → ordering_then a b ≡ Equal → b ≡ Equal
 then_second Less b p = cc
 then_second Equal b p = p
 then_second Greater b p = cc

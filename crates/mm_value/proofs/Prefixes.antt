@@ -31,7 +31,7 @@ big_endian_below zero bytes = omega arith
 big_endian_below (suc k) [] = let some = power_some (suc k) in omega (arith, some)
 big_endian_below (suc k) (byte ∷ bytes) = let some = power_some (suc k) in omega (arith, some)
 
-big_endian_none : (k : ℕ) → big_endian k [] ≡ 0
+pub big_endian_none : (k : ℕ) → big_endian k [] ≡ 0
 big_endian_none zero = refl
 big_endian_none (suc k) = refl
 

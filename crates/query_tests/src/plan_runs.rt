@@ -435,13 +435,14 @@ const MERGE: [Step; 2] = [
 ];
 
 #[test]
-fn merge_reads_each_pair_that_fits(rt: HostRuntime) -> Result<(), Fail> {
-    // The values are in another order than the keys, so a merge has to go along both tables by the values.
+fn merge_reads_both_rows_of_a_pair_twice(rt: HostRuntime) -> Result<(), Fail> {
+    // The values are in another order than the keys, so a merge has to go along both tables by the values. Each row is read for its
+    // prefix, and then for its value.
     let wanted = Wanted {
         tables: &[0, 1],
         steps: &MERGE,
         found: 1000,
-        reads: 2000,
+        reads: 4000,
     };
     let test = equal(INNER_VALUE, OUTER_VALUE);
     let counts = [1000, 1000];
@@ -456,7 +457,7 @@ fn merge_reads_each_pair_that_fits(rt: HostRuntime) -> Result<(), Fail> {
 }
 
 /// Merges a table of 1,000 rows and one of 10, in this order or the other one, by a test that each row of the second meets with one
-/// of the first.
+/// of the first. Each row is read for its prefix, and only those of a pair for their values.
 fn merge_with_few(
     rt: &(impl Abort + AllocGlobal),
     tables: [usize; 2],
@@ -468,14 +469,14 @@ fn merge_with_few(
         tables: &tables,
         steps: &MERGE,
         found: 10,
-        reads: 20,
+        reads: 1030,
     };
     let counts = [1000, 10];
     runs_over(rt, IndexKind::Tree, counts, Values::Keys, [test], wanted)
 }
 
 #[test]
-fn merge_reads_no_row_without_partner(rt: HostRuntime) -> Result<(), Fail> {
+fn merge_reads_rows_without_partner_for_their_prefix(rt: HostRuntime) -> Result<(), Fail> {
     merge_with_few(&rt, [0, 1], equal(INNER_VALUE, OUTER_VALUE))?;
     merge_with_few(&rt, [1, 0], equal(INNER_VALUE, OUTER_VALUE))?;
 
@@ -489,7 +490,7 @@ fn merge_pairs_all_rows_of_one_value(rt: HostRuntime) -> Result<(), Fail> {
         tables: &[0, 1],
         steps: &MERGE,
         found: 6,
-        reads: 9,
+        reads: 14,
     };
     let test = equal(INNER_VALUE, OUTER_VALUE);
     runs_over(&rt, IndexKind::Tree, [3, 2], Values::Ones, [test], wanted)

@@ -35,13 +35,13 @@ fn tells_the_indexes_of_columns(rt: HostRuntime) -> Result<(), Fail> {
     Ok(())
 }
 
-/// The prefixes of what the row of a key of the second table has in its first three columns, None where the view tells none, and
-/// how many rows are counted for them.
+/// The prefixes of what the row of a key of the second table has in its first three columns, `None` if the view returns none, and
+/// the number of reads that are counted for them.
 fn prefixes_at(store: &Store, key: i64) -> Option<([Option<u64>; 3], u64)>
     requires { 1 < length store.now.tables }
 {
     let at = at_key(store, 1, key)?;
-    let view = store.view();
+    let mut view = store.view();
     let prefixes = [
         view.prefix_of(1, 0, at),
         view.prefix_of(1, 1, at),
@@ -55,17 +55,18 @@ fn prefix(number: i64) -> Option<u64> {
     Some(order_prefix(&Value::Int(number)))
 }
 
-/// Looks at the prefixes of a row: the view tells them of both columns, since these have numbers, and there is no third.
+/// Compares the prefixes of a row: the view returns those of both columns, since these have numbers, and counts two reads. There is
+/// no third column.
 fn has_prefixes(rt: &impl Abort, store: &Store)
     requires { 1 < length store.now.tables }
 {
     let kept = [prefix(22), prefix(2), None];
-    assert_same(rt, prefixes_at(store, 22), Some((kept, 0)));
+    assert_same(rt, prefixes_at(store, 22), Some((kept, 2)));
     assert_same(rt, prefixes_at(store, 23), None);
 }
 
 #[test]
-fn tells_prefixes_with_no_look_at_a_row(rt: HostRuntime) -> Result<(), Fail> {
+fn counts_the_prefixes_that_it_gives(rt: HostRuntime) -> Result<(), Fail> {
     let case = case(rt.alloc())?;
     has_prefixes(&rt, &case.store);
     Ok(())

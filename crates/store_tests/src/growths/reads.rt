@@ -187,7 +187,7 @@ fn by_value(store: &Store, alloc: Global) -> Result<Option<TableRows<'_>>, Alloc
     let Some(IndexRef::Hash(place)) = view.hash_on(1, 1) else {
         return Ok(None);
     };
-    let rows = view.rows_by_index(alloc, 1, place, 1, IndexKind::Hash)?;
+    let rows = store.rows_by_index(alloc, 1, place, 1, IndexKind::Hash)?;
     Ok(Some(rows))
 }
 

@@ -5,7 +5,8 @@ use Rattle.std.proofs.lemmas.List.Sorted.{IsPermutation-refl, length_permutation
 use Rattle.mm_partition.specs.Places.{IsLive, slot_at}
 use Rattle.mm_query.specs.Atoms.{value_in}
 use Rattle.mm_relation.specs.Refs.{row_at, row_in}
-use Rattle.mm_select.proofs.Walks.{holds_next, split_all, split_next}
+use Rattle.mm_relation.proofs.Matches.{split_next}
+use Rattle.mm_select.proofs.Walks.{holds_next, split_all}
 use Rattle.mm_store.proofs.Joining.{some_at}
 use Rattle.mm_store.specs.Tables.{IsAt, Tables}
 use Rattle.mm_value.specs.Hash.{value_hash}

@@ -1,7 +1,7 @@
 use Rattle.std.proofs.Common.{◌≡◌, ◌⊎◌, inl, inr, ℕ, ◌+◌, ◌<◌, ◌≤◌, List, length, sym, ap, subst, arith}
 use Rattle.std.specs.List.{sum_by}
-use Rattle.mm_join.specs.Reads.{has_hash, has_sought, reads_behind}
-use Rattle.mm_plan.proofs.Keyed.{followed, key_holds, reads_by_key}
+use Rattle.mm_join.specs.Reads.{has_hash, has_sought, merge_reads, reads_behind}
+use Rattle.mm_plan.proofs.Keyed.{followed, key_holds, merge_reads_by_key, reads_by_key}
 use Rattle.mm_plan.proofs.next_table.join_by.Goals as goal
 use Rattle.mm_plan.specs.Steps.{HasKey, Joins, RefersPlainly, reads_each, step_reads}
 use Rattle.mm_plan.specs.declared.step.Step.{Step}
@@ -26,6 +26,23 @@ precomputed-requires-clause-asked c = λ table stored next here.
     followed store atoms outers table key (key_holds atoms (length outers) atom key is (RefersPlainly store outers table) joins)
     (subst (λ (ts : List ℕ). key.field.place < length ts) c.descriptor.ensures.tables c.key_at-key.ensures.earlier)
     (c.key_at-key.ensures.asked outers (sym (ap length c.descriptor.ensures.tables))) stored here
+
+pub returns-in-TreeMerge-clause-reads : goal.returns-in-TreeMerge-clause-reads
+returns-in-TreeMerge-clause-reads c = λ table next.
+    let store = c.args.view.now.store in
+    let atoms = c.args.join.now.atoms.now in
+    let outers = c.args.join.now.outer.now.tables in
+    let atom = c.in-TreeMerge.atom in
+    let key = c.key_at-key-in-TreeMerge.result in
+    let rows = rows_at store.tables table in
+    let found = combo_rows store c.args.join.now.outer.now in
+    let is = subst (λ (ts : List ℕ). HasKey atoms (length ts) atom (λ k. k ≡ key)) c.descriptor.ensures.tables c.key_at-key-in-TreeMerge.ensures.is in
+    let sums : sum_by (reads_each atoms (length outers) (step.TreeMerge c.in-TreeMerge.outer c.in-TreeMerge.inner atom) rows) found
+    ≡ sum_by (merge_reads key rows) found =
+    merge_reads_by_key atoms (length outers) atom key is rows found in
+    let bound = c.tree_merge.ensures.reads table next in
+    subst (λ (s : Step). c.tree_merge.new.view.reads ≤ c.args.view.now.reads + step_reads atoms (length outers) s rows found) (sym c.in-TreeMerge.is)
+    (omega (arith, sums, bound))
 
 pub returns-in-BuiltHash-clause-reads : goal.returns-in-BuiltHash-clause-reads
 returns-in-BuiltHash-clause-reads c = λ table next.

@@ -10,7 +10,8 @@ use Rattle.mm_store.specs.Tables.{IsAt, Tables}
 use Rattle.mm_templist.specs.Combos.{row_of}
 use Rattle.mm_select.specs.Matches.{matching}
 use Rattle.mm_select.proofs.KeyWalks.{walk_counted}
-use Rattle.mm_select.proofs.Walks.{holds_next, matching_more, matching_still, split_all, split_next}
+use Rattle.mm_relation.proofs.Matches.{split_next}
+use Rattle.mm_select.proofs.Walks.{holds_next, matching_more, matching_still, split_all}
 use Rattle.mm_select.proofs.selecting.scan.Goals as goal
 
 pub walk-at-items-requires-clause-tree : goal.walk-at-items-requires-clause-tree

@@ -8,7 +8,7 @@ use Rattle.mm_select.specs.Matches.{matches}
 use Rattle.mm_store.specs.Tables.{Tables, rows_at}
 use Rattle.mm_templist.specs.Combos.{AreLive, Combos, combo_rows, rows_of_combo}
 use Rattle.mm_value.specs.declared.row_ref.RowRef.{RowRef}
-use Rattle.mm_join.proofs.Along.{candidates_here, due_here, few_here, found_step, refused, spent_more, spent_within}
+use Rattle.mm_join.proofs.Along.{candidates_here, due_here, few_here, found_step, prefix_within, refused, spent_more, spent_within}
 use Rattle.mm_join.proofs.Caps.{cap_within}
 use Rattle.mm_join.proofs.Progress.{Progress, due_end, holds_there, joined_end, live_end, none_step, one_wider}
 use Rattle.mm_join.specs.AccessMethods.{found_behind, listed, reads_along}
@@ -20,7 +20,7 @@ choose-requires c =
     let store = c.args.view.now.store in
     let outer = c.args.self.now.outer.now in
     let front = c.combo-refs.result.now in
-    subst (λ (s : Tables). AreLive s c.descriptor.result.tables.now front) (sym c.loop-i.invariant.same)
+    subst (λ (s : Tables). AreLive s c.descriptor.result.tables.now front) (sym (c.has_none.ensures.store ∙ c.loop-i.invariant.same))
     (subst (λ ts. AreLive store ts front) (sym c.descriptor.ensures.tables)
     (holds_there outer.combos c.loop-i.i front c.combo-refs.ensures (AreLive store outer.tables) c.requires.next.1.1))
 
@@ -29,7 +29,7 @@ find-requires-clause-live c =
     let store = c.args.view.now.store in
     let outer = c.args.self.now.outer.now in
     let front = c.combo-refs.result.now in
-    subst (λ (s : Tables). AreLive s c.descriptor.result.tables.now front) (sym (c.choose.ensures.same ∙ c.loop-i.invariant.same))
+    subst (λ (s : Tables). AreLive s c.descriptor.result.tables.now front) (sym (c.choose.ensures.same ∙ (c.has_none.ensures.store ∙ c.loop-i.invariant.same)))
     (subst (λ ts. AreLive store ts front) (sym c.descriptor.ensures.tables)
     (holds_there outer.combos c.loop-i.i front c.combo-refs.ensures (AreLive store outer.tables) c.requires.next.1.1))
 
@@ -61,6 +61,7 @@ returns-in_err-choose-clause-reads c = λ table is.
       subst (λ n. c.loop-i.view.reads ≤ c.args.view.now.reads
           + sum_by (reads_along method (rows_at store.tables n)) (take c.loop-i.i (combo_rows store outer)))
           (ap (λ (x : Inner). x.table) (c.inner-inner.ensures table is.0)) c.loop-i.invariant.reads,
+      prefix_within c.args.method.now c.loop-i.method c.loop-i.invariant.method c.loop-i.view.reads c.has_none.new.view.reads c.has_none.ensures.reads,
       c.choose.ensures.reads,
       ap length c.descriptor.ensures.tables,
     )
@@ -78,6 +79,7 @@ returns-in_err-find-clause-reads c = λ table is.
       subst (λ n. c.loop-i.view.reads ≤ c.args.view.now.reads
           + sum_by (reads_along method (rows_at store.tables n)) (take c.loop-i.i (combo_rows store outer)))
           (ap (λ (x : Inner). x.table) (c.inner-inner.ensures table is.0)) c.loop-i.invariant.reads,
+      prefix_within c.args.method.now c.loop-i.method c.loop-i.invariant.method c.loop-i.view.reads c.has_none.new.view.reads c.has_none.ensures.reads,
       c.choose.ensures.reads,
       ap length c.descriptor.ensures.tables,
     )
@@ -92,7 +94,8 @@ returns-in_err-add_all-clause-reads c = λ table is.
     let candidates : c.candidates-candidates.result.now ≡ listed c.has_none.new.self c.find.new.found.items =
     c.candidates-candidates.ensures ∙ (λ j. listed (c.find.ensures.same j) (c.as_slice.ensures.value j)) in
     let inner = c.inner-inner.ensures table is.0 in
-    let few = few_here store c.args.self.now table c.inner-inner.result inner c.choose.new.view.store (c.choose.ensures.same ∙ c.loop-i.invariant.same) front
+    let few = few_here store c.args.self.now table c.inner-inner.result inner c.choose.new.view.store
+    (c.choose.ensures.same ∙ (c.has_none.ensures.store ∙ c.loop-i.invariant.same)) front
     c.descriptor.result.tables.now c.descriptor.ensures.tables method c.has_none.new.self (c.has_none.ensures.same ∙ c.loop-i.invariant.method)
     (length c.candidates-candidates.result.now)
     (subst (λ l. length l ≤ found_behind c.has_none.new.self (rows_at c.choose.new.view.store.tables c.inner-inner.result.table)
@@ -103,6 +106,7 @@ returns-in_err-add_all-clause-reads c = λ table is.
       arith,
       spent_within method (rows_at store.tables c.inner-inner.result.table) store outer c.loop-i.i front c.combo-refs.ensures live,
       c.loop-i.invariant.reads,
+      prefix_within c.args.method.now c.loop-i.method c.loop-i.invariant.method c.loop-i.view.reads c.has_none.new.view.reads c.has_none.ensures.reads,
       c.choose.ensures.reads,
       c.add_all.ensures.reads,
       few,
@@ -121,11 +125,12 @@ returns-in_err-add_all-clause-joins c = λ table is.
     let rows = rows_read viewed c.choose.new.rows.items in
     let inner = c.inner-inner.ensures table is.0 in
     let t : c.inner-inner.result.table ≡ table = ap (λ (x : Inner). x.table) inner in
-    let same = c.choose.ensures.same ∙ c.loop-i.invariant.same in
+    let same = c.choose.ensures.same ∙ (c.has_none.ensures.store ∙ c.loop-i.invariant.same) in
     let candidates : c.candidates-candidates.result.now ≡ listed c.has_none.new.self c.find.new.found.items =
     c.candidates-candidates.ensures ∙ (λ j. listed (c.find.ensures.same j) (c.as_slice.ensures.value j)) in
     let chosen : rows ≡ map Some (rows_of_combo store outer.tables front) =
-    c.in_ok-choose.ensures.rows ∙ (λ j. map Some (rows_of_combo (c.loop-i.invariant.same j) (c.descriptor.ensures.tables j) front)) in
+    c.in_ok-choose.ensures.rows ∙
+    (λ j. map Some (rows_of_combo ((c.has_none.ensures.store ∙ c.loop-i.invariant.same) j) (c.descriptor.ensures.tables j) front)) in
     let are = candidates_here store join table c.inner-inner.result inner c.choose.new.view.store same front c.descriptor.result.tables.now
     c.descriptor.ensures.tables _ _ c.in_ok-find.ensures.found in
     let tried : List (List RowRef) = c.loop-i.list.combos ++ matches c.choose.new.view.store c.inner-inner.result.table c.inner-inner.result.atoms.now rows
@@ -157,7 +162,7 @@ loop-i-preserved-then-has_none c =
     let are = candidates_here store join table c.inner-inner.result inner c.loop-i.view.store c.loop-i.invariant.same front c.descriptor.result.tables.now
     c.descriptor.ensures.tables 0 [] (c.has_none.ensures.none c.if-has_none.true) in
     record {
-      same = c.loop-i.invariant.same;
+      same = c.has_none.ensures.store ∙ c.loop-i.invariant.same;
       method = c.has_none.ensures.same ∙ c.loop-i.invariant.method;
       tables = c.loop-i.invariant.tables;
       fields = c.loop-i.invariant.fields;
@@ -168,6 +173,7 @@ loop-i-preserved-then-has_none c =
         arith,
         spent_more c.args.method.now (rows_at store.tables c.inner-inner.result.table) store outer c.loop-i.i front c.combo-refs.ensures live,
         c.loop-i.invariant.reads,
+        prefix_within c.args.method.now c.loop-i.method c.loop-i.invariant.method c.loop-i.view.reads c.has_none.new.view.reads c.has_none.ensures.reads,
       );
     }
 
@@ -184,12 +190,13 @@ loop-i-preserved c =
     let all = c.requires.next.1.1 in
     let inner = c.inner-inner.ensures table next.0 in
     let t : c.inner-inner.result.table ≡ table = ap (λ (x : Inner). x.table) inner in
-    let same = c.choose.ensures.same ∙ c.loop-i.invariant.same in
+    let same = c.choose.ensures.same ∙ (c.has_none.ensures.store ∙ c.loop-i.invariant.same) in
     let live = holds_there outer.combos c.loop-i.i front c.combo-refs.ensures (AreLive store outer.tables) all in
     let candidates : c.candidates-candidates.result.now ≡ listed c.has_none.new.self c.find.new.found.items =
     c.candidates-candidates.ensures ∙ (λ j. listed (c.find.ensures.same j) (c.as_slice.ensures.value j)) in
     let chosen : rows ≡ map Some (rows_of_combo store outer.tables front) =
-    c.in_ok-choose.ensures.rows ∙ (λ j. map Some (rows_of_combo (c.loop-i.invariant.same j) (c.descriptor.ensures.tables j) front)) in
+    c.in_ok-choose.ensures.rows ∙
+    (λ j. map Some (rows_of_combo ((c.has_none.ensures.store ∙ c.loop-i.invariant.same) j) (c.descriptor.ensures.tables j) front)) in
     let are = candidates_here store join table c.inner-inner.result inner c.choose.new.view.store same front c.descriptor.result.tables.now
     c.descriptor.ensures.tables _ _ c.in_ok-find.ensures.found in
     let tried : List (List RowRef) = c.loop-i.list.combos ++ matches c.choose.new.view.store c.inner-inner.result.table c.inner-inner.result.atoms.now rows
@@ -219,6 +226,7 @@ loop-i-preserved c =
         arith,
         spent_more method (rows_at store.tables c.inner-inner.result.table) store outer c.loop-i.i front c.combo-refs.ensures live,
         c.loop-i.invariant.reads,
+        prefix_within c.args.method.now c.loop-i.method c.loop-i.invariant.method c.loop-i.view.reads c.has_none.new.view.reads c.has_none.ensures.reads,
         c.choose.ensures.reads,
         c.add_all.ensures.reads,
         few,

@@ -5,7 +5,7 @@ use Rattle.mm_store.specs.Tables.{IsAt, Tables, rows_at}
 use Rattle.mm_templist.specs.Combos.{combo_rows}
 use Rattle.mm_join.specs.Joined.{IsNext}
 use Rattle.mm_join.specs.Joins.{CanJoin, Joins}
-use Rattle.mm_join.specs.Reads.{has_prefix, reads_of}
+use Rattle.mm_join.specs.Reads.{merge_reads}
 use Rattle.mm_join.specs.AccessMethods.{IsAccessMethod, inner_of, reads_along}
 use Rattle.mm_join.specs.declared.inner.Inner.{Inner}
 use Rattle.mm_join.proofs.join.Join.tree_merge.Goals as goal
@@ -61,7 +61,8 @@ returns-clause-reads c = λ table is.
     let join = c.args.self.now in
     let inner = c.inner.ensures table is.0 in
     let next = subst (λ (s : Tables). IsNext s join.outer.now.tables join.descriptor.tables.now table) (sym c.new.ensures.same) is in
-    let along : c.along.new.view.reads ≤ c.new.new.view.reads + reads_of store join table (has_prefix c.args.key) =
+    let along : c.along.new.view.reads ≤ c.new.new.view.reads
+    + sum_by (merge_reads c.args.key (rows_at store.tables table)) (combo_rows store join.outer.now) =
     subst (λ n. c.along.new.view.reads ≤ c.new.new.view.reads + n)
     (λ j. sum_by (reads_along (c.by.ensures j) (rows_at (c.new.ensures.same j).tables table)) (combo_rows (c.new.ensures.same j) join.outer.now))
     (c.along.ensures.reads table next) in

@@ -1,0 +1,2 @@
+pub mod Examples
+pub use Rattle.mm_plan.specs.ReadExamples
