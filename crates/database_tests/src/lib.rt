@@ -11,6 +11,8 @@ mod cascades;
 #[cfg(test)]
 mod growths;
 #[cfg(test)]
+mod reads;
+#[cfg(test)]
 mod samples;
 #[cfg(test)]
 mod savepoints;

@@ -209,7 +209,8 @@ pub fn give(alloc: Global, database: &mut Db, command: Command<'_>) -> Result<us
 
 /// Makes a change of a database, and tells how many rows it changed.
 pub fn make(alloc: Global, database: &mut Db, change: Change<'_>) -> Result<usize, Refusal> {
-    match database.execute(alloc, change) {
+    let mut reads = 0;
+    match database.execute(alloc, change, &mut reads) {
         Reply::Done => Ok(0),
         Reply::Count(count) => Ok(count),
         Reply::Refused(refusal) => Err(refusal),
@@ -226,7 +227,8 @@ pub fn ask<'s>(
     database: &'s Db,
     question: Question<'_>,
 ) -> Result<Answer<'s>, Refusal> {
-    match database.ask(alloc, question) {
+    let mut reads = 0;
+    match database.ask(alloc, question, &mut reads) {
         Answer::Refused(refusal) => Err(refusal),
         answer => Ok(answer),
     }

@@ -6,10 +6,8 @@ use Rattle.std.proofs.lemmas.List.Elements.{All-cons, All-nil}
 use Rattle.mm_partition.specs.Places.{slot_at}
 use Rattle.mm_relation.specs.Edits.{new_rows}
 use Rattle.mm_relation.specs.Kept.{StoredRows}
-use Rattle.mm_relation.specs.Refs.{Slots}
 use Rattle.mm_relation.specs.RowLists.{edit_pairs}
 use Rattle.mm_relation.specs.declared.edits.Edit.{Edit}
-use Rattle.mm_relation.specs.declared.edits.Edit.TheVariants.{Add, Gone, Swap}
 use Rattle.mm_schema.specs.Instance.{TableEdits as NamedEdits}
 use Rattle.mm_schema.specs.Name.{same_name}
 use Rattle.mm_schema.specs.Rows.{Pair}
@@ -36,6 +34,7 @@ use Rattle.mm_txn.specs.declared.bound.ChangeToRun.TheVariants as run
 use Rattle.mm_txn.specs.PlacedEdits.{AreEdits, AreEditsOf, AreOwnEditsOf, FitsAt, PlacedEdits, named, pairs_at}
 use Rattle.mm_txn.proofs.DatabaseSteps.{rows_there, some_there}
 use Rattle.mm_txn.proofs.ReferenceRows.{found_passes}
+use Rattle.mm_store.proofs.Removals.{come}
 
 -- ---- a change that may cascade
 
@@ -79,13 +78,6 @@ other_edits (Insert table tuples) state is = refl
 other_edits (Update table assignments tests) state is = refl
 other_edits (Delete table tests) state is = cc
 
--- The rows that edits bring are those of their pairs.
-brought : (now : Slots) (edits : List Edit) → filter_map (λ (p : Pair). p.1) (edit_pairs now edits) ≡ new_rows edits
-brought now [] = refl
-brought now (Add row ∷ es) = ap (λ rows. row ∷ rows) (brought now es)
-brought now (Swap at row ∷ es) = ap (λ rows. row ∷ rows) (brought now es)
-brought now (Gone at ∷ es) = brought now es
-
 -- ---- the edits of one
 
 module _ (schema : Schema) (store : Tables) (are : AreOf schema.tables store.tables) (mutation : Mutation) (place : ℕ) (edits : List Edit)
@@ -106,7 +98,7 @@ module _ (schema : Schema) (store : Tables) (are : AreOf schema.tables store.tab
   -- .. bring no rows where rows may be cascaded, ..
   pub own_removes : is_delete mutation ≡ true → new_rows edits ≡ []
   own_removes is =
-      sym (brought (slot_at stored_there.0.places) edits)
+      sym (come (slot_at stored_there.0.places) edits)
       ∙ (ap (filter_map (λ (p : Pair). p.1)) (own.pairs stored_there.0 stored_there.1)
       ∙ none_comes (own_pairs mutation state) (delete_removes mutation state is))
 

@@ -40,6 +40,7 @@ use Rattle.mm_txn.specs.Kept.{state_of}
 use Rattle.mm_txn.proofs.DatabaseSteps.{key_is, place_found, rows_of_name, rows_there, some_there}
 use Rattle.mm_txn.proofs.IndexesBeside.{AreOf-with_index, AreOf-without_index}
 use Rattle.mm_txn.proofs.RowsBeside.{as_many_rows, beside, instance_of-set, many_columns}
+use Rattle.mm_plan.proofs.Fields.{as_many}
 
 -- what a look-up by a name that lies elsewhere finds
 pub column_found : {at name : List ℕ} {found wanted : Option ℕ} (columns : List Column) → at ≡ name → found ≡ column_place at columns → found ≡ wanted
@@ -117,12 +118,6 @@ none_found p (d ∷ ds) found = by (p d) found (none_found p ds)
     by : (b : Bool) → cond b (Some d) (find p ds) ≡ None → (find p ds ≡ None → list_any p ds ≡ false) → (b || list_any p ds) ≡ false
     by true here later = cc
     by false here later = later here
-
-as_many_indexes : (columns : List Column) (ds : List IndexDef) (xs : List Index) → AreIndexes columns ds xs → length xs ≡ length ds
-as_many_indexes columns [] [] are = refl
-as_many_indexes columns (d ∷ ds) (x ∷ xs) are = ap (λ n. suc n) (as_many_indexes columns ds xs are.1)
-as_many_indexes columns [] (x ∷ xs) are = absurd are
-as_many_indexes columns (d ∷ ds) [] are = absurd are
 
 -- ---- the index of a name
 
@@ -280,7 +275,7 @@ module _ (schema : Schema) (rs : List StoredRows) (are : AreOf schema.tables rs)
         let b = beside schema.tables rs place stored are there in
         let same : b.table ≡ table = one_table_here b.table table (sym b.there ∙ at) in
         let within : i < length table.indexes = within_from_some _ table.indexes i found in
-        let many : length stored.indexes ≡ length b.table.indexes = as_many_indexes b.table.definition.columns b.table.indexes stored.indexes b.is_of.indexes in
+        let many : length stored.indexes ≡ length b.table.indexes = as_many b.table.definition.columns b.table.indexes stored.indexes b.is_of.indexes in
         omega (arith, within, many, ap (λ (t : Table). length t.indexes) same)
 
     pub index_not_missing : position (λ d. same_name name d.name) table.indexes ≡ None → ⊥

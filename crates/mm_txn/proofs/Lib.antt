@@ -32,6 +32,7 @@ mod RestKept
 mod Resting
 mod Naming
 mod Placed
+mod PlanReads
 mod WatchSteps
 mod Showing
 mod TestedQueries

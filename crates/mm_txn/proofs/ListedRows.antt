@@ -31,6 +31,7 @@ use Rattle.mm_txn.proofs.PlacedRows.{edited_have}
 use Rattle.mm_txn.proofs.Removals.{form_turned}
 use Rattle.mm_txn.proofs.RowsBeside.{instance_of-set}
 use Rattle.mm_txn.proofs.Selecting.{all_there}
+use Rattle.mm_delta.proofs.Placed.{fit_nothing}
 
 -- ---- what refuses a change because of standing queries
 
@@ -80,15 +81,9 @@ pub after_is : (store : Tables) (changes : List TableChange) → after_at store 
 after_is store changes =
     λ i place. option_map_or (λ (stored : StoredRows). rows_with stored (same_edits changes place i)) (slice_get store.tables place) []
 
-fit_none : (stored : StoredRows) → AreFit stored []
-fit_none stored = record {
-  standing = record { live = λ k d within. absurd (omega (arith, within)); apart = λ i j d below within. absurd (omega (arith, within)) };
-  typed = λ k d within. absurd (omega (arith, within));
-}
-
 fit_found : (store : Tables) (changes : List PlacedEdits) → All (FitsAt store) changes → (place : ℕ) (stored : StoredRows) → IsAt store place stored
     → AreFit stored (edits_at changes place)
-fit_found store [] fit place stored there = fit_none stored
+fit_found store [] fit place stored there = fit_nothing stored
 fit_found store (c ∷ cs) fit place stored there =
     by (c.0 == place) refl (fit_found store cs (All-tail (FitsAt store) c cs fit) place stored there)
   where

@@ -1,9 +1,8 @@
 -- The rows of the tables of a standing query, by the places of the tables and by their names.
-use Rattle.std.proofs.Common.{◌≡◌, ℕ, zero, suc, ◌+◌, ◌<◌, Bool, true, false, cond, ltb, not, List, [], ◌∷◌, Some, None, find, is_none, length, map}
+use Rattle.std.proofs.Common.{◌≡◌, ℕ, zero, suc, ◌+◌, ◌<◌, Bool, true, false, cond, not, List, [], ◌∷◌, Some, find, is_none, length, map}
 use Rattle.std.proofs.Common.{slice_index_or, refl, sym, ap, subst, ◌∙◌, arith}
 use Rattle.std.specs.List.{All, list_any, position_or_len}
 use Rattle.std.specs.Option.{unwrap_or}
-use Rattle.std.proofs.lemmas.Bool.Decides.{nat_tests}
 use Rattle.std.proofs.lemmas.Bool.{or_parts}
 use Rattle.std.proofs.lemmas.List.Elements.{All-cons, All-nil}
 use Rattle.mm_relation.specs.Kept.{StoredRows}
@@ -21,6 +20,7 @@ use Rattle.mm_query.specs.Resolving.{places_in}
 use Rattle.mm_standing.specs.Queries.{StandingQuery, bag_over}
 use Rattle.mm_plan.specs.Kept.{instance_of}
 use Rattle.mm_txn.specs.Listed.{IsPlaced, rows_by_place}
+use Rattle.mm_schema.proofs.AllReferences.{placed, within}
 
 -- the table has the name
 abbrev pub has : List ℕ → Table → Bool
@@ -45,18 +45,6 @@ there_at (x ∷ xs) (suc k) t d inside at = by (has (name_of t) x) (there_at xs 
     by : (b : Bool) → lacks (name_of t) xs ≡ false → is_none (cond b (Some x) (find (has (name_of t)) xs)) ≡ false
     by true later = refl
     by false later = later
-
-placed : (at len : ℕ) → at < len → unwrap_or (cond (ltb at len) (Some at) None) 0 ≡ at
-placed at len h = grind (arith, nat_tests)
-
-within : (name : List ℕ) (tables : List Table) → lacks name tables ≡ false → first name tables < length tables
-within name [] there = cc
-within name (t ∷ ts) there = by (has name t) there (within name ts)
-  where
-    by : (b : Bool) → is_none (cond b (Some t) (find (has name) ts)) ≡ false → (lacks name ts ≡ false → first name ts < length ts)
-        → cond (not b) (1 + first name ts) 0 < length (t ∷ ts)
-    by true there later = omega arith
-    by false there later = let rest = later there in omega arith
 
 -- A name that is there has the place of its first table.
 pub place_is : (name : List ℕ) (schema : Schema) → lacks_table name schema ≡ false → unwrap_or (table_place name schema) 0 ≡ first name schema.tables

@@ -22,14 +22,13 @@ use Rattle.mm_query.specs.declared.command.Definition.TheVariants as define
 use Rattle.mm_query.specs.declared.command.Mutation.{Mutation}
 use Rattle.mm_query.specs.declared.command.Mutation.TheVariants.{Insert, Update, Delete}
 use Rattle.mm_query.proofs.Due.{step-done}
-use Rattle.mm_laws.proofs.Throughout.{kept_by_step, none_later, saved_by_definition}
+use Rattle.mm_laws.proofs.Throughout.{kept_by_step, saved_by_definition}
 use Rattle.mm_txn.specs.Releasing.{Call, after_call, after_calls, after_release}
 use Rattle.mm_txn.specs.Releasing.Call.{Run, Release}
-use Rattle.mm_txn.proofs.ReleaseLaws.{after_both, released}
-
-not_false : (b : Bool) → not b ≡ false → b ≡ true
-not_false true is = refl
-not_false false is = absurd (false≢true (sym is))
+use Rattle.mm_txn.proofs.ReleaseLaws.{released}
+use Rattle.mm_laws.proofs.StillFound.{not_false}
+use Rattle.mm_schema.proofs.Dues.{none_here}
+use Rattle.mm_laws.proofs.Transactions.{after_both}
 
 -- Commands lead to the state.
 abbrev pub IsReached : State → Type 0
@@ -195,7 +194,7 @@ all_by_definition definition state None due is =
 all_by_definition definition state (Some saved) due is =
     let old : State = record state { saved = Some saved } in
     let new : State = after_definition definition old in
-    let later = none_later (not (is_of_index definition)) NotInTransaction (first_refusal (definition_conditions definition old)) due in
+    let later = none_here (not (is_of_index definition)) NotInTransaction (first_refusal (definition_conditions definition old)) due in
     let of_index : is_of_index definition ≡ true = not_false (is_of_index definition)
     (first_none (not (is_of_index definition)) NotInTransaction (first_refusal (definition_conditions definition old)) due) in
     subst (AllReached new) (sym (saved_by_definition definition old))

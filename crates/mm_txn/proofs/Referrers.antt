@@ -28,7 +28,7 @@ use Rattle.mm_schema.proofs.Duplicates.{Row}
 use Rattle.mm_schema.specs.References.{refers}
 use Rattle.mm_schema.specs.Rows.{Pair, column_cmp}
 use Rattle.mm_query.proofs.FoundTargets.{some_among, some_by_one}
-use Rattle.mm_store.proofs.Referring.{agree, one_of_key, refers_same, same_from_refers}
+use Rattle.mm_store.proofs.Referring.{agree, refers_same, same_from_refers}
 use Rattle.mm_store.specs.Links.{RefersTo}
 use Rattle.mm_value.proofs.Orders.{value_cmp_total}
 use Rattle.mm_value.specs.Order.{value_cmp}
@@ -36,6 +36,7 @@ use Rattle.mm_value.specs.declared.row_ref.RowRef.{RowRef}
 use Rattle.mm_value.specs.declared.values.Value.{Value}
 use Rattle.mm_delta.specs.Steps.{takes}
 use Rattle.mm_txn.specs.Cascades.{AddsReferrers}
+use Rattle.mm_relation.proofs.Lawful.{one_of_key}
 
 -- ---- what a filter leaves
 

@@ -1,6 +1,6 @@
 -- What a release leaves of the savepoints before it, and that ROLLBACK TO one of these does what it does without the release.
 use Rattle.std.proofs.Common.{◌≡◌, ◌⊎◌, ◌||◌, ◌<◌, ◌≤◌, ℕ, Bool, true, false, cond, if◌then◌else◌, not, List, [], ◌∷◌, ◌++◌, Option, Some, None, inl, inr}
-use Rattle.std.proofs.Common.{drop, is_some, length, suc, refl, sym, ap, ◌∙◌, arith}
+use Rattle.std.proofs.Common.{drop, length, suc, refl, sym, ap, ◌∙◌, arith}
 use Rattle.std.specs.List.{list_all, list_any}
 use Rattle.std.specs.Option.{option_map, option_map_or}
 use Rattle.std.proofs.lemmas.Bool.{false≢true}
@@ -19,10 +19,8 @@ use Rattle.mm_query.specs.declared.command.Command.TheVariants.{Commit, Rollback
 use Rattle.mm_query.specs.declared.reply.Reply.TheVariants.{Done}
 use Rattle.mm_query.proofs.Due.{step-done}
 use Rattle.mm_txn.specs.Releasing.{IsSetBefore, after_release}
-
-pub after_both : (front behind : List Command) (state : State) → after_all (front ++ behind) state ≡ after_all behind (after_all front state)
-after_both [] behind state = refl
-after_both (command ∷ front) behind state = after_both front behind (step command state).state
+use Rattle.mm_laws.proofs.StillFound.{not_false}
+use Rattle.mm_laws.proofs.Transactions.{after_both, open_saved}
 
 -- What ROLLBACK TO leaves saved, what a release leaves, and what SAVEPOINT adds.
 abbrev pub kept_back : List ℕ → Option Saved → Option Saved
@@ -158,10 +156,6 @@ any_named name (s ∷ ss) = by (same_name name s.name) (any_named name ss)
     by true behind = refl
     by false behind = behind
 
-not_false : (b : Bool) → not b ≡ false → b ≡ true
-not_false true is = refl
-not_false false is = absurd (false≢true (sym is))
-
 -- Two transactions go back to one name alike.
 pub record GoBackAlike (name : List ℕ) (one : Saved) (other : Saved) : Type 0 where
   pub at_begin : one.at_begin ≡ other.at_begin
@@ -220,10 +214,6 @@ module _ (name earlier : List ℕ) where
       (there_where_granted earlier state saved due)
 
 -- ---- one name given twice
-
-open_saved : (saved : Option Saved) → is_some saved ≡ true → (kept : Saved) × (saved ≡ Some kept)
-open_saved None is = absurd (false≢true is)
-open_saved (Some saved) is = (saved, refl)
 
 back_to_kept : (name : List ℕ) (state : State) (saved : Option Saved) (at : Saved) (savepoint : Savepoint) (earlier : List Savepoint)
     → at.savepoints ≡ savepoint ∷ earlier → kept_back name saved ≡ Some at

@@ -1,9 +1,8 @@
 -- Standing queries and their lists after a change of the tables of the catalog.
 use Rattle.std.proofs.Common.{◌≡◌, ℕ, suc, ◌+◌, ◌≤◌, Bool, true, false, cond, not, Result, Ok, Err, OnOk, OnErr, List, [], ◌∷◌, ◌++◌, zero, Option, Some}
-use Rattle.std.proofs.Common.{None, filter, find, is_none, map, pos, slice_get, refl, sym, ap, subst, ◌∙◌, arith}
+use Rattle.std.proofs.Common.{None, filter, map, pos, slice_get, refl, sym, ap, subst, ◌∙◌}
 use Rattle.std.specs.List.{All, AllByRecursion, IsDistinct, list_any}
 use Rattle.std.specs.Option.{option_map, unwrap_or}
-use Rattle.std.proofs.lemmas.Bool.Decides.{nat_tests}
 use Rattle.std.proofs.lemmas.Bool.{or_parts}
 use Rattle.std.proofs.lemmas.List.{length-map}
 use Rattle.std.proofs.lemmas.List.Elements.{All-from_recursion, All-map, All-weaker, recursion_from_All}
@@ -48,7 +47,8 @@ use Rattle.mm_plan.specs.Kept.{AreKept, instance_of}
 use Rattle.mm_txn.specs.Kept.{state_of}
 use Rattle.mm_txn.specs.Rest.{AreAtRest, state_at_rest}
 use Rattle.mm_txn.specs.Listed.{AreListed, ArePlaced, IsPlaced, queries_of, rows_by_place}
-use Rattle.mm_txn.proofs.Placed.{bag_by_place, first, has, lacks, place_is}
+use Rattle.mm_txn.proofs.Placed.{bag_by_place, first, has, place_is}
+use Rattle.mm_schema.proofs.AllReferences.{first_behind, above_next, above_first, next_above_first}
 
 -- ---- what a change of the catalog leaves bound
 
@@ -113,16 +113,6 @@ module _ (old new : Schema) (keeps : KeepsPlaces old new) (stays : Stays old new
   }
 
 -- ---- a new table
-
-first_behind : (name : List ℕ) (tables : List Table) (table : Table) → lacks name tables ≡ false → first name (tables ++ table ∷ []) ≡ first name tables
-first_behind name [] table there = cc
-first_behind name (t ∷ ts) table there = by (has name t) there (first_behind name ts table)
-  where
-    by : (b : Bool) → is_none (cond b (Some t) (find (has name) ts)) ≡ false
-        → (lacks name ts ≡ false → first name (ts ++ table ∷ []) ≡ first name ts)
-        → cond (not b) (1 + first name (ts ++ table ∷ [])) 0 ≡ cond (not b) (1 + first name ts) 0
-    by true there later = refl
-    by false there later = ap (λ n. 1 + n) (later there)
 
 keeps_behind : (definition : TableDef) (schema : Schema) → KeepsPlaces schema (with_table definition schema)
 keeps_behind definition schema name there =
@@ -223,15 +213,6 @@ module _ (schema : Schema) (store : Tables) (lists : Lists) (rest : AreAtRest sc
     rest_still (Err refusal) due B answers done ok err = rest_refused err
 
 -- ---- a table less
-
-above_next : (gone place : ℕ) → 1 + above gone place ≡ above (1 + gone) (1 + place)
-above_next gone place = grind (arith, nat_tests)
-
-above_first : (gone : ℕ) → 0 ≡ above (1 + gone) 0
-above_first gone = grind (arith, nat_tests)
-
-next_above_first : (place : ℕ) → place ≡ above 0 (1 + place)
-next_above_first place = grind (arith, nat_tests)
 
 -- A standing query once the table at a place is gone that it does not read.
 abbrev pub moved : ℕ → StandingQuery → StandingQuery

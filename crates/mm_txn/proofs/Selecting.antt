@@ -70,7 +70,7 @@ module _ (schema : Schema) (store : Tables) (are : AreOf schema.tables store.tab
       let parts = or_parts (lacks_table item.table schema) (list_any (λ (i : FromItem). lacks_table i.table schema) from) there in
       All-cons (λ t. t < length store.tables) _ _ (found item.table parts.0).inside (all_there from parts.1)
 
-  lists_are : (from : List FromItem) → list_any (λ (item : FromItem). lacks_table item.table schema) from ≡ false
+  pub lists_are : (from : List FromItem) → list_any (λ (item : FromItem). lacks_table item.table schema) from ≡ false
       → map (rows_at store.tables) (places_in schema from) ≡ map (λ (item : FromItem). rows_in state item.table) from
   lists_are [] there = refl
   lists_are (item ∷ from) there =

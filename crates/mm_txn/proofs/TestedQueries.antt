@@ -16,7 +16,7 @@ use Rattle.mm_query.specs.declared.atom.Operand.TheVariants as operand
 use Rattle.mm_query.specs.declared.bound_query.FieldPlace.{FieldPlace}
 use Rattle.mm_query.specs.declared.query.FromItem.{FromItem}
 use Rattle.mm_query.specs.Resolving.{places_in}
-use Rattle.mm_relevance.specs.Relevance.{AddsToNumber, AddsToNumbers, is_text}
+use Rattle.mm_query.specs.Additions.{AddsToNumber, AddsToNumbers, is_text}
 use Rattle.mm_laws.specs.Typing.{AreTyped, ShiftsNumber, ShiftsNumbers, type_at}
 use Rattle.mm_laws.proofs.TypedNumbers.{adds_to_numbers}
 use Rattle.mm_delta.specs.declared.edited.TableChange.{TableChange}

@@ -4,7 +4,6 @@ use Rattle.std.proofs.Common.{inl, inr, refl, sym, ap, subst, ◌∙◌, ⊎_eli
 use Rattle.std.proofs.lemmas.Bool.{cases_Bool}
 use Rattle.mm_schema.specs.Refused.{AnswersDue, Condition, first_refusal}
 use Rattle.mm_schema.specs.Schema.{HasDistinctNames}
-use Rattle.mm_schema.proofs.Dues.{due_in_front}
 use Rattle.mm_standing.specs.State.{Lists, count_at}
 use Rattle.mm_store.specs.Marks.{rows_at_mark}
 use Rattle.mm_store.specs.Tables.{Tables}
@@ -25,14 +24,8 @@ use Rattle.mm_txn.specs.Saved.{IsConsistent, IsSettled, kept_state, saved_of, sa
 use Rattle.mm_txn.specs.declared.savepoints.Mark.{Mark}
 use Rattle.mm_txn.proofs.GoingBack.{back_through, saved_same}
 use Rattle.mm_txn.proofs.Resting.{bound_all}
-
--- What is not refused is not refused by the conditions in front.
-none_in_front : (cs ds : List Condition) → first_refusal (cs ++ ds) ≡ None → first_refusal cs ≡ None
-none_in_front cs ds none = by (first_refusal cs) refl
-  where
-    by : (due : Option Refusal) → first_refusal cs ≡ due → first_refusal cs ≡ None
-    by None e = e
-    by (Some refusal) e = let h : Some refusal ≡ None = sym (due_in_front cs ds refusal e) ∙ none in cc
+use Rattle.mm_laws.proofs.TypedSteps.{none_in_front}
+use Rattle.ttree.proofs.Between.{and_false}
 
 -- Rows that a change makes have their types, where neither the catalog nor the new values refuse it.
 pub rows_typed_after : (mutation : Mutation) (state : State) (values : List Condition) → HasDistinctNames state.schema
@@ -67,10 +60,6 @@ index_or_closed : (is_open of_index : Bool) → (is_open && not of_index) ≡ fa
 index_or_closed true true may = inr refl
 index_or_closed true false may = cc
 index_or_closed false of_index may = inl refl
-
-and_false : (b : Bool) → (b && false) ≡ false
-and_false true = refl
-and_false false = refl
 
 pub may_by_index : (is_open of_index : Bool) → of_index ≡ true → (is_open && not of_index) ≡ false
 may_by_index is_open of_index index = ap (λ (b : Bool). is_open && not b) index ∙ and_false is_open

@@ -7,6 +7,7 @@ pub mod Kept
 pub mod Listed
 pub mod Marks
 pub mod PlacedEdits
+pub mod Reads
 pub mod Releasing
 pub mod Requests
 pub mod Rest

@@ -6,7 +6,7 @@ use Rattle.mm_query.specs.Resolving.{IsQueryWithin, places_in}
 use Rattle.mm_query.specs.Standing.{AreBeside}
 use Rattle.mm_query.specs.declared.bound_query.BoundQuery.{BoundQuery}
 use Rattle.mm_laws.specs.Typing.{type_at}
-use Rattle.mm_relevance.specs.Relevance.{AddsToNumbers}
+use Rattle.mm_query.specs.Additions.{AddsToNumbers}
 use Rattle.mm_standing.specs.Queries.{GivesTyped, RowsByPlace, StandingQuery}
 use Rattle.mm_standing.specs.State.{FitNow, Lists}
 

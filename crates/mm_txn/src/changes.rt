@@ -19,6 +19,7 @@ ghost use Rattle.mm_txn.specs.Contents.{IsDue, Makes, MayMake};
 ghost use Rattle.mm_plan.specs.Kept.{instance_of};
 ghost use Rattle.mm_txn.specs.PlacedEdits.{AreEdits, FitsAt, HaveRows, leaves_orphans, placed, placed_change, rows_edited};
 ghost use Rattle.mm_txn.specs.Listed.{AreListed, IsTested, rows_by_place};
+ghost use Rattle.mm_txn.specs.Reads.{ReadsForLists};
 
 use crate::contents::Contents;
 use crate::edits::{ChangeEdits, RelationEdits};
@@ -31,22 +32,25 @@ use std::alloc::{AllocError, Global};
 impl Contents {
     /// Makes all edits of a change that its rows and the standing queries allow, and logs them, or none. Each list
     /// follows its query. The refusals are those of [`Store::check`] for the table that the change names, and then those
-    /// of [`Standing::prepare`]. `RowIsReferenced` is also due if a row that stays refers to a deleted row of another table.
+    /// of [`Standing::prepare`]. `RowIsReferenced` is also due if a row that stays refers to a deleted row of another table. Sets
+    /// `reads` to the number of rows read for the lists.
     pub(crate) fn make_edits(
         &mut self,
         alloc: Global,
         edits: ChangeEdits,
         undo: &mut Undo,
+        reads: &mut u64,
     ) -> Result<(), Refusal>
         requires { MayMake self.old.store self.old.lists undo.old (placed edits.own ∷ map placed edits.cascaded.items) }
         ensures due { IsDue self.old.store self.old.lists (placed edits.own) (map placed edits.cascaded.items) result }
         ensures made { Makes (rows_edited self.old.store (placed edits.own ∷ map placed edits.cascaded.items)) self.old.store self.new.store
             self.old.lists self.new.lists undo.old undo.new result }
         ensures schema { self.new.schema ≡ self.old.schema }
+        ensures reads { ReadsForLists self.old.store (placed edits.own ∷ map placed edits.cascaded.items) self.old.lists.queries reads.new }
     {
         let ChangeEdits { own, cascaded } = edits;
         if cascaded.is_empty() {
-            edit_table(alloc, &mut self.store, &mut self.standing, own, undo)
+            edit_table(alloc, &mut self.store, &mut self.standing, own, undo, reads)
         } else {
             remove_rows(
                 alloc,
@@ -55,6 +59,7 @@ impl Contents {
                 own,
                 cascaded,
                 undo,
+                reads,
             )
         }
     }
@@ -67,14 +72,17 @@ fn edit_table(
     standing: &mut Standing,
     own: RelationEdits,
     undo: &mut Undo,
+    reads: &mut u64,
 ) -> Result<(), Refusal>
     requires { MayMake store.old standing.old undo.old (placed own ∷ []) }
     ensures due { IsDue store.old standing.old (placed own) [] result }
     ensures made { Makes (rows_edited store.old (placed own ∷ [])) store.old store.new standing.old standing.new undo.old undo.new result }
+    ensures reads { ReadsForLists store.old (placed own ∷ []) standing.old.queries reads.new }
 {
+    *reads = 0;
     store.check(alloc, own.table, own.edits.as_slice())?;
     let changes = [own.as_change()];
-    prepare_lists(alloc, store, standing, &changes)?;
+    prepare_lists(alloc, store, standing, &changes, reads)?;
     if let Err(AllocError) = store.apply(alloc, own.table, own.edits, undo) {
         standing.discard();
         return Err(Refusal::Memory);
@@ -92,16 +100,18 @@ fn remove_rows(
     own: RelationEdits,
     cascaded: Vec<RelationEdits>,
     undo: &mut Undo,
+    reads: &mut u64,
 ) -> Result<(), Refusal>
     requires may { MayMake store.old standing.old undo.old (placed own ∷ map placed cascaded.items) }
     requires several { 0 < length cascaded.items }
     ensures due { IsDue store.old standing.old (placed own) (map placed cascaded.items) result }
     ensures made { Makes (rows_edited store.old (placed own ∷ map placed cascaded.items)) store.old store.new standing.old standing.new undo.old undo.new
         result }
+    ensures reads { ReadsForLists store.old (placed own ∷ map placed cascaded.items) standing.old.queries reads.new }
 {
     store.removals_may_be_made(own.table);
     store.rows_stand();
-    let prepared = prepare_removals(alloc, store, standing, &own, cascaded.as_slice());
+    let prepared = prepare_removals(alloc, store, standing, &own, cascaded.as_slice(), reads);
     if let Err(Refusal::Memory) = prepared {
         return Err(Refusal::Memory);
     }
@@ -179,6 +189,7 @@ fn prepare_removals(
     standing: &mut Standing,
     own: &RelationEdits,
     cascaded: &[RelationEdits],
+    reads: &mut u64,
 ) -> Result<(), Refusal>
     requires fit { All (FitsAt store.now) (placed own.now ∷ map placed cascaded.now) }
     requires served { AreServed store.now standing.old.queries }
@@ -190,9 +201,11 @@ fn prepare_removals(
     ensures entries { map (λ (bag : Counts). bag.entries) standing.new.bags ≡ map (λ (bag : Counts). bag.entries) standing.old.bags }
     ensures queries { standing.new.queries ≡ standing.old.queries }
     ensures log { standing.new.log ≡ standing.old.log }
+    ensures reads { ReadsForLists store.now (placed own.now ∷ map placed cascaded.now) standing.old.queries reads.new }
 {
+    *reads = 0;
     let changes = as_changes(alloc, own, cascaded)?;
-    prepare_lists(alloc, store, standing, changes.as_slice())
+    prepare_lists(alloc, store, standing, changes.as_slice(), reads)
 }
 
 /// The edits of several tables for the lists of standing queries. `AllocError` where memory is refused.
@@ -212,12 +225,13 @@ fn as_changes<'e>(
 }
 
 /// Makes ready what edits of tables change of the lists. `StandingListTooLarge` where a list would have more than 1,048,576 rows;
-/// `Memory` may come in its place and in that of success. Then nothing is ready.
+/// `Memory` may come in its place and in that of success. Then nothing is ready. Sets `reads` to the number of rows read for the lists.
 fn prepare_lists(
     alloc: Global,
     store: &Store,
     standing: &mut Standing,
     changes: &[TableChange<'_>],
+    reads: &mut u64,
 ) -> Result<(), Refusal>
     requires fit { All (FitsAt store.now) (map placed_change changes.now) }
     requires served { AreServed store.now standing.old.queries }
@@ -230,7 +244,10 @@ fn prepare_lists(
     ensures entries { map (λ (bag : Counts). bag.entries) standing.new.bags ≡ map (λ (bag : Counts). bag.entries) standing.old.bags }
     ensures queries { standing.new.queries ≡ standing.old.queries }
     ensures log { standing.new.log ≡ standing.old.log }
+    ensures reads { ReadsForLists store.now (map placed_change changes.now) standing.old.queries reads.new }
 {
     let mut view = store.view();
-    standing.prepare(alloc, &mut view, changes)
+    let outcome = standing.prepare(alloc, &mut view, changes);
+    *reads = view.reads();
+    outcome
 }

@@ -7,6 +7,7 @@ ghost use Rattle.mm_query.specs.Resolving.{selected};
 ghost use Rattle.mm_query.specs.Standing.{listing as listing_of, shown_rows};
 ghost use Rattle.mm_query.specs.State.{first_state, rows_in};
 ghost use Rattle.mm_query.specs.declared.command.Command.TheVariants.{Define, Change, Scan, ScanIndex, Select, Explain, Show, Begin, Commit, Rollback, Savepoint, RollbackTo};
+ghost use Rattle.mm_txn.specs.Reads.{CommandReads};
 ghost use Rattle.mm_txn.specs.Releasing.{after_release};
 
 mod ask;
@@ -189,16 +190,23 @@ impl Db {
     }
 
     /// Changes the rows of a table, and tells how many rows of it that concerned. The refusals are those of
-    /// [`Change::Edit`](crate::Change::Edit).
-    fn change(&mut self, alloc: Global, mutation: Mutation<'_>) -> Result<usize, Refusal>
+    /// [`Change::Edit`](crate::Change::Edit). Sets `reads` as [`Db::change_bound`] does, and to 0 where the catalog refuses the change.
+    fn change(
+        &mut self,
+        alloc: Global,
+        mutation: Mutation<'_>,
+        reads: &mut u64,
+    ) -> Result<usize, Refusal>
         ensures due { AnswersDue (first_refusal (conditions (Change mutation.entry) self.old)) result }
         ensures ok { OnOk result (self.new ≡ state_after (Change mutation.entry) self.old) }
         ensures count { IfOk result (λ count. count ≡ length (own_pairs mutation.entry self.old)) }
         ensures err { OnErr result (self.new ≡ self.old) }
+        ensures reads { CommandReads (Change mutation.entry) self.old reads.new }
     {
+        *reads = 0;
         match self.bind_change(alloc, mutation)? {
             BoundChange::Insert { table, tuples } => {
-                self.run_change(alloc, ChangeToRun::Insert { table, tuples })
+                self.run_change(alloc, ChangeToRun::Insert { table, tuples }, reads)
             }
             BoundChange::Update {
                 table,
@@ -213,11 +221,12 @@ impl Db {
                         assignments,
                         tests,
                     },
+                    reads,
                 )
             }
             BoundChange::Delete { table, tests } => {
                 let tests = tests.as_slice();
-                self.run_change(alloc, ChangeToRun::Delete { table, tests })
+                self.run_change(alloc, ChangeToRun::Delete { table, tests }, reads)
             }
         }
     }
@@ -232,13 +241,21 @@ impl Db {
     }
 
     /// The rows that a query gives, in their order, found by its plan; no value is copied. The refusals are those of
-    /// [`Question::Select`](crate::Question::Select).
-    fn select(&self, alloc: Global, query: Query<'_>) -> Result<ShownRows<'_>, Refusal>
+    /// [`Question::Select`](crate::Question::Select). Sets `reads` to the number of rows read, up to `u64::MAX`: no more than the plan
+    /// allows, and none where the query is refused by the catalog.
+    fn select(
+        &self,
+        alloc: Global,
+        query: Query<'_>,
+        reads: &mut u64,
+    ) -> Result<ShownRows<'_>, Refusal>
         ensures due { AnswersDue (first_refusal (conditions (Select query.entry) self.now)) result }
         ensures rows { IfOk result (λ rows. rows ≡ selected query.entry self.now) }
+        ensures reads { CommandReads (Select query.entry) self.now reads.new }
     {
+        *reads = 0;
         let bound = self.bind_query(alloc, query)?;
-        self.run_select(alloc, &bound)
+        self.select_bound(alloc, &bound, reads)
     }
 
     /// The plan of a query, by the row counts of the tables as they are: a line for each table of FROM, in their order. The

@@ -25,7 +25,7 @@ impl Contents {
         ensures rows { IfOk result (λ rows. rows ≡ rows_in (state_held self.now) table.now) }
     {
         let place = self.catalog.place_of(table).ok_or(Refusal::NoSuchTable)?;
-        Ok(self.store.view().rows_by_key(place))
+        Ok(self.store.rows_by_key(place))
     }
 
     /// Where the index of a name stands. `NoSuchIndex` where none has the name. It takes no memory.
@@ -64,7 +64,6 @@ impl Contents {
         let index = self.place_of_index(name)?;
         let rows = self
             .store
-            .view()
             .rows_by_index(alloc, index.table, index.place, index.column, index.kind)?;
         Ok(rows)
     }

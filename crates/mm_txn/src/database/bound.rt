@@ -11,12 +11,14 @@ ghost use Rattle.mm_query.specs.declared.command.Mutation.{Mutation as AnyMutati
 ghost use Rattle.mm_query.specs.declared.query.Query.{Query as AnyQuery};
 ghost use Rattle.mm_schema.specs.Refused.{AnswersDue, first_refusal};
 ghost use Rattle.mm_txn.specs.Bound.{IsBoundChange, IsBoundQuery, bound_of};
+ghost use Rattle.mm_txn.specs.Reads.{CommandReads, ReadsByPlan};
 ghost use Rattle.mm_txn.specs.Steps.{IsStep};
 
 use super::Db;
 use super::execute::counted;
 use crate::bound::ChangeToRun;
 use crate::select::{copy_rows, select_rows};
+use mm_plan::have_one_key;
 use mm_query::{Bound, BoundChange, BoundQuery, Mutation, Query, Reply, RowBuffer};
 use mm_schema::{Catalog, Name};
 use mm_templist::ShownRows;
@@ -68,53 +70,74 @@ impl Db {
 
     /// Copies the rows that a bound query gives, in their order, behind those of a buffer; the query has to be bound by the catalog
     /// as it is. `ResultTooLarge` where more than 1,048,576 combinations of rows fit; `Memory` may come in its place and in that of
-    /// success. Where it is refused, some of the rows may have been added, and those that were there stand as they did.
+    /// success. Where it is refused, some of the rows may have been added, and those that were there stand as they did. Sets `reads` to
+    /// the number of rows read, up to `u64::MAX`: no more than the plan allows.
     pub fn select_into(
         &self,
         alloc: Global,
         bound: &Bound,
         rows: &mut RowBuffer,
+        reads: &mut u64,
     ) -> Result<(), Refusal>
         requires { (query : AnyQuery) × IsBoundQuery self.now.schema query bound.now }
         ensures due { (query : AnyQuery) → IsBoundQuery self.now.schema query bound.now
             → AnswersDue (first_refusal (conditions (Select query) self.now)) result }
         ensures rows { OnOk result ((query : AnyQuery) → IsBoundQuery self.now.schema query bound.now → rows.new ≡ rows.old ++ selected query self.now) }
         ensures err { OnErr result (take (length rows.old) rows.new ≡ rows.old) }
+        ensures reads { (query : AnyQuery) → IsBoundQuery self.now.schema query bound.now → ReadsByPlan query self.now reads.new }
     {
         let contents = &self.contents;
-        copy_rows(alloc, &contents.store, bound, rows)
+        have_one_key(&contents.catalog);
+        let mut view = contents.store.view();
+        let outcome = copy_rows(alloc, &mut view, bound, rows);
+        *reads = view.reads();
+        outcome
     }
 
-    /// The rows that a bound query gives, in their order. The refusals are those of
-    /// [`Db::select_into`].
-    pub(super) fn run_select(&self, alloc: Global, bound: &Bound) -> Result<ShownRows<'_>, Refusal>
+    /// Returns the rows that a bound query gives, in their order, where they are stored; the query has to be bound by the catalog as it
+    /// is. Fails as [`Db::select_into`] does, and sets `reads` as it does.
+    pub fn select_bound(
+        &self,
+        alloc: Global,
+        bound: &Bound,
+        reads: &mut u64,
+    ) -> Result<ShownRows<'_>, Refusal>
         requires { (query : AnyQuery) × IsBoundQuery self.now.schema query bound.now }
         ensures due { (query : AnyQuery) → IsBoundQuery self.now.schema query bound.now
             → AnswersDue (first_refusal (conditions (Select query) self.now)) result }
         ensures rows { IfOk result (λ rows. (query : AnyQuery) → IsBoundQuery self.now.schema query bound.now → rows ≡ selected query self.now) }
+        ensures reads { (query : AnyQuery) → IsBoundQuery self.now.schema query bound.now → ReadsByPlan query self.now reads.new }
     {
         let contents = &self.contents;
-        select_rows(alloc, &contents.store, bound)
+        have_one_key(&contents.catalog);
+        let mut view = contents.store.view();
+        let rows = select_rows(alloc, &mut view, bound);
+        *reads = view.reads();
+        rows
     }
 
     /// Makes a change of rows by its bound form, which has to be bound by the catalog as it is, and replies `Count` or `Refused`.
     /// The refusals are those of [`Change::Edit`](crate::Change::Edit) by the rows and by the standing queries; `Memory` may come
     /// in their place and in that of success. A refused change changes nothing. It is one step of the machine of row lists; only
-    /// `Memory` may come in place of that step.
-    pub fn change_bound(&mut self, alloc: Global, change: ChangeToRun<'_>) -> Reply
+    /// `Memory` may come in place of that step. Sets `reads` to the number of rows read for the lists of standing queries, up to
+    /// `u64::MAX`: no more than the edited rows and their matches allow.
+    pub fn change_bound(&mut self, alloc: Global, change: ChangeToRun<'_>, reads: &mut u64) -> Reply
         requires { (mutation : AnyMutation) × IsBoundChange self.old.schema mutation (bound_of change) }
-        ensures { (mutation : AnyMutation) → IsBoundChange self.old.schema mutation (bound_of change.entry)
+        ensures step { (mutation : AnyMutation) → IsBoundChange self.old.schema mutation (bound_of change.entry)
             → IsStep (Change mutation) self.old (record { reply = Some result; state = self.new }) }
+        ensures reads { (mutation : AnyMutation) → IsBoundChange self.old.schema mutation (bound_of change.entry)
+            → CommandReads (Change mutation) self.old reads.new }
     {
-        counted(self.run_change(alloc, change))
+        counted(self.run_change(alloc, change, reads))
     }
 
     /// Makes a change of rows by its bound form, and tells how many rows of its table that concerned. The refusals are those of
-    /// [`Db::change_bound`].
+    /// [`Db::change_bound`], and so is what it sets `reads` to.
     pub(super) fn run_change(
         &mut self,
         alloc: Global,
         change: ChangeToRun<'_>,
+        reads: &mut u64,
     ) -> Result<usize, Refusal>
         requires { (mutation : AnyMutation) × IsBoundChange self.old.schema mutation (bound_of change) }
         ensures due { (mutation : AnyMutation) → IsBoundChange self.old.schema mutation (bound_of change.entry)
@@ -124,11 +147,15 @@ impl Db {
         ensures count { IfOk result (λ count. (mutation : AnyMutation) → IsBoundChange self.old.schema mutation (bound_of change.entry)
             → count ≡ length (own_pairs mutation self.old)) }
         ensures err { OnErr result (self.new ≡ self.old) }
+        ensures reads { (mutation : AnyMutation) → IsBoundChange self.old.schema mutation (bound_of change.entry)
+            → CommandReads (Change mutation) self.old reads.new }
     {
+        *reads = 0;
         self.contents.is_at_rest();
         let edits = self.contents.edits_of(alloc, change)?;
         let count = edits.own.edits.as_slice().len();
-        self.contents.make_edits(alloc, edits, &mut self.undo)?;
+        self.contents
+            .make_edits(alloc, edits, &mut self.undo, reads)?;
         self.contents.settle_outside(self.is_open, &mut self.undo);
         Ok(count)
     }

@@ -1,6 +1,7 @@
 //! Changes of a database.
 ghost use Rattle.std.specs.Prelude.{◌≡◌, MatchResult, Some};
 ghost use Rattle.mm_query.specs.declared.reply.Reply.TheVariants.{Count, Done, Refused};
+ghost use Rattle.mm_txn.specs.Reads.{CommandReads};
 ghost use Rattle.mm_txn.specs.Requests.{command_of_change};
 ghost use Rattle.mm_txn.specs.Steps.{IsStep};
 
@@ -13,13 +14,16 @@ use std::alloc::Global;
 impl Db {
     /// Makes a change, and replies `Done`, `Count` to an [`Edit`](Change::Edit), or `Refused`; [`Change`] says when each refusal
     /// comes. A refused change changes nothing. It is one step of the machine of row lists; only where it takes memory may it be
-    /// refused with `Memory` in place of that step.
-    pub fn execute(&mut self, alloc: Global, change: Change<'_>) -> Reply
-        ensures { IsStep (command_of_change change.entry) self.old (record { reply = Some result; state = self.new }) }
+    /// refused with `Memory` in place of that step. Sets `reads` to the number of rows that an [`Edit`](Change::Edit) read for the lists
+    /// of standing queries, up to `u64::MAX`: no more than the edited rows and their matches allow. For another change it is 0.
+    pub fn execute(&mut self, alloc: Global, change: Change<'_>, reads: &mut u64) -> Reply
+        ensures step { IsStep (command_of_change change.entry) self.old (record { reply = Some result; state = self.new }) }
+        ensures reads { CommandReads (command_of_change change.entry) self.old reads.new }
     {
+        *reads = 0;
         match change {
             Change::Define(definition) => done(self.define(alloc, definition)),
-            Change::Edit(mutation) => counted(self.change(alloc, mutation)),
+            Change::Edit(mutation) => counted(self.change(alloc, mutation, reads)),
             Change::Begin => done(self.begin()),
             Change::Commit => done(self.commit()),
             Change::Rollback => done(self.rollback()),

@@ -3,7 +3,8 @@ use Rattle.std.proofs.Common.{◌≡◌, true, false, List, [], ◌∷◌, ◌++
 use Rattle.std.specs.List.{All, filter}
 use Rattle.mm_partition.specs.Places.{IsLive, slot_at}
 use Rattle.mm_relation.specs.Refs.{row_at}
-use Rattle.mm_select.proofs.Walks.{holds_next, split_all, split_next}
+use Rattle.mm_relation.proofs.Matches.{split_next}
+use Rattle.mm_select.proofs.Walks.{holds_next, split_all}
 use Rattle.mm_value.specs.declared.row_ref.RowRef.{RowRef}
 use Rattle.mm_txn.specs.Cascades.{is_cascaded_by}
 use Rattle.mm_txn.proofs.CascadeFinds.{filter_push, scan_goes}

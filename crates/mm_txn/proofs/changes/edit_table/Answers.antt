@@ -1,5 +1,5 @@
 -- The lists follow the rows of one table.
-use Rattle.std.proofs.Common.{arith, rules, ◌≡◌, Err, List, [], ◌∷◌, None, sym, ap, subst, ◌∙◌}
+use Rattle.std.proofs.Common.{arith, rules, ◌≡◌, Err, List, [], ◌∷◌, None, inl, refl, sym, ap, subst, ◌∙◌}
 use Rattle.std.proofs.lemmas.Grind.{common_steps}
 use Rattle.std.specs.List.{All}
 use Rattle.std.proofs.lemmas.Result.{err_from_is_err_and}
@@ -13,6 +13,7 @@ use Rattle.mm_store.specs.Tables.{AreFit, edit_conditions}
 use Rattle.mm_plan.specs.Kept.{instance_of}
 use Rattle.mm_txn.specs.PlacedEdits.{FitsAt, PlacedEdits, edits_conditions, placed, rows_edited}
 use Rattle.mm_txn.specs.Listed.{AreListed, IsTested, rows_by_place}
+use Rattle.mm_txn.specs.Reads.{ReadsForLists}
 use Rattle.mm_txn.proofs.ListSteps.{behind_due, front_due, listed_made, listed_still, longer_made, same_counts, undone_made}
 use Rattle.mm_txn.proofs.ListedRows.{rows_as_they_were, rows_kept, rows_made, rows_put_back}
 use Rattle.mm_txn.proofs.PlacedRows.{one_fits, one_made, one_refused, one_there}
@@ -165,3 +166,21 @@ returns-clause-made c = record {
   undone = undone_made c.args.standing.now c.prepare_lists.new.standing c.apply_prepared.new.self c.prepare_lists.ensures.entries c.apply_prepared.ensures.made
       c.prepare_lists.ensures.log;
 }
+
+pub returns-in_err-check-clause-reads : goal.returns-in_err-check-clause-reads
+returns-in_err-check-clause-reads c = inl refl
+
+pub returns-in_err-prepare_lists-clause-reads : goal.returns-in_err-prepare_lists-clause-reads
+returns-in_err-prepare_lists-clause-reads c =
+    subst (λ (p : PlacedEdits). ReadsForLists c.args.store.now (p ∷ []) c.args.standing.now.queries c.prepare_lists.new.reads) c.as_change.ensures
+    c.prepare_lists.ensures.reads
+
+pub returns-in-Err-clause-reads : goal.returns-in-Err-clause-reads
+returns-in-Err-clause-reads c =
+    subst (λ (p : PlacedEdits). ReadsForLists c.args.store.now (p ∷ []) c.args.standing.now.queries c.prepare_lists.new.reads) c.as_change.ensures
+    c.prepare_lists.ensures.reads
+
+pub returns-clause-reads : goal.returns-clause-reads
+returns-clause-reads c =
+    subst (λ (p : PlacedEdits). ReadsForLists c.args.store.now (p ∷ []) c.args.standing.now.queries c.prepare_lists.new.reads) c.as_change.ensures
+    c.prepare_lists.ensures.reads

@@ -12,6 +12,7 @@ use Rattle.mm_value.specs.declared.refusal.Refusal.{Refusal}
 use Rattle.mm_plan.specs.Kept.{instance_of}
 use Rattle.mm_txn.specs.PlacedEdits.{FitsAt, edits_conditions, leaves_orphans, placed, rows_edited}
 use Rattle.mm_txn.specs.Listed.{AreListed}
+use Rattle.mm_txn.specs.Reads.{ReadsForLists}
 use Rattle.mm_txn.specs.declared.edits.RelationEdits.{RelationEdits}
 use Rattle.mm_txn.proofs.ListSteps.{listed_made, listed_still, same_at, same_counts}
 use Rattle.mm_txn.proofs.ListedRows.{rows_as_they_were, rows_formed, rows_made}
@@ -137,3 +138,18 @@ returns-clause-made c = record {
   saved = search rules;
   undone = search rules;
 }
+
+pub returns-in-Err-Memory-clause-reads : goal.returns-in-Err-Memory-clause-reads
+returns-in-Err-Memory-clause-reads c =
+    subst (λ (es : List RelationEdits). ReadsForLists c.args.store.now (placed c.args.own ∷ map placed es) c.args.standing.now.queries
+    c.prepare_removals-prepared.new.reads) c.as_slice.ensures.value c.prepare_removals-prepared.ensures.reads
+
+pub returns-in-Err-clause-reads : goal.returns-in-Err-clause-reads
+returns-in-Err-clause-reads c =
+    subst (λ (es : List RelationEdits). ReadsForLists c.args.store.now (placed c.args.own ∷ map placed es) c.args.standing.now.queries
+    c.prepare_removals-prepared.new.reads) c.as_slice.ensures.value c.prepare_removals-prepared.ensures.reads
+
+pub returns-clause-reads : goal.returns-clause-reads
+returns-clause-reads c =
+    subst (λ (es : List RelationEdits). ReadsForLists c.args.store.now (placed c.args.own ∷ map placed es) c.args.standing.now.queries
+    c.prepare_removals-prepared.new.reads) c.as_slice.ensures.value c.prepare_removals-prepared.ensures.reads

@@ -3,6 +3,7 @@ use Rattle.std.proofs.Common.{◌∷◌, [], List, map, sym, ap, subst, ◌∙�
 use Rattle.std.proofs.lemmas.Bool.{eqb-true}
 use Rattle.mm_txn.specs.Contents.{Holdings, IsDue, Makes, MayMake}
 use Rattle.mm_txn.specs.PlacedEdits.{placed, rows_edited}
+use Rattle.mm_txn.specs.Reads.{ReadsForLists}
 use Rattle.mm_txn.specs.declared.edits.RelationEdits.{RelationEdits}
 use Rattle.mm_txn.proofs.Removals.{nil_from_none}
 use Rattle.mm_txn.proofs.RestKept.{rest_made}
@@ -65,3 +66,17 @@ returns-then-is_empty-clause-schema c = ap (λ (h : Holdings). h.schema) c.self.
 
 pub returns-else-is_empty-clause-schema : goal.returns-else-is_empty-clause-schema
 returns-else-is_empty-clause-schema c = ap (λ (h : Holdings). h.schema) c.self.view_is
+
+pub returns-then-is_empty-clause-reads : goal.returns-then-is_empty-clause-reads
+returns-then-is_empty-clause-reads c =
+    let cascaded = c.args.edits.cascaded in
+    let none = nil_from_none cascaded.items (omega (arith, eqb-true _ 0 (sym c.is_empty.ensures ∙ c.if-is_empty.true), cascaded.ok)) in
+    subst (λ (es : List RelationEdits). ReadsForLists c.args.self.now.store (placed c.args.edits.own ∷ map placed es) c.args.self.now.lists.queries
+    c.edit_table.new.reads) (sym none)
+    (subst (λ (h : Holdings). ReadsForLists h.store (placed c.args.edits.own ∷ []) h.lists.queries c.edit_table.new.reads) c.self.view_is
+    c.edit_table.ensures.reads)
+
+pub returns-else-is_empty-clause-reads : goal.returns-else-is_empty-clause-reads
+returns-else-is_empty-clause-reads c =
+    subst (λ (h : Holdings). ReadsForLists h.store (placed c.args.edits.own ∷ map placed c.args.edits.cascaded.items) h.lists.queries c.remove_rows.new.reads)
+    c.self.view_is c.remove_rows.ensures.reads

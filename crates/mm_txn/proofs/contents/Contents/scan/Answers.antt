@@ -1,5 +1,5 @@
 -- The rows at the place of a name are those of that name.
-use Rattle.std.proofs.Common.{◌≡◌, ◌<◌, true, false, cond, [], Some, None, length, sym, ap, subst, ◌∙◌, arith}
+use Rattle.std.proofs.Common.{◌≡◌, true, false, cond, [], Some, None, sym, ap, ◌∙◌, arith}
 use Rattle.std.specs.Option.{option_map_or}
 use Rattle.std.proofs.lemmas.Result.{err_from_is_err_and}
 use Rattle.mm_schema.specs.Schema.{lacks_table}
@@ -8,7 +8,6 @@ use Rattle.mm_value.specs.declared.refusal.Refusal.TheVariants.{NoSuchTable}
 use Rattle.mm_query.specs.State.{State, rows_in}
 use Rattle.mm_query.proofs.Due.{lacks_nowhere, not_lacking}
 use Rattle.mm_relation.specs.RowLists.{rows_of}
-use Rattle.mm_store.specs.Tables.{Tables, rows_at}
 use Rattle.mm_txn.proofs.DatabaseSteps.{rows_of_name, rows_there, some_there}
 use Rattle.mm_txn.proofs.RowsBeside.{beside}
 use Rattle.mm_txn.specs.Contents.{state_held}
@@ -26,9 +25,8 @@ returns-in_err-place-clause-due c =
 
 pub rows_by_key-requires : goal.rows_by_key-requires
 rows_by_key-requires c =
-    subst (λ (s : Tables). c.in_ok-place.place < length s.tables) (sym c.view.ensures.store)
-    (rows_there c.self.inside.catalog c.self.inside.store.tables c.self.invariant.kept.relations c.args.table.now c.in_ok-place.place
-    (sym c.place_of.ensures.place ∙ c.in_ok-place.ensures.ok_part))
+    rows_there c.self.inside.catalog c.self.inside.store.tables c.self.invariant.kept.relations c.args.table.now c.in_ok-place.place
+    (sym c.place_of.ensures.place ∙ c.in_ok-place.ensures.ok_part)
 
 pub returns-clause-due : goal.returns-clause-due
 returns-clause-due c =
@@ -51,7 +49,6 @@ returns-clause-rows c =
     let (stored, there) = some_there tables c.in_ok-place.place
     (rows_there c.self.inside.catalog tables c.self.invariant.kept.relations c.args.table.now c.in_ok-place.place placed) in
     c.rows_by_key.ensures
-    ∙ ap (λ (s : Tables). rows_at s.tables c.in_ok-place.place) c.view.ensures.store
     ∙ ap (λ o. option_map_or rows_of o []) there
     ∙ sym (rows_of_name c.self.inside.catalog tables c.self.invariant.kept.relations c.args.table.now c.in_ok-place.place placed stored there)
     ∙ ap (λ (s : State). rows_in s c.args.table.now) seen

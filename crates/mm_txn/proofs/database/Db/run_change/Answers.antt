@@ -1,5 +1,5 @@
 -- The new rows of the edits' tables are the state's, and what is saved stays.
-use Rattle.std.proofs.Common.{◌≡◌, ℕ, ◌<◌, Err, Ok, List, None, ◌∷◌, length, map, sym, ap, subst, ◌∙◌, arith}
+use Rattle.std.proofs.Common.{◌≡◌, ℕ, ◌<◌, Err, Ok, List, None, ◌∷◌, inl, inr, length, map, refl, sym, ap, subst, ◌∙◌, arith}
 use Rattle.std.specs.List.{All}
 use Rattle.std.proofs.lemmas.Result.{err_from_is_err_and}
 use Rattle.mm_schema.specs.declared.reference.Reference.{Reference}
@@ -11,6 +11,7 @@ use Rattle.mm_laws.specs.Typing.{AreTyped}
 use Rattle.mm_plan.specs.Kept.{instance_of}
 use Rattle.mm_txn.specs.Bound.{IsBoundChange, bound_of}
 use Rattle.mm_txn.specs.Kept.{state_of, watched_state}
+use Rattle.mm_txn.specs.Reads.{ReadsByEdits}
 use Rattle.mm_txn.specs.Saved.{saved_rows}
 use Rattle.mm_txn.specs.PlacedEdits.{placed, rows_edited}
 use Rattle.mm_txn.specs.Listed.{IsTested, queries_of, rows_by_place}
@@ -185,3 +186,44 @@ returns-clause-count c = λ mutation is.
     (placed own) (map placed c.in_ok-edits.edits.cascaded.items) ok
     ∙ (ap length (pairs_beside held.schema held.store.tables (queries_of held.lists.queries) saved mutation)
     ∙ ap (λ (s : State). length (own_pairs mutation s)) c.self.view_is))
+
+pub returns-in_err-edits-clause-reads : goal.returns-in_err-edits-clause-reads
+returns-in_err-edits-clause-reads c = λ mutation is. inl refl
+
+pub returns-in_err-make_edits-clause-reads : goal.returns-in_err-make_edits-clause-reads
+returns-in_err-make_edits-clause-reads c = λ mutation is.
+    let here = subst (λ (s : State). IsBoundChange s.schema mutation (bound_of c.args.change)) (sym c.self.view_is) is in
+    let held = c.self.inside.contents in
+    let rest = c.is_at_rest.ensures.rest in
+    let edits = c.in_ok-edits.edits in
+    inr (subst (λ (s : State). ReadsByEdits mutation s c.make_edits.new.reads) c.self.view_is (record {
+      store = held.store;
+      own = placed edits.own;
+      cascaded = map placed edits.cascaded.items;
+      queries = held.lists.queries;
+      kept = rest.kept;
+      rows = refl;
+      edits = c.in_ok-edits.ensures.ok mutation here;
+      placed = rest.placed;
+      listed = refl;
+      within = c.make_edits.ensures.reads;
+    }))
+
+pub returns-clause-reads : goal.returns-clause-reads
+returns-clause-reads c = λ mutation is.
+    let here = subst (λ (s : State). IsBoundChange s.schema mutation (bound_of c.args.change)) (sym c.self.view_is) is in
+    let held = c.self.inside.contents in
+    let rest = c.is_at_rest.ensures.rest in
+    let edits = c.in_ok-edits.edits in
+    inr (subst (λ (s : State). ReadsByEdits mutation s c.make_edits.new.reads) c.self.view_is (record {
+      store = held.store;
+      own = placed edits.own;
+      cascaded = map placed edits.cascaded.items;
+      queries = held.lists.queries;
+      kept = rest.kept;
+      rows = refl;
+      edits = c.in_ok-edits.ensures.ok mutation here;
+      placed = rest.placed;
+      listed = refl;
+      within = c.make_edits.ensures.reads;
+    }))
