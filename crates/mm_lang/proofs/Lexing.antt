@@ -46,7 +46,7 @@ unfolding lexed
 tokens_quote bs = refl
 
 -- a byte of a word
-word_byte_not : (b n : ℕ) → is_word_byte b ≡ true → is_word_byte n ≡ false → eqb b n ≡ false
+pub word_byte_not : (b n : ℕ) → is_word_byte b ≡ true → is_word_byte n ≡ false → eqb b n ≡ false
 word_byte_not b n word other = ne_eqb b n (λ e. false≢true (sym other ∙ ap is_word_byte (sym e) ∙ word))
 
 pub word_step : (b : ℕ) (bs : List ℕ) → is_word_byte b ≡ true → tokens (b ∷ bs) ≡ onto_word b (begins_word bs) (tokens bs)

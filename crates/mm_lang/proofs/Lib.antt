@@ -6,20 +6,20 @@ mod HoleBytes
 mod Keywords
 pub mod BufferedLines
 mod BufferedPieces
-mod Lexing
+pub mod Lexing
 mod ListingTexts
 mod Lists
 pub mod LiteralOrder
-mod Literals
+pub mod Literals
 mod Operands
 pub mod Pieces
-mod Preparing
-mod Readings
+pub mod Preparing
+pub mod Readings
 pub mod ReplyLemmas
 mod SelectReadings
 mod SpelledAtoms
 pub mod SpelledCommands
-mod SpelledSelect
+pub mod SpelledSelect
 pub mod SpelledWords
 mod StepTexts
 mod Texts

@@ -41,7 +41,7 @@ answers_found : (v : Value) (r : Result Value Refusal) → literal_fault v ≡ N
 answers_found v (Ok w) none h = ap (unless v) none ∙ ap Ok (sym h)
 answers_found v (Err e) none h = inr h
 
-within_none : (v : Value) → is_within_limit v ≡ true → literal_fault v ≡ None
+pub within_none : (v : Value) → is_within_limit v ≡ true → literal_fault v ≡ None
 within_none v h = ap (λ b. cond b None (Some (past_limit v))) h
 
 past_some : (v : Value) → is_within_limit v ≡ false → literal_fault v ≡ Some (past_limit v)

@@ -1,5 +1,5 @@
 -- What a line with holes reads as, by its cases.
-use Rattle.std.proofs.Common.{◌≡◌, ◌<◌, ◌≤◌, inl, inr, ℕ, Bool, true, false, not, ◌&&◌, cond, ltb, List, [], ◌∷◌, Option, Some, None, Ok, Err, length}
+use Rattle.std.proofs.Common.{◌≡◌, ◌≢◌, ◌<◌, ◌≤◌, inl, inr, ℕ, Bool, true, false, not, ◌&&◌, cond, ltb, List, [], ◌∷◌, Option, Some, None, Ok, Err, length}
 use Rattle.std.proofs.Common.{refl, sym, ap, ◌∙◌, arith}
 use Rattle.std.specs.List.{cons_option}
 use Rattle.std.specs.Option.{option_map, option_and_then}
@@ -11,6 +11,7 @@ use Rattle.mm_value.specs.declared.refusal.Refusal.TheVariants.{LineTooLong, Syn
 use Rattle.mm_value.specs.declared.values.Value.{Value}
 use Rattle.mm_query.specs.declared.command.Command.{Command}
 use Rattle.mm_query.specs.declared.command.Command.TheVariants as command
+use Rattle.mm_query.specs.declared.command.Definition.{Definition}
 use Rattle.mm_query.specs.declared.command.Definition.TheVariants as define
 use Rattle.mm_query.specs.declared.command.Mutation.TheVariants as change
 use Rattle.mm_lang.specs.declared.read.token.Symbol.TheVariants.{Plus, Minus}
@@ -102,6 +103,54 @@ module _ (line : List ℕ) (short : length line ≤ 4096) (some : is_nothing lin
     template_refused e (inl h) = inl (template_read ∙ h)
     template_refused e (inr h) = inr h.0
 
+-- ---- definitions
+
+pub read_some : (o : Option Command) (c : Command) → read_as o ≡ Ok c → o ≡ Some c
+read_some None c e = absurd (cc)
+read_some (Some d) c e = by (first_fault (literals_of d)) e
+  where
+    by : (fault : Option Refusal) → unless d fault ≡ Ok c → ◌≡◌ {A = Option Command} (Some d) (Some c)
+    by None e = cc
+    by (Some refusal) e = absurd (cc)
+
+-- A change of the catalog was read only where no token is a hole.
+kept_definition : (holed : Bool) (c : Command) (d : Definition) → cond (holed && not (may_have_holes c)) None (Some c) ≡ Some (command.Define d)
+    → holed ≡ false
+kept_definition false c d e = refl
+kept_definition true (command.Define other) d e = absurd (none-some (command.Define d) e)
+kept_definition true c d e = absurd (cc)
+
+definition_unholed : (ts : List Token) (d : Definition) → template_command ts ≡ Some (command.Define d) → has_hole ts ≡ false
+unfolding unless_holed
+definition_unholed ts d e = by (command_of ts) e
+  where
+    by : (o : Option Command) → unless_holed ts o ≡ Some (command.Define d) → has_hole ts ≡ false
+    by None e = absurd (none-some (command.Define d) e)
+    by (Some c) e = kept_definition (has_hole ts) c d e
+
+unholed_line : (is_long nothing : Bool) (ts : List Token) (d : Definition)
+    → cond is_long (Err LineTooLong) (cond nothing (Ok command.Nothing) (read_as (template_command ts))) ≡ Ok (command.Define d)
+    → has_hole ts ≡ false
+unholed_line true nothing ts d e = absurd (cc)
+unholed_line false true ts d e = absurd (cc)
+unholed_line false false ts d e = definition_unholed ts d (read_some (template_command ts) (command.Define d) e)
+
+pub definitions_unholed : (line : List ℕ) (d : Definition) → template_of line ≡ Ok (command.Define d) → has_hole (tokens line) ≡ false
+unfolding template_of
+definitions_unholed line d e = unholed_line (ltb 4096 (length line)) (is_nothing line) (tokens line) d e
+
+-- Any other command was read, holes or not.
+kept_other : (holed : Bool) (c : Command) → ((d : Definition) → c ≢ command.Define d) → cond (holed && not (may_have_holes c)) None (Some c) ≡ Some c
+kept_other false c other = refl
+kept_other true (command.Define d) other = absurd (other d refl)
+kept_other true c other = refl
+
+pub others_read : (line : List ℕ) (c : Command) → length line ≤ 4096 → is_nothing line ≡ false → command_of (tokens line) ≡ Some c
+    → ((d : Definition) → c ≢ command.Define d) → template_of line ≡ read_as (Some c)
+unfolding unless_holed
+others_read line c short some read other =
+    template_tokens line short some ∙ ap read_as (ap (unless_holed (tokens line)) read ∙ kept_other (has_hole (tokens line)) c other)
+
 -- ---- without holes
 
 plain : (ts : List Token) → has_hole ts ≡ false → template_command ts ≡ plain_command ts
@@ -136,14 +185,6 @@ flags_of_tokens (Mark Minus ∷ Word w ∷ ts) = flag_of_number (is_numeral w) _
 flags_of_tokens (Mark Plus ∷ Hole ∷ ts) = omega (arith, flags_of_tokens ts)
 flags_of_tokens (Mark Minus ∷ Hole ∷ ts) = omega (arith, flags_of_tokens ts)
 flags_of_tokens (t ∷ ts) = flag_of_token t (holes_among ts) (literals_among ts) (flags_of_tokens ts)
-
-read_some : (o : Option Command) (c : Command) → read_as o ≡ Ok c → o ≡ Some c
-read_some None c e = absurd (cc)
-read_some (Some d) c e = by (first_fault (literals_of d)) e
-  where
-    by : (fault : Option Refusal) → unless d fault ≡ Ok c → ◌≡◌ {A = Option Command} (Some d) (Some c)
-    by None e = cc
-    by (Some refusal) e = absurd (cc)
 
 template_some : (ts : List Token) (c : Command) → template_command ts ≡ Some c → command_of ts ≡ Some c
 unfolding unless_holed

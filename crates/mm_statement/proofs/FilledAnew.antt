@@ -33,8 +33,8 @@ use Rattle.mm_statement.specs.Holes.{hole_count, hole_places, is_minus_one}
 use Rattle.mm_statement.specs.Refilling.{BindsFilledChange, BindsFilledQuery, RefillsChange, RefillsQuery, left_over, refilled, signed}
 use Rattle.mm_statement.proofs.AlikeParts.{assignment_literals_placed, mapped_literals, source_literals}
 use Rattle.mm_statement.proofs.Bindings.{atoms_literals, changes_bind_alike, queries_placed_alike}
-use Rattle.mm_statement.proofs.Fillers.{fault-append, or_none_parts}
 use Rattle.mm_statement.proofs.Refusals.{changes_refused_alike, queries_refused_alike}
+use Rattle.mm_lang.proofs.Readings.{fault-append, or_none_parts}
 
 -- ---- literals
 

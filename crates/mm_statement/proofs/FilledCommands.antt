@@ -25,9 +25,10 @@ use Rattle.mm_statement.specs.Filling.{blank_value, merged}
 use Rattle.mm_statement.specs.declared.filler.Filler.{Filler}
 use Rattle.mm_statement.specs.steps.Counts.{IsCounted, assignments_counted, tests_counted}
 use Rattle.mm_statement.specs.steps.Fills.{Fills, IsChanging, IsUnfillable, Keeps, fault_of, filled_by, range_fault}
-use Rattle.mm_statement.proofs.Fillers.{fault-append, merged_no_literals, merged_no_values, or_none, or_none_parts}
+use Rattle.mm_statement.proofs.Fillers.{merged_no_literals, merged_no_values}
 use Rattle.mm_statement.proofs.Fills.{behind_both, fault_both, free_before}
 use Rattle.mm_statement.proofs.Shapes.{same_parts}
+use Rattle.mm_lang.proofs.Readings.{fault-append, or_none_parts, or_none}
 
 -- ---- a whole that has the literals of its only part
 

@@ -11,14 +11,15 @@ use Rattle.std.proofs.lemmas.Bool.{cases_Bool, false≢true}
 use Rattle.mm_value.proofs.Limits.{int_within, text_within, within_int}
 use Rattle.mm_value.specs.Literal.{is_within_limit}
 use Rattle.mm_value.specs.Storable.{IsStorable}
-use Rattle.mm_value.specs.declared.refusal.Refusal.{Refusal}
 use Rattle.mm_value.specs.declared.refusal.Refusal.TheVariants.{NumberOutOfRange}
 use Rattle.mm_value.specs.declared.values.Value.{Value}
 use Rattle.mm_value.specs.declared.values.Value.TheVariants.{Int, Text}
-use Rattle.mm_lang.specs.Reading.{first_fault, literal_fault, past_limit, position_literals}
+use Rattle.mm_lang.specs.Reading.{literal_fault, position_literals}
 use Rattle.mm_statement.specs.Filling.{given, merged}
 use Rattle.mm_statement.specs.declared.filler.Filler.{Filler}
 use Rattle.mm_statement.specs.steps.Fills.{IsChanging, Keeps, KeepsPositions, Notes, Replaces, Takes, fault_of, filled_by, range_fault}
+use Rattle.mm_lang.proofs.Literals.{within_none}
+use Rattle.mm_lang.proofs.Readings.{or_none}
 
 -- ---- literals and values that are left
 
@@ -50,28 +51,9 @@ taken_hole (Some v) all holes values now are split none literal rest = λ i. mer
 
 -- ---- faults
 
-pub or_assoc : (a b c : Option Refusal) → option_or a (option_or b c) ≡ option_or (option_or a b) c
-or_assoc None b c = refl
-or_assoc (Some e) b c = refl
-
-pub or_none : (fault : Option Refusal) → option_or fault None ≡ fault
-or_none None = refl
-or_none (Some e) = refl
-
-pub or_none_parts : (a b : Option Refusal) → option_or a b ≡ None → (a ≡ None) × (b ≡ None)
-or_none_parts None b e = (refl, e)
-or_none_parts (Some x) b e = absurd (cc)
-
-pub fault-append : (xs ys : List Value) → first_fault (xs ++ ys) ≡ option_or (first_fault xs) (first_fault ys)
-fault-append [] ys = refl
-fault-append (x ∷ xs) ys = ap (option_or (literal_fault x)) (fault-append xs ys) ∙ or_assoc (literal_fault x) (first_fault xs) (first_fault ys)
-
-within_fault : (v : Value) → is_within_limit v ≡ true → literal_fault v ≡ None
-within_fault v h = ap (λ b. cond b None (Some (past_limit v))) h
-
 pub storable_fault : (v : Value) → IsStorable v → literal_fault v ≡ None
-storable_fault (Int z) h = within_fault (Int z) (int_within z h)
-storable_fault (Text text) h = within_fault (Text text) (text_within text (omega (arith, h)))
+storable_fault (Int z) h = within_none (Int z) (int_within z h)
+storable_fault (Text text) h = within_none (Text text) (text_within text (omega (arith, h)))
 
 past_fault : (z : ℤ) → (FitsSigned w64 z → ⊥) → literal_fault (Int z) ≡ Some NumberOutOfRange
 past_fault z h =

@@ -21,8 +21,8 @@ use Rattle.mm_statement.specs.declared.filler.Filler.{Filler}
 use Rattle.mm_statement.specs.steps.Counts.{IsCounted}
 use Rattle.mm_statement.specs.steps.Fills.{Fills, FillsPart, Goes, IsUnfillable, Replaces, blank_number, fault_of, filled_by}
 use Rattle.mm_statement.specs.steps.Fills.{number_of, only_number, only_value}
-use Rattle.mm_statement.proofs.Fillers.{fault-append, or_assoc, or_none, or_none_parts}
 use Rattle.mm_statement.proofs.Shapes.{same_parts}
+use Rattle.mm_lang.proofs.Readings.{or_assoc, fault-append, or_none_parts, or_none}
 
 -- What cannot be filled in a part cannot be filled in the whole; want of memory stays one.
 pub stuck_with : {A B : Type 0} (blank : A → A) (literals : A → List Value) (blank' : B → B) (literals' : B → List Value) (old mid new newer : Filler)

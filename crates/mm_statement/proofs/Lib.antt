@@ -6,6 +6,7 @@ pub mod Fillers
 pub mod Fills
 pub mod Refillers
 pub mod Refusals
+pub mod SameCommands
 pub mod Shapes
 pub mod TextBytes
 pub mod TextCommands

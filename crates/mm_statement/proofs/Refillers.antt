@@ -19,8 +19,8 @@ use Rattle.mm_statement.specs.Holes.{HolePlaces}
 use Rattle.mm_statement.specs.Refilling.{Refills, left_over, refilled}
 use Rattle.mm_statement.specs.declared.refiller.Refiller.{Refiller}
 use Rattle.mm_statement.specs.steps.Refills.{Puts, RefillsPart, RefillsUpTo, left_by, refilled_by, source_literals}
-use Rattle.mm_statement.proofs.Fillers.{fault-append, or_none_parts}
 use Rattle.mm_statement.proofs.Fills.{blank_behind, from_here, one_behind, one_read}
+use Rattle.mm_lang.proofs.Readings.{fault-append, or_none_parts}
 
 -- ---- nothing is left
 

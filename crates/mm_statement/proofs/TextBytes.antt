@@ -2,13 +2,14 @@
 use Rattle.std.proofs.Common.{◌≡◌, ⊎_elim, ℕ, Bool, true, false, not, ◌&&◌, cond, eqb, List, [], ◌∷◌, ◌++◌}
 use Rattle.std.proofs.Common.{refl, sym, ap, subst, ◌∙◌}
 use Rattle.std.specs.List.{AllZip}
-use Rattle.std.proofs.lemmas.Bool.{and_parts, cases_Bool, cond-false, cond-true, eqb-true, false≢true, ne_eqb, or_from}
+use Rattle.std.proofs.lemmas.Bool.{and_parts, cases_Bool, cond-false, cond-true, eqb-true, false≢true, or_from}
 use Rattle.mm_lang.specs.Tokens.{Token, Word, Signed, Quoted, Mark, Hole, Unreadable, Place, Outside, Inside, begins_equal, begins_word, is_blank, is_word_byte}
 use Rattle.mm_lang.specs.Tokens.{lexed, onto_equal, onto_minus, onto_symbol, onto_text, onto_word, tokens}
 use Rattle.mm_lang.specs.declared.read.token.Symbol.{Symbol}
 use Rattle.mm_lang.specs.declared.read.token.Symbol.TheVariants.{Open, Close, Comma, Dot, Equal, Less, AtMost, Greater, AtLeast, Plus, Minus}
 use Rattle.mm_statement.specs.Texts.{behind, begins_minus, filled_bytes, keeps_signs, with_texts}
 use Rattle.mm_statement.proofs.TextTokens.{no_texts}
+use Rattle.mm_lang.proofs.Lexing.{word_byte_not}
 
 -- ---- tokens with tokens in the place of holes
 
@@ -81,9 +82,6 @@ word_begins b true [] = refl
 word_begins b true (Word w ∷ ts) = refl
 word_begins b true (t ∷ ts) = refl
 word_begins b false ts = refl
-
-word_byte_not : (b n : ℕ) → is_word_byte b ≡ true → is_word_byte n ≡ false → eqb b n ≡ false
-word_byte_not b n word other = ne_eqb b n (λ e. false≢true (sym other ∙ ap is_word_byte (sym e) ∙ word))
 
 pub word_step : (b : ℕ) (bs : List ℕ) → is_word_byte b ≡ true → tokens (b ∷ bs) ≡ onto_word b (begins_word bs) (tokens bs)
 unfolding lexed

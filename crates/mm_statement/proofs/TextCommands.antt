@@ -87,19 +87,19 @@ fixed_texts ts texts c read fixed = no_holes ts texts (sym (read_literals ts c r
 
 -- ---- commands of the same shape
 
-same_change : (f : Command) (n : Mutation) → blank f ≡ Change n → (m : Mutation) × (f ≡ Change m) × (blank_mutation m ≡ n)
+pub same_change : (f : Command) (n : Mutation) → blank f ≡ Change n → (m : Mutation) × (f ≡ Change m) × (blank_mutation m ≡ n)
 same_change (Change m) n h = (m, refl, cc)
 same_change _ n h = absurd (cc)
 
-same_select : (f : Command) (p : Query) → blank f ≡ Select p → (q : Query) × (f ≡ Select q) × (blank_query q ≡ p)
+pub same_select : (f : Command) (p : Query) → blank f ≡ Select p → (q : Query) × (f ≡ Select q) × (blank_query q ≡ p)
 same_select (Select q) p h = (q, refl, cc)
 same_select _ p h = absurd (cc)
 
-same_explain : (f : Command) (p : Query) → blank f ≡ Explain p → (q : Query) × (f ≡ Explain q) × (blank_query q ≡ p)
+pub same_explain : (f : Command) (p : Query) → blank f ≡ Explain p → (q : Query) × (f ≡ Explain q) × (blank_query q ≡ p)
 same_explain (Explain q) p h = (q, refl, cc)
 same_explain _ p h = absurd (cc)
 
-same_watch : (f : Command) (w : NamedQuery) → blank f ≡ Define (define.Watch w)
+pub same_watch : (f : Command) (w : NamedQuery) → blank f ≡ Define (define.Watch w)
     → (v : NamedQuery) × (f ≡ Define (define.Watch v)) × (v.name ≡ w.name) × (blank_query v.query ≡ w.query)
 same_watch (Define (define.Watch v)) w h =
     let made : NamedQuery = record { name = v.name; query = blank_query v.query } in

@@ -13,11 +13,11 @@ use Rattle.mm_query.specs.declared.command.Command.TheVariants.{Nothing}
 use Rattle.mm_lang.specs.Reading.{first_fault, is_nothing, literals_of, reading}
 use Rattle.mm_lang.specs.Templates.{holes_of, template_of}
 use Rattle.mm_lang.specs.Tokens.{Token, Outside, tokens}
-use Rattle.mm_statement.specs.Filling.{IsFilling}
+use Rattle.mm_statement.specs.Filling.{Filled, IsFilling}
 use Rattle.mm_statement.specs.Texts.{filled_bytes, filled_line, keeps_signs, with_texts}
 use Rattle.mm_statement.proofs.TextBytes.{HasSign, IsTokenText, bytes_same, kept_signs}
 use Rattle.mm_statement.proofs.TextCommands.{fixed_same, is_fixed}
-use Rattle.mm_statement.proofs.TextLines.{hole_count, line_reads}
+use Rattle.mm_statement.proofs.TextLines.{hole_count, line_only, line_reads}
 use Rattle.mm_lang.specs.Grammar.{command_of}
 use Rattle.mm_lang.specs.Reading.{read_as}
 use Rattle.mm_lang.specs.Tokens.{has_hole}
@@ -76,8 +76,32 @@ filled_line_reads line texts values c result read stand enough keeps short h =
     (subst (λ l. IsFilling l values c result) holes h))))
     (λ some.
     let p = pieces_of texts values stand in
-    line_reads line (filled_line line texts) p.said values c result some read p.are_texts enough short
-    (filled_tokens line texts p.said p.fronts p.signs keeps) h)
+    line_reads line (filled_line line texts) p.said values c some read p.are_texts enough short
+    (filled_tokens line texts p.said p.fronts p.signs keeps) result h)
+    (cases_Bool (is_nothing line))
+
+-- It reads as no other command.
+pub filled_line_only : (line : List ℕ) (texts : List (List ℕ)) (values : List Value) (c f : Command)
+    → template_of line ≡ Ok c → AllZip Spells texts values → length values ≡ hole_count (holes_of line) → keeps_signs (tokens line) texts ≡ true
+    → length (filled_line line texts) ≤ 4096 → reading (filled_line line texts) ≡ Ok f → Filled (holes_of line) values c f
+unfolding filled_bytes
+filled_line_only line texts values c f read stand enough keeps short reads =
+    ⊎_elim
+    (λ nothing.
+    let holes : holes_of line ≡ [] = cond-true (is_nothing line) _ _ nothing in
+    let none : texts ≡ [] = no_values texts values stand (enough ∙ ap hole_count holes) in
+    let same : filled_line line texts ≡ line = ap (filled_line line) none in
+    let p = nothing_read line (subst (λ l. length l ≤ 4096) same short) nothing in
+    let is : ◌≡◌ {A = Result Command Refusal} (Ok c) (Ok Nothing) = sym read ∙ p.1 in
+    let is_too : ◌≡◌ {A = Result Command Refusal} (Ok f) (Ok Nothing) = sym reads ∙ ap reading same ∙ p.0 in
+    let alone : Nothing ≡ c = cc in
+    let alone_too : Nothing ≡ f = cc in
+    let whole : Filled [] values Nothing Nothing = record { same = refl; literals = refl } in
+    subst (λ l. Filled l values c f) (sym holes) (subst (λ d. Filled [] values d f) alone (subst (λ d. Filled [] values Nothing d) alone_too whole)))
+    (λ some.
+    let p = pieces_of texts values stand in
+    line_only line (filled_line line texts) p.said values c some read p.are_texts enough short
+    (filled_tokens line texts p.said p.fronts p.signs keeps) f reads)
     (cases_Bool (is_nothing line))
 
 -- ---- signs that are not kept

@@ -17,17 +17,18 @@ use Rattle.mm_query.specs.declared.command.Command.{Command}
 use Rattle.mm_query.specs.declared.command.Command.TheVariants.{Nothing}
 use Rattle.mm_lang.specs.Grammar.{command_behind, command_of}
 use Rattle.mm_lang.specs.Phrases.{◌>>=◌, alone, one_word}
-use Rattle.mm_lang.specs.Reading.{first_fault, is_comment, is_nothing, literals_of, read_as, reading, unless}
+use Rattle.mm_lang.specs.Reading.{is_comment, is_nothing, read_as, reading, unless}
 use Rattle.mm_lang.specs.Templates.{holes_among, holes_of, may_have_holes, template_command, template_of}
 use Rattle.mm_lang.specs.Tokens.{Token, Word, Signed, Quoted, Mark, Hole, Unreadable, has_hole, is_blank, lexed, tokens}
 use Rattle.mm_lang.specs.Words.{keyword_named}
 use Rattle.mm_lang.specs.declared.read.token.Symbol.TheVariants.{Minus, Plus}
 use Rattle.mm_lang.specs.steps.Parts.{Front, chained, then_parts, word_parts}
-use Rattle.mm_statement.specs.Filling.{IsFilling}
+use Rattle.mm_statement.specs.Filling.{Filled, IsFilling}
 use Rattle.mm_statement.specs.Texts.{IsText, behind, with_texts}
 use Rattle.mm_statement.proofs.TextCommands.{filled_read}
 use Rattle.mm_statement.proofs.TextQueries.{read_filled}
 use Rattle.mm_statement.proofs.TextTokens.{AreReadable, texts_readable}
+use Rattle.mm_lang.proofs.Preparing.{read_some}
 
 -- ---- no hole is left
 
@@ -134,14 +135,6 @@ command_is_something bs ts texts c is read =
 
 -- ---- what lines read as
 
-read_some : (o : Option Command) (c : Command) → read_as o ≡ Ok c → o ≡ Some c
-read_some None c e = absurd (cc)
-read_some (Some d) c e = by (first_fault (literals_of d)) e
-  where
-    by : (fault : Option Refusal) → unless d fault ≡ Ok c → ◌≡◌ {A = Option Command} (Some d) (Some c)
-    by None e = cc
-    by (Some refusal) e = absurd (cc)
-
 template_some : (ts : List Token) (o : Option Command) (c : Command)
     → option_and_then (λ d. cond (has_hole ts && not (may_have_holes d)) None (Some d)) o ≡ Some c → o ≡ Some c
 template_some ts None c e = absurd (none-some c e)
@@ -181,21 +174,42 @@ filling_read ts texts values c (Err NumberOutOfRange) read stand h =
     ap read_as (filled_read ts texts values c h.0 read stand h.1) ∙ ap (unless h.0) h.2
 filling_read ts texts values c (Err refusal) read stand h = absurd h
 
--- A line whose tokens are those of a line with holes, with texts in their place, reads as the filling.
-pub line_reads : (line written : List ℕ) (texts : List Token) (values : List Value) (c : Command) (result : Result Command Refusal)
-    → is_nothing line ≡ false → template_of line ≡ Ok c → AllZip IsText texts values → length values ≡ hole_count (holes_of line)
-    → length written ≤ 4096 → tokens written ≡ with_texts (tokens line) texts → IsFilling (holes_of line) values c result → reading written ≡ result
-line_reads line written texts values c result some e stand enough short is h =
-    let read = template_reads line c some e in
-    let holes : holes_of line ≡ holes_among (tokens line) = cond-false (is_nothing line) _ _ some in
-    let fits : hole_count (holes_among (tokens line)) ≤ length texts = omega (arith, enough, ap hole_count holes, same_length texts values stand) in
-    plain_reads written short (command_is_something written (tokens line) texts c is read)
-    (ap has_hole is ∙ no_hole_left (tokens line) texts (texts_readable texts values stand) fits)
-    ∙ ap (λ ts. read_as (command_of ts)) is
-    ∙ filling_read (tokens line) texts values c result read stand (subst (λ holes. IsFilling holes values c result) holes h)
-  where
-    same_length : (texts : List Token) (values : List Value) → AllZip IsText texts values → length texts ≡ length values
-    same_length [] [] h = refl
-    same_length [] (v ∷ values) h = absurd h
-    same_length (t ∷ texts) [] h = absurd h
-    same_length (t ∷ texts) (v ∷ values) h = ap suc (same_length texts values h.1)
+-- A command that the tokens read as, with texts in the place of holes, is the filled one.
+filled_only : (ts texts : List Token) (values : List Value) (c f : Command) → command_of ts ≡ Some c → AllZip IsText texts values
+    → read_as (command_of (with_texts ts texts)) ≡ Ok f → Filled (holes_among ts) values c f
+filled_only ts texts values c f read stand is =
+    read_filled ts texts values c f read stand (read_some (command_of (with_texts ts texts)) f is)
+
+module _ (line written : List ℕ) (texts : List Token) (values : List Value) (c : Command) (some : is_nothing line ≡ false) (e : template_of line ≡ Ok c)
+    (stand : AllZip IsText texts values) (enough : length values ≡ hole_count (holes_of line)) (short : length written ≤ 4096)
+    (is : tokens written ≡ with_texts (tokens line) texts) where
+  of_tokens : holes_of line ≡ holes_among (tokens line)
+  of_tokens = cond-false (is_nothing line) _ _ some
+
+  -- A line whose tokens are those of a line with holes, with texts in their place, reads as these tokens.
+  written_reads : reading written ≡ read_as (command_of (with_texts (tokens line) texts))
+  written_reads =
+      let read = template_reads line c some e in
+      let fits : hole_count (holes_among (tokens line)) ≤ length texts = omega (arith, enough, ap hole_count of_tokens, same_length texts values stand) in
+      plain_reads written short (command_is_something written (tokens line) texts c is read)
+      (ap has_hole is ∙ no_hole_left (tokens line) texts (texts_readable texts values stand) fits)
+      ∙ ap (λ ts. read_as (command_of ts)) is
+    where
+      same_length : (texts : List Token) (values : List Value) → AllZip IsText texts values → length texts ≡ length values
+      same_length [] [] h = refl
+      same_length [] (v ∷ values) h = absurd h
+      same_length (t ∷ texts) [] h = absurd h
+      same_length (t ∷ texts) (v ∷ values) h = ap suc (same_length texts values h.1)
+
+  -- So it reads as the filling, ..
+  pub line_reads : (result : Result Command Refusal) → IsFilling (holes_of line) values c result → reading written ≡ result
+  line_reads result h =
+      written_reads
+      ∙ filling_read (tokens line) texts values c result (template_reads line c some e) stand
+      (subst (λ holes. IsFilling holes values c result) of_tokens h)
+
+  -- .. and as no other command.
+  pub line_only : (f : Command) → reading written ≡ Ok f → Filled (holes_of line) values c f
+  line_only f reads =
+      subst (λ holes. Filled holes values c f) (sym of_tokens)
+      (filled_only (tokens line) texts values c f (template_reads line c some e) stand (sym written_reads ∙ reads))

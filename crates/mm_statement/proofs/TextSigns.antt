@@ -25,6 +25,7 @@ use Rattle.mm_lang.specs.declared.read.keyword.Keyword.TheVariants as keyword
 use Rattle.mm_lang.specs.declared.read.token.Symbol.TheVariants.{Close, Comma, Dot, Equal, Plus, Minus}
 use Rattle.mm_statement.specs.Texts.{begins_minus, keeps_signs}
 use Rattle.mm_statement.proofs.TextBytes.{HasSign, in_place, is_signed}
+use Rattle.mm_lang.proofs.SpelledSelect.{regrouped}
 
 -- a sign directly in front of a number with a minus
 unfoldable pub signs_twice : List Token → Bool
@@ -154,13 +155,10 @@ order_once =
     clause_once keyword.Order (Mark Comma) (SpellsOne SpellsPosition) tt
     (λ ts n us h. ap (λ l. signs_twice (l ++ us)) h.2 ∙ unsigned_step h.0 us (position_unsigned h.0 n h.1))
 
-grouped : (a b c d e : List Token) → a ++ b ++ c ++ d ++ e ≡ a ++ (b ++ (c ++ (d ++ e)))
-grouped a b c d e = append_assoc (a ++ b ++ c) d e ∙ append_assoc (a ++ b) c (d ++ e) ∙ append_assoc a b (c ++ (d ++ e))
-
 query_once : (ts : List Token) (q : Query) → SpellsQuery ts q → signs_twice ts ≡ false
 query_once ts q h =
     let tail = h.3 ++ h.4 in
-    ap signs_twice (h.10 ∙ grouped h.0 h.1 (word keyword.From ∷ h.2) h.3 h.4)
+    ap signs_twice (h.10 ∙ regrouped h.0 h.1 (word keyword.From ∷ h.2) h.3 h.4)
     ∙ distinct_once h.0 q.distinct (h.1 ++ word keyword.From ∷ (h.2 ++ tail)) h.5
     ∙ list_once (Mark Comma) SpellsField tt field_once q.fields h.1 (word keyword.From ∷ (h.2 ++ tail)) h.6
     ∙ unsigned_step (word keyword.From) (h.2 ++ tail) tt

@@ -1,5 +1,5 @@
 //! Laws of commands that differ in their literals alone.
-ghost use Rattle.std.specs.Prelude.{◌≡◌, ◌++◌, ◌∷◌, [], Bool, List, ℤ, false, length, neg_ℤ, negsuc, pos, true};
+ghost use Rattle.std.specs.Prelude.{◌≡◌, ◌++◌, ◌∷◌, [], Bool, List, Result, ℤ, false, length, neg_ℤ, negsuc, pos, true};
 ghost use Rattle.std.specs.List.{flat_map};
 ghost use Rattle.mm_schema.specs.Refused.{first_refusal};
 ghost use Rattle.mm_schema.specs.Schema.{Schema};
@@ -7,15 +7,17 @@ ghost use Rattle.mm_query.specs.Binding.{Binds, binding_conditions};
 ghost use Rattle.mm_query.specs.Resolving.{IsQueryWithin, placed_query, query_conditions};
 ghost use Rattle.mm_query.specs.declared.bind.BoundChange.{BoundChange};
 ghost use Rattle.mm_query.specs.declared.bound_query.BoundQuery.{BoundQuery};
+ghost use Rattle.mm_query.specs.declared.command.Command.{Command};
 ghost use Rattle.mm_query.specs.declared.command.Command.TheVariants.{Change, Select};
 ghost use Rattle.mm_query.specs.declared.command.Mutation.{Mutation};
 ghost use Rattle.mm_query.specs.declared.query.Query.{Query};
 ghost use Rattle.mm_lang.specs.Reading.{position_literals, query_literals};
 ghost use Rattle.mm_statement.specs.Alike.{AreAlike, AreAlikeChanges, blank_bound_change, blank_bound_query};
 ghost use Rattle.mm_statement.specs.Alike.{bound_change_literals, bound_query_literals, change_literals};
-ghost use Rattle.mm_statement.specs.Filling.{blank_query, merged};
+ghost use Rattle.mm_statement.specs.Filling.{Filled, IsFilling, blank_query, merged};
 ghost use Rattle.mm_statement.specs.Holes.{hole_count, hole_places};
 ghost use Rattle.mm_statement.specs.Refilling.{BindsFilledChange, BindsFilledQuery, RefillsChange, RefillsQuery};
+ghost use Rattle.mm_value.specs.declared.refusal.Refusal.{Refusal as Ref};
 ghost use Rattle.mm_value.specs.declared.values.Value.{Value as Val};
 ghost use Rattle.mm_value.specs.declared.values.Value.TheVariants.{Int};
 
@@ -26,6 +28,15 @@ pub fn values_come_in_written_order()
         ≡ first ∷ literal ∷ second ∷ [] }
     ensures plus { (number : ℤ) → merged (true ∷ []) (Int number ∷ []) (Int (pos 1) ∷ []) ≡ Int number ∷ [] }
     ensures minus { (number : ℤ) → merged (true ∷ []) (Int number ∷ []) (Int (negsuc 0) ∷ []) ≡ Int (neg_ℤ number) ∷ [] }
+{}
+
+/// A command is filled with values in one way: one command is the filled one, and filling has one result. No limit of the length of a line
+/// is involved.
+pub fn commands_are_filled_in_one_way()
+    ensures filled { (holes : List Bool) (values : List Val) (command filled other : Command) → Filled holes values command filled
+        → Filled holes values command other → filled ≡ other }
+    ensures results { (holes : List Bool) (values : List Val) (command : Command) (result other : Result Command Ref)
+        → IsFilling holes values command result → IsFilling holes values command other → result ≡ other }
 {}
 
 /// The catalog refuses queries alike that differ in their literals alone, where these have the same types.

@@ -29,13 +29,17 @@ pub fn texts_read_as_values()
 {}
 
 /// A line with a literal in the place of each hole, if it is then not longer than 4,096 bytes, reads as what filling its command with
-/// the values of these literals gives; but where a literal with a minus stands behind the sign of a shift, the line has no reading.
-/// The bytes of a literal, as those of a printed value, are one token, which is a text of its value.
+/// the values of these literals gives, and as no other command; but where a literal with a minus stands behind the sign of a shift, the
+/// line has no reading. The bytes of a literal, as those of a printed value, are one token, which is a text of its value.
 pub fn filled_lines_read_as_fillings()
     ensures reads { (line : List ℕ) (texts : List (List ℕ)) (values : List Val) (command : Command) (result : Result Command Ref)
         → template_of line ≡ Ok command → AllZip Spells texts values → length values ≡ count_by (λ hole. hole) (holes_of line)
         → keeps_signs (tokens line) texts ≡ true → length (filled_line line texts) ≤ 4096 → IsFilling (holes_of line) values command result
         → reading (filled_line line texts) ≡ result }
+    ensures only { (line : List ℕ) (texts : List (List ℕ)) (values : List Val) (command filled : Command)
+        → template_of line ≡ Ok command → AllZip Spells texts values → length values ≡ count_by (λ hole. hole) (holes_of line)
+        → keeps_signs (tokens line) texts ≡ true → length (filled_line line texts) ≤ 4096
+        → reading (filled_line line texts) ≡ Ok filled → Filled (holes_of line) values command filled }
     ensures refused { (line : List ℕ) (texts : List (List ℕ)) (values : List Val) (command : Command)
         → template_of line ≡ Ok command → AllZip Spells texts values → length values ≡ count_by (λ hole. hole) (holes_of line)
         → keeps_signs (tokens line) texts ≡ false → length (filled_line line texts) ≤ 4096 → reading (filled_line line texts) ≡ Err Syntax }

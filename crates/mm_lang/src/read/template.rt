@@ -1,7 +1,10 @@
 //! Lines with holes, in whose place values are given later.
-ghost use Rattle.std.specs.Prelude.{◌≡◌, ◌&&◌, ℕ, List, length, false, Ok};
+ghost use Rattle.std.specs.Prelude.{◌≡◌, ◌≢◌, ◌≤◌, ◌&&◌, ℕ, List, Some, length, false, Ok};
 ghost use Rattle.mm_query.specs.declared.command.Command.{Command as Com};
-ghost use Rattle.mm_lang.specs.Reading.{literals_of, reading};
+ghost use Rattle.mm_query.specs.declared.command.Command.TheVariants.{Define};
+ghost use Rattle.mm_query.specs.declared.command.Definition.{Definition};
+ghost use Rattle.mm_lang.specs.Grammar.{command_of};
+ghost use Rattle.mm_lang.specs.Reading.{is_nothing, literals_of, read_as, reading};
 ghost use Rattle.mm_lang.specs.Templates.{Prepares, holes_of, template_of};
 ghost use Rattle.mm_lang.specs.Tokens.{has_hole, tokens};
 ghost use Rattle.mm_lang.specs.steps.Parsing.{begins_definition, is_definition_keyword};
@@ -78,4 +81,12 @@ fn is_definition_keyword(keyword: Keyword) -> bool
 pub fn templates_read_as_lines()
     ensures plain { (line : List ℕ) → has_hole (tokens line) ≡ false → template_of line ≡ reading line }
     ensures places { (line : List ℕ) (command : Com) → template_of line ≡ Ok command → length (holes_of line) ≡ length (literals_of command) }
+{}
+
+/// A line with a hole never reads as a change of the catalog. All other commands may have holes: a line of at most 4,096 bytes whose tokens
+/// spell one reads as it, unless a literal is past its limit.
+pub fn holes_are_in_no_definition()
+    ensures definitions { (line : List ℕ) (definition : Definition) → template_of line ≡ Ok (Define definition) → has_hole (tokens line) ≡ false }
+    ensures others { (line : List ℕ) (command : Com) → length line ≤ 4096 → is_nothing line ≡ false → command_of (tokens line) ≡ Some command
+        → ((definition : Definition) → command ≢ Define definition) → template_of line ≡ read_as (Some command) }
 {}

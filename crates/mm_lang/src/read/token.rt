@@ -33,7 +33,7 @@ pub enum Symbol {
 
 /// A token, as it stands in the line.
 #[derive(Clone, Copy)]
-pub(crate) enum Token<'a> {
+pub enum Token<'a> {
     /// Letters, digits and `_`.
     Word(&'a [u8]),
     /// A minus and the word directly behind it.
@@ -73,7 +73,7 @@ static WORD_BYTES: [bool; 256] = [
 
 /// The first token, and the bytes behind it; none where there are only blanks.
 /// There is nothing behind what can't be read.
-pub(crate) fn split_token(bytes: &[u8]) -> Option<(Token<'_>, &[u8])>
+pub fn split_token(bytes: &[u8]) -> Option<(Token<'_>, &[u8])>
     ensures { MatchOption result (tokens bytes.now ≡ []) (λ r. Splits (tokens bytes.now) (length bytes.now) r.0 r.1.now) }
 {
     let bytes = skip_blanks(bytes);

@@ -10,4 +10,5 @@ pub returns-clause-only : goal.returns-clause-only
 returns-clause-only c = read_filled
 
 pub returns-clause-lines : goal.returns-clause-lines
-returns-clause-lines c = line_reads
+returns-clause-lines c line written texts values command result some read stand enough short is =
+    line_reads line written texts values command some read stand enough short is result
