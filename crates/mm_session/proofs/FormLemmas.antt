@@ -1,5 +1,5 @@
 -- Bound forms that are good, and what running them leads to.
-use Rattle.std.proofs.Common.{◌≡◌, ℕ, Bool, List, Option, Some, None, Ok, IsTrue, length, inl, inr, ⊎_elim, refl, sym, ap, subst, ◌∙◌}
+use Rattle.std.proofs.Common.{◌≡◌, ℕ, Bool, false, List, Option, Some, None, Ok, IsTrue, length, inl, inr, ⊎_elim, refl, sym, ap, subst, ◌∙◌}
 use Rattle.std.specs.Prelude.{IfSome}
 use Rattle.mm_value.specs.declared.refusal.Refusal.TheVariants.{Memory}
 use Rattle.mm_value.specs.declared.values.Value.{Value}
@@ -29,6 +29,7 @@ use Rattle.mm_session.specs.Statements.{Runs}
 use Rattle.mm_session.specs.declared.bound_form.BoundForm.{BoundForm}
 use Rattle.mm_session.specs.declared.bound_form.BoundForm.TheVariants as form
 use Rattle.mm_session.specs.steps.Forms.{HasForm, IsBoundForm, IsChangeForm, IsFormOf, IsFormWith, IsQueryForm, Reruns}
+use Rattle.mm_session.specs.steps.Readings.{is_definition}
 
 -- What differs in literals alone from a SELECT is one, ..
 select_shape : (command : Command) (query : Query) → blank (Select query) ≡ blank command → (template : Query) × (command ≡ Select template)
@@ -115,41 +116,49 @@ module _ (schema : Schema) (holes : HolePlaces) (values : List Value) (command :
       record { template = was.template; is = was.is; mutation = anew.0; binds = anew.1; distinct = was.distinct }
 
 -- Such a form is bound by the catalog.
-pub bound_query : (schema : Schema) (holes : List Bool) (values : List Value) (command : Command) (bound : Bound)
+bound_query : (schema : Schema) (holes : List Bool) (values : List Value) (command : Command) (bound : Bound)
     → (form : IsQueryForm schema holes values command bound) → IsBoundQuery schema form.query bound
 bound_query schema holes values command bound form =
     record { placed = form.binds.placed; tables = form.tables; due = form.binds.unrefused }
 
-pub bound_change : (schema : Schema) (holes : List Bool) (values : List Value) (command : Command) (bound : BoundChange)
+bound_change : (schema : Schema) (holes : List Bool) (values : List Value) (command : Command) (bound : BoundChange)
     → (form : IsChangeForm schema holes values command bound) → IsBoundChange schema form.mutation bound
 bound_change schema holes values command bound form =
     record { binds = form.binds.binds; due = form.binds.unrefused; distinct = form.distinct }
 
-module _ (holes : HolePlaces) (values : List Value) (command : Command) (before : State) (outcome : Outcome) where
-  -- What running it leads to is what the command with these values leads to, ..
-  pub reruns_query : (bound : Bound) (with_values : IsQueryForm before.schema holes.are_holes values command bound)
-      → MayLeadTo (Ok (Select with_values.query)) before outcome → Reruns holes values command before (form.Query bound) outcome
-  reruns_query bound with_values leads = record {
-    filled = Select with_values.query;
-    fills = subst (λ (c : Command). Filled holes.are_holes values c (Select with_values.query)) (sym with_values.is) with_values.binds.filled;
-    within = with_values.binds.within;
-    other = refl;
-    leads = leads;
-    form = (values, with_values);
-  }
+-- A command with values in its holes, which has this bound form in a catalog.
+pub record HasFilled (schema : Schema) (holes : List Bool) (values : List Value) (command : Command) (bound : BoundForm) : Type 0 where
+  pub filled : Command
+  pub fills : Filled holes values command filled
+  pub within : first_fault (literals_of filled) ≡ None
+  pub other : is_definition filled ≡ false
+  pub binds : IsBoundForm schema filled bound
 
-  -- .. also where another form is kept than was run.
-  pub reruns_change : (ran kept : BoundChange) (with_values : IsChangeForm before.schema holes.are_holes values command ran)
-      → IsFormOf before.schema holes.are_holes command (form.Change kept)
-      → MayLeadTo (Ok (Change with_values.mutation)) before outcome → Reruns holes values command before (form.Change kept) outcome
-  reruns_change ran kept with_values form leads = record {
-    filled = Change with_values.mutation;
-    fills = subst (λ (c : Command). Filled holes.are_holes values c (Change with_values.mutation)) (sym with_values.is) with_values.binds.filled;
-    within = with_values.binds.within;
-    other = refl;
-    leads = leads;
-    form = form;
-  }
+-- There is one for each bound form of a command with values.
+pub filled_of : (schema : Schema) (holes : List Bool) (values : List Value) (command : Command) (bound : BoundForm)
+    → IsFormWith schema holes values command bound → HasFilled schema holes values command bound
+filled_of schema holes values command (form.Query bound) with_values = record {
+  filled = Select with_values.query;
+  fills = subst (λ (c : Command). Filled holes values c (Select with_values.query)) (sym with_values.is) with_values.binds.filled;
+  within = with_values.binds.within;
+  other = refl;
+  binds = bound_query schema holes values command bound with_values;
+}
+filled_of schema holes values command (form.Change bound) with_values = record {
+  filled = Change with_values.mutation;
+  fills = subst (λ (c : Command). Filled holes values c (Change with_values.mutation)) (sym with_values.is) with_values.binds.filled;
+  within = with_values.binds.within;
+  other = refl;
+  binds = bound_change schema holes values command bound with_values;
+}
+
+module _ (holes : HolePlaces) (values : List Value) (command : Command) (before : State) (outcome : Outcome) where
+  -- Running a bound form that was filled leads to what the command with these values leads to, ..
+  pub reruns_filled : (ran kept : BoundForm) (own : HasFilled before.schema holes.are_holes values command ran)
+      → IsFormOf before.schema holes.are_holes command kept → MayLeadTo (Ok own.filled) before outcome
+      → Reruns holes values command before kept outcome
+  reruns_filled ran kept own form leads =
+      record { filled = own.filled; fills = own.fills; within = own.within; other = own.other; leads = leads; form = form }
 
   -- It is what running the statement may lead to, ..
   pub runs_again : (line : List ℕ) (bound : BoundForm) → template_of line ≡ Ok command → holes.are_holes ≡ holes_of line
@@ -171,47 +180,21 @@ module _ (holes : HolePlaces) (values : List Value) (command : Command) (before 
   pub again_keeps : (bound : BoundForm) → Reruns holes values command before bound outcome → outcome.state.schema ≡ before.schema
   again_keeps bound again = leads_keep again.filled before outcome again.other again.leads
 
--- What a call owes that runs a query or a change of rows with new values, and what it gives.
+-- What a run of an INSERT with new values owes, and what it gives. The form before is kept.
 module _ (before : State) (holes : HolePlaces) (values : List Value) (command : Command) (count : length values ≡ hole_count holes.are_holes) where
-  pub query_due : (old new : Bound) → HasForm before.schema holes command (form.Query old) → new.tables ≡ old.tables
-      → RefillsQuery holes values old.query new.query → (query : Query) × IsBoundQuery before.schema query new
-  query_due old new has tables refills =
-      let again = query_again before.schema holes values command count old new has tables refills in
-      (again.query, bound_query before.schema holes.are_holes values command new again)
-
-  pub query_done : (old new : Bound) (outcome : Outcome) → HasForm before.schema holes command (form.Query old) → new.tables ≡ old.tables
-      → RefillsQuery holes values old.query new.query
-      → ((query : Query) → IsBoundQuery before.schema query new → MayLeadTo (Ok (Select query)) before outcome)
-      → Reruns holes values command before (form.Query new) outcome
-  query_done old new outcome has tables refills leads =
-      let again = query_again before.schema holes values command count old new has tables refills in
-      reruns_query holes values command before outcome new again
-      (leads again.query (bound_query before.schema holes.are_holes values command new again))
-
   pub change_due : (old new : BoundChange) → HasForm before.schema holes command (form.Change old) → RefillsChange holes values old new
       → (mutation : Mutation) × IsBoundChange before.schema mutation new
   change_due old new has refills =
       let again = change_again before.schema holes values command count old new has refills in
       (again.mutation, bound_change before.schema holes.are_holes values command new again)
 
-  stepped : (old new kept : BoundChange) (outcome : Outcome) → HasForm before.schema holes command (form.Change old) → RefillsChange holes values old new
-      → IsFormOf before.schema holes.are_holes command (form.Change kept)
-      → ((mutation : Mutation) → IsBoundChange before.schema mutation new → IsStep (Change mutation) before outcome)
-      → Reruns holes values command before (form.Change kept) outcome
-  stepped old new kept outcome has refills good steps =
-      let again = change_again before.schema holes values command count old new has refills in
-      reruns_change holes values command before outcome new kept again good
-      (change_leads again.mutation before outcome (steps again.mutation (bound_change before.schema holes.are_holes values command new again)))
-
-  -- The change that was run is kept, ..
-  pub change_done : (old new : BoundChange) (outcome : Outcome) → HasForm before.schema holes command (form.Change old) → RefillsChange holes values old new
-      → ((mutation : Mutation) → IsBoundChange before.schema mutation new → IsStep (Change mutation) before outcome)
-      → Reruns holes values command before (form.Change new) outcome
-  change_done old new outcome has refills steps =
-      stepped old new new outcome has refills (values, change_again before.schema holes values command count old new has refills) steps
-
-  -- .. or the one before.
   pub copy_done : (old new : BoundChange) (outcome : Outcome) → HasForm before.schema holes command (form.Change old) → RefillsChange holes values old new
       → ((mutation : Mutation) → IsBoundChange before.schema mutation new → IsStep (Change mutation) before outcome)
       → Reruns holes values command before (form.Change old) outcome
-  copy_done old new outcome has refills steps = stepped old new old outcome has refills has.form steps
+  unfolding filled_of
+  copy_done old new outcome has refills steps =
+      let again = change_again before.schema holes values command count old new has refills in
+      let bound = bound_change before.schema holes.are_holes values command new again in
+      reruns_filled holes values command before outcome (form.Change new) (form.Change old)
+      (filled_of before.schema holes.are_holes values command (form.Change new) again) has.form
+      (change_leads again.mutation before outcome (steps again.mutation bound))

@@ -48,7 +48,7 @@ template_within line c e = line_within (ltb 4096 (length line)) (is_nothing line
 
 -- ---- lines without holes
 
-unflagged : (o : Option Value) (flags : List Bool) → hole_count (cons_option (option_map (λ (v : Value). false) o) flags) ≡ hole_count flags
+pub unflagged : (o : Option Value) (flags : List Bool) → hole_count (cons_option (option_map (λ (v : Value). false) o) flags) ≡ hole_count flags
 unflagged None flags = refl
 unflagged (Some v) flags = refl
 
@@ -61,7 +61,7 @@ unholed (Quoted text ∷ ts) none = unholed ts (sym (unflagged (literal_of (Quot
 unholed (Mark symbol ∷ ts) none = unholed ts (sym (unflagged (literal_of (Mark symbol)) (holes_among ts)) ∙ none)
 unholed (Unreadable ∷ ts) none = unholed ts (sym (unflagged (literal_of Unreadable) (holes_among ts)) ∙ none)
 
-nothing_plain : (line : List ℕ) → is_nothing line ≡ true → template_of line ≡ reading line
+pub nothing_plain : (line : List ℕ) → is_nothing line ≡ true → template_of line ≡ reading line
 unfolding template_of reading
 nothing_plain line nothing =
     ap (λ b. cond (ltb 4096 (length line)) (Err LineTooLong) (cond b (Ok Nothing) (read_as (template_command (tokens line))))) nothing

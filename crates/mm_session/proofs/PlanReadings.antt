@@ -1,5 +1,5 @@
 -- Statements whose queries are explained.
-use Rattle.std.proofs.Common.{◌≡◌, ℕ, Bool, true, List, Option, Some, Result, Ok, Err, IsTrue, inl, inr, is_some, ⊎_elim, refl, sym, ap, subst, ◌∙◌}
+use Rattle.std.proofs.Common.{◌≡◌, ℕ, true, List, Some, Result, Ok, Err, IsTrue, inl, inr, is_some, ⊎_elim, sym, ap, subst, ◌∙◌}
 use Rattle.mm_value.specs.declared.refusal.Refusal.{Refusal}
 use Rattle.mm_value.specs.declared.refusal.Refusal.TheVariants.{Memory}
 use Rattle.mm_value.specs.declared.values.Value.{Value}

@@ -45,7 +45,8 @@ module _ (schema : Schema) (statement : Statement) (values : List Value) (filled
   same : fills.command ≡ ready.command
   same = same_command statement.line.items fills.command ready.command fills.read ready.read
 
-  is_filled : IsFilling (holes_of statement.line.items) values fills.command (Ok filled)
+  -- What the line was filled to is its command with the values.
+  pub is_filled : IsFilling (holes_of statement.line.items) values fills.command (Ok filled)
   is_filled =
       ⊎_elim
       (λ (f : IsFilling (holes_of statement.line.items) values fills.command (Ok filled)). f)
@@ -72,22 +73,25 @@ module _ (schema : Schema) (statement : Statement) (values : List Value) (filled
       (defines_alike fills.command filled is_filled.0.same ∙ (ap is_definition same
       ∙ (sym (kind_defines ready.command) ∙ (ap is_of_catalog (sym ready.kind) ∙ other)))) leads
 
--- A bound form that a ready statement keeps can be run again, ..
+-- A statement tells where the holes of its line are, ..
+pub flags : (schema : Schema) (statement : Statement) → IsReadyStatement schema statement → statement.holes.are_holes ≡ holes_of statement.line.items
+flags schema statement ready = ap (λ (h : HolePlaces). h.are_holes) ready.holes
+
+-- .. and a bound form that it keeps can be run again, ..
+pub has_form : (schema : Schema) (statement : Statement) (ready : IsReadyStatement schema statement) (bound : BoundForm) → statement.bound ≡ Some bound
+    → HasForm schema statement.holes ready.command bound
+has_form schema statement ready bound is = record {
+  places = ready.holes ∙ ap (λ (h : List Bool). hole_places h ready.command) (sym (flags schema statement ready));
+  form = subst (λ (h : List Bool). IsFormOf schema h ready.command bound) (sym (flags schema statement ready))
+      (subst (λ (o : Option BoundForm). IfSome o (IsFormOf schema (holes_of statement.line.items) ready.command)) is ready.bound);
+}
+
 module _ (before : State) (statement : Statement) (ready : IsReadyStatement before.schema statement) where
-  flags : statement.holes.are_holes ≡ holes_of statement.line.items
-  flags = ap (λ (h : HolePlaces). h.are_holes) ready.holes
-
-  pub has_form : (bound : BoundForm) → statement.bound ≡ Some bound → HasForm before.schema statement.holes ready.command bound
-  has_form bound is = record {
-    places = ready.holes ∙ ap (λ (h : List Bool). hole_places h ready.command) (sym flags);
-    form = subst (λ (h : List Bool). IsFormOf before.schema h ready.command bound) (sym flags)
-        (subst (λ (o : Option BoundForm). IfSome o (IsFormOf before.schema (holes_of statement.line.items) ready.command)) is ready.bound);
-  }
-
   module _ (values : List Value) (bound : BoundForm) (outcome : Outcome) (again : Reruns statement.holes values ready.command before bound outcome) where
     -- .. that is what the statement may lead to, ..
     pub rerun_runs : Runs statement.line.items values before outcome
-    rerun_runs = runs_again statement.holes values ready.command before outcome statement.line.items bound ready.read flags again
+    rerun_runs =
+        runs_again statement.holes values ready.command before outcome statement.line.items bound ready.read (flags before.schema statement ready) again
 
     pub rerun_keeps : outcome.state.schema ≡ before.schema
     rerun_keeps = again_keeps statement.holes values ready.command before outcome bound again
@@ -100,7 +104,7 @@ module _ (before : State) (statement : Statement) (ready : IsReadyStatement befo
       holes = ready.holes;
       kind = ready.kind;
       bound = subst (λ (schema : Schema). IsFormOf schema (holes_of statement.line.items) ready.command bound) (sym rerun_keeps)
-          (subst (λ (h : List Bool). IsFormOf before.schema h ready.command bound) flags again.form);
+          (subst (λ (h : List Bool). IsFormOf before.schema h ready.command bound) (flags before.schema statement ready) again.form);
     }
 
 -- A statement is ready whatever the catalog once its bound form is forgotten.

@@ -30,10 +30,11 @@ use Rattle.mm_query.specs.declared.query.Query.{Query}
 use Rattle.mm_query.proofs.PlacedQueries.{none_hold}
 use Rattle.mm_laws.proofs.StandingQueries.{IsThere, Stays, items_stay, last_named, left_named, none_of_query, none_of_tables, none_out, others_named}
 use Rattle.mm_laws.proofs.StandingQueries.{stays_behind, stays_kept, stays_left}
-use Rattle.mm_laws.proofs.Throughout.{kept_by_step, none_later}
+use Rattle.mm_laws.proofs.Throughout.{kept_by_step}
 use Rattle.mm_laws.proofs.TypedQueries.{column_stays}
 use Rattle.mm_session.specs.Columns.{bound_columns, column_at_place, columns_of}
 use Rattle.mm_session.proofs.ColumnTypes.{bound_alike}
+use Rattle.mm_schema.proofs.Dues.{none_here}
 
 -- ---- the query of a name
 
@@ -164,7 +165,7 @@ module _ (name : List ℕ) (state : State) (beside : HasQueries state) (bound : 
   kept_by_command Nothing due had there = refl
   kept_by_command (Define definition) due had there =
       kept_by_definition definition
-      (none_later (has_transaction state && not (is_of_index definition)) NotInTransaction (first_refusal (definition_conditions definition state)) due)
+      (none_here (has_transaction state && not (is_of_index definition)) NotInTransaction (first_refusal (definition_conditions definition state)) due)
       had there
   kept_by_command (Change mutation) due had there = refl
   kept_by_command (Scan table) due had there = refl

@@ -6,7 +6,7 @@ use Rattle.std.specs.List.{position, position_or_len}
 use Rattle.std.proofs.lemmas.Grind.{common_steps}
 use Rattle.std.proofs.lemmas.List.Sums.{fails_before_first}
 use Rattle.std.specs.Prelude.{slice_get}
-use Rattle.std.proofs.lemmas.List.{drop-set-lt, map_more, length-set, take_all, take_more_set}
+use Rattle.std.proofs.lemmas.List.{drop-set-lt, get_or-set_same, map_more, length-set, take_all, take_more_set}
 use Rattle.std.proofs.Math.Seq.{drop-cons}
 use Rattle.std.proofs.lemmas.List.Quantifiers.{position-Some}
 use Rattle.std.proofs.lemmas.Option.{slice_get-get_or, slice_get-map, slice_get_past}
@@ -90,3 +90,10 @@ all_taken slots is = λ k below.
 -- Past the end no statement stands.
 pub none_past : (slots : List (Option Statement)) (number : ℕ) → length slots ≤ number → line_at number (map line_in slots) ≡ None
 none_past slots number past = ap line_found (slice_get-map line_in slots number ∙ ap (option_map line_in) (slice_get_past slots number past))
+
+-- What is put into a place stands there.
+pub put_there : {X : Type 0} (slots : List (Option X)) (number : ℕ) (slot : Option X) → number < length slots
+    → slice_get (set slots number slot) number ≡ Some slot
+put_there slots number slot within =
+    slice_get-get_or (set slots number slot) number slot (omega (arith, length-set slots number slot, within))
+    ∙ ap (λ o. Some o) (get_or-set_same slots number slot slot within)

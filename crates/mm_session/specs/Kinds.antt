@@ -9,7 +9,7 @@ use Rattle.mm_query.specs.declared.query.Query.{Query}
 use Rattle.mm_session.specs.declared.statement_kind.StatementKind.{StatementKind}
 use Rattle.mm_session.specs.declared.statement_kind.StatementKind.TheVariants as kind
 
--- The kind of a command, by the words that begin its line.
+-- The kind of a command, named after its first keywords.
 abbrev pub kind_of : Command → StatementKind
 kind_of Nothing = kind.Nothing
 kind_of (Define (define.Table definition)) = kind.Table
@@ -33,13 +33,13 @@ kind_of Rollback = kind.Rollback
 kind_of (Savepoint name) = kind.Savepoint
 kind_of (RollbackTo name) = kind.RollbackTo
 
--- The query whose plan EXPLAIN shows for a command, if the command is a SELECT or an EXPLAIN.
+-- The query of a SELECT or an EXPLAIN, whose plan EXPLAIN shows.
 abbrev pub query_of : Command → Option Query
 query_of (Select query) = Some query
 query_of (Explain query) = Some query
 query_of command = None
 
--- The kinds of commands that have such a query.
+-- The kinds whose commands have such a query.
 abbrev pub has_plan : StatementKind → Bool
 has_plan kind.Select = true
 has_plan kind.Explain = true

@@ -1,6 +1,8 @@
+pub mod Calls
 pub mod Columns
 pub mod Kinds
 pub mod Replies
 pub mod Session
 pub mod Statements
+pub mod Templates
 pub mod steps

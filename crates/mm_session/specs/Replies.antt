@@ -5,7 +5,7 @@ use Rattle.mm_query.specs.declared.reply.Reply.TheVariants as reply
 use Rattle.mm_session.specs.declared.replies.LastReply.{LastReply}
 use Rattle.mm_session.specs.declared.replies.LastReply.TheVariants as last
 
--- The reply that is lent, if there is one.
+-- The reply that a `LastReply` borrows, if there is one.
 abbrev pub reply_lent : LastReply → Option Reply
 reply_lent last.Nothing = None
 reply_lent (last.Rows rows) = Some (reply.Rows rows.now)

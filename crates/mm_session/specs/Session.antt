@@ -19,41 +19,41 @@ use Rattle.mm_session.specs.Statements.{ExplainsFound, IsMisused, IsUnexplained,
 use Rattle.mm_session.specs.declared.misuse.Misuse.{Misuse}
 use Rattle.mm_session.specs.declared.misuse.Misuse.TheVariants.{NoSuchStatement}
 
--- The state of the database; at each statement's number the line that it was made from, or None if there is no statement any more;
--- the reply to the last call, if it had one; and how many rows all calls changed, modulo 2^64.
+-- The database's state; the line of each statement at its number, or None if it was deleted; the last reply, if any; and the number of
+-- rows that all calls changed, modulo 2^64.
 pub record SessionState : Type 0 where
   pub state : State
   pub lines : List (Option (List ℕ))
   pub reply : Option Reply
   pub changes : ℕ
 
--- What a session's last call came to.
+-- The outcome of the last call: its reply and the state after it.
 abbrev pub outcome_in : SessionState → Outcome
 outcome_in session = record { reply = session.reply; state = session.state }
 
--- The count of changed rows after a call with this reply: only a reply that counts rows adds to the count before.
+-- The count of changed rows after a call with this reply: a reply that counts rows adds them, and any other adds nothing.
 abbrev pub changes_after : Option Reply → ℕ → ℕ
 changes_after (Some (Count rows)) before = (before + rows) % 2 ^ 64
 changes_after reply before = before
 
--- A line was answered, memory refused to it or not. The statements stay.
+-- The session executed the line, or an allocation failed; the statements are unchanged.
 pub record AnswersLine (line : List ℕ) (old new : SessionState) : Type 0 where
   pub choice : Bool
   pub outcome : outcome_in new ≡ answer choice line old.state
   pub lines : new.lines ≡ old.lines
   pub changes : new.changes ≡ changes_after new.reply old.changes
 
--- Each number below this one has a statement.
+-- Every number below this one has a statement.
 abbrev pub AreTaken : ℕ → List (Option (List ℕ)) → Type 0
 AreTaken number lines = (k : ℕ) → k < number → (line : List ℕ) × (line_at k lines ≡ Some line)
 
--- A line stands at a number that no statement had: behind the others, or in place of one that is gone.
+-- The line is stored at a free number: after the last one, or at that of a deleted statement.
 abbrev pub TakesNumber : List ℕ → ℕ → List (Option (List ℕ)) → List (Option (List ℕ)) → Type 0
 TakesNumber line number old new =
     ((number ≡ length old) × (new ≡ old ++ Some line ∷ []))
     ⊎ ((slice_get old number ≡ Some None) × (new ≡ slice_set old number (Some line)))
 
--- A line, which has a reading with holes, was made a statement with the least number that was free.
+-- The line, which reads as a command with holes, is now the statement with the least free number.
 pub record AddsStatement (line : List ℕ) (number : ℕ) (old new : SessionState) : Type 0 where
   pub command : Command
   pub read : template_of line ≡ Ok command
@@ -63,34 +63,34 @@ pub record AddsStatement (line : List ℕ) (number : ℕ) (old new : SessionStat
   pub reply : new.reply ≡ old.reply
   pub changes : new.changes ≡ old.changes
 
--- A line was made a statement, or refused as its reading is or by want of memory; then nothing changes.
+-- The line is now a statement; or it cannot be read or an allocation failed, and nothing changed.
 abbrev pub IsPrepared : List ℕ → SessionState → SessionState → Result ℕ Refusal → Type 0
 IsPrepared line old new (Ok number) = AddsStatement line number old new
 IsPrepared line old new (Err refusal) = (new ≡ old) × ((template_of line ≡ Err refusal) ⊎ (refusal ≡ Memory))
 
--- A statement was run with values. It stays, and so do the others.
+-- The statement ran with the values; all statements are unchanged.
 pub record RunsAt (number : ℕ) (values : List Value) (old new : SessionState) : Type 0 where
   pub runs : RunsFound (line_at number old.lines) values old.state (outcome_in new)
   pub lines : new.lines ≡ old.lines
   pub changes : new.changes ≡ changes_after new.reply old.changes
 
--- A statement was run with values. Where there is none of the number, or it takes more or fewer values, nothing changes.
+-- The statement ran with the values; or there is none, or the number of values is wrong, and nothing changed.
 abbrev pub RunsStatement : ℕ → List Value → SessionState → SessionState → Result (Unit {0}) Misuse → Type 0
 RunsStatement number values old new (Ok done) = RunsAt number values old new
 RunsStatement number values old new (Err misuse) = (new ≡ old) × IsMisused (line_at number old.lines) (length values) misuse
 
--- The query of a statement was explained with values. The statements stay, and no row changed.
+-- EXPLAIN ran with the statement's query and the values; the statements and the count of changed rows are unchanged.
 pub record ExplainsAt (number : ℕ) (values : List Value) (old new : SessionState) : Type 0 where
   pub explains : ExplainsFound (line_at number old.lines) values old.state (outcome_in new)
   pub lines : new.lines ≡ old.lines
   pub changes : new.changes ≡ old.changes
 
--- The query of a statement was explained with values. Where that is a misuse, nothing changes.
+-- EXPLAIN ran with the statement's query and the values; or the call was a misuse, and nothing changed.
 abbrev pub ExplainsStatement : ℕ → List Value → SessionState → SessionState → Result (Unit {0}) Misuse → Type 0
 ExplainsStatement number values old new (Ok done) = ExplainsAt number values old new
 ExplainsStatement number values old new (Err misuse) = (new ≡ old) × IsUnexplained (line_at number old.lines) (length values) misuse
 
--- A statement was taken away.
+-- The statement was deleted, and nothing else changed.
 pub record TakesAway (number : ℕ) (old new : SessionState) : Type 0 where
   pub line : List ℕ
   pub stands : line_at number old.lines ≡ Some line
@@ -99,16 +99,16 @@ pub record TakesAway (number : ℕ) (old new : SessionState) : Type 0 where
   pub reply : new.reply ≡ old.reply
   pub changes : new.changes ≡ old.changes
 
--- A statement was taken away. Where there is none of the number, nothing changes.
+-- The statement was deleted; or there is none, and nothing changed.
 abbrev pub Finalizes : ℕ → SessionState → SessionState → Result (Unit {0}) Misuse → Type 0
 Finalizes number old new (Ok done) = TakesAway number old new
 Finalizes number old new (Err misuse) = (new ≡ old) × (misuse ≡ NoSuchStatement) × (line_at number old.lines ≡ None)
 
--- The refusal of the release of a savepoint: bytes that are no name are a syntax error, and else the refusals are those of ROLLBACK TO.
+-- The refusal of releasing a savepoint, if any: a syntax error if the bytes are not a name, and otherwise that of ROLLBACK TO.
 abbrev pub release_refusal : List ℕ → State → Option Refusal
 release_refusal name state = if is_name name then first_refusal (conditions (RollbackTo name) state) else Some Syntax
 
--- The latest savepoint of a name was released. Statements, reply and count stay.
+-- The latest savepoint with the name was released; statements, reply and count are unchanged.
 pub record ReleasesAt (name : List ℕ) (old new : SessionState) : Type 0 where
   pub unrefused : release_refusal name old.state ≡ None
   pub state : new.state ≡ after_release name old.state
@@ -116,7 +116,7 @@ pub record ReleasesAt (name : List ℕ) (old new : SessionState) : Type 0 where
   pub reply : new.reply ≡ old.reply
   pub changes : new.changes ≡ old.changes
 
--- The latest savepoint of a name was released, or that is refused, and nothing changes.
+-- The latest savepoint with the name was released; or the release was refused, and nothing changed.
 abbrev pub Releases : List ℕ → SessionState → SessionState → Result (Unit {0}) Refusal → Type 0
 Releases name old new (Ok done) = ReleasesAt name old new
 Releases name old new (Err refusal) = (new ≡ old) × (release_refusal name old.state ≡ Some refusal)

@@ -1,4 +1,4 @@
--- What running a prepared statement leads to.
+-- What running a prepared statement does.
 use Rattle.std.specs.Prelude.{◌≡◌, ◌≢◌, ◌⊎◌, ℕ, List, Option, Some, None, Result, Ok, IsTrue, length, slice_get}
 use Rattle.std.specs.Option.{option_map}
 use Rattle.mm_value.specs.declared.refusal.Refusal.{Refusal}
@@ -23,52 +23,52 @@ use Rattle.mm_session.specs.declared.misuse.Misuse.{Misuse}
 use Rattle.mm_session.specs.declared.misuse.Misuse.TheVariants.{NoPlan, NoSuchStatement, WrongNumberOfValues}
 use Rattle.mm_session.specs.declared.statement_kind.StatementKind.{StatementKind}
 
--- The line at a number, if there is a statement.
+-- The line of a slot, if the slot exists and has a statement.
 abbrev pub line_found : Option (Option (List ℕ)) → Option (List ℕ)
 line_found None = None
 line_found (Some line) = line
 
+-- The line of the statement with a number, if there is one.
 abbrev pub line_at : ℕ → List (Option (List ℕ)) → Option (List ℕ)
 line_at number lines = line_found (slice_get lines number)
 
--- How many values the statement at a number takes.
+-- The number of holes of the statement with a number, if there is one.
 abbrev pub parameters_at : ℕ → List (Option (List ℕ)) → Option ℕ
 parameters_at number lines = option_map (λ line. hole_count (holes_of line)) (line_at number lines)
 
--- The kind of a statement is that of the command that its line reads as. Without a statement there is no kind.
+-- This is the kind of the command that a statement's line reads as, or None if there is no statement.
 abbrev pub IsKindOf : Option (List ℕ) → Option StatementKind → Type 0
 IsKindOf None kind = kind ≡ None
 IsKindOf (Some line) kind = (command : Command) × (template_of line ≡ Ok command) × (kind ≡ Some (kind_of command))
 
--- These are the columns of the rows that a statement replies.
+-- These are the columns of the rows that a statement returns.
 abbrev pub AreColumnsFound : Option (List ℕ) → State → List Column → Type 0
 AreColumnsFound found state columns = (line : List ℕ) × (found ≡ Some line) × AreColumnsOf line state columns
 
--- Why no columns of a statement were found: there is no statement, or memory was refused.
+-- The error is correct: `NoSuchStatement` only without a statement, and `Memory` only with one.
 abbrev pub LacksColumns : Option (List ℕ) → ColumnsError → Type 0
 LacksColumns found columns.NoSuchStatement = found ≡ None
 LacksColumns found columns.Memory = (line : List ℕ) × (found ≡ Some line)
 
--- The outcome is what a filling of the command leads to: its step, or its refusal.
+-- The outcome is that of the command with the values in its holes: its step, or the refusal of a value.
 abbrev pub LeadsFilled : List ℕ → List Value → Command → State → Outcome → Type 0
 LeadsFilled line values command before outcome =
     (filled : Result Command Refusal) × IsFilling (holes_of line) values command filled × (outcome ≡ outcome_of filled before)
 
--- What running a statement may lead to: what its command leads to with the values in its holes, or want of memory where the command
--- takes memory.
+-- An outcome of running a statement: that of its command with the values in its holes, or a failed allocation if the command allocates.
 pub record Runs (line : List ℕ) (values : List Value) (before : State) (outcome : Outcome) : Type 0 where
   pub command : Command
   pub read : template_of line ≡ Ok command
   pub leads : LeadsFilled line values command before outcome ⊎ ((outcome ≡ refused_outcome Memory before) × IsTrue (command_takes_memory command))
 
--- The same of a statement that was found, with as many values as its line has holes.
+-- There is a statement with as many holes as values, and this is an outcome of running it.
 pub record RunsFound (found : Option (List ℕ)) (values : List Value) (before : State) (outcome : Outcome) : Type 0 where
   pub line : List ℕ
   pub is : found ≡ Some line
   pub count : length values ≡ hole_count (holes_of line)
   pub runs : Runs line values before outcome
 
--- What explaining a statement's query may lead to: what EXPLAIN with the query and the values in its holes leads to, or want of memory.
+-- An outcome of explaining a statement: that of EXPLAIN with its query and the values in its holes, or a failed allocation.
 pub record Explains (line : List ℕ) (values : List Value) (before : State) (outcome : Outcome) : Type 0 where
   pub command : Command
   pub query : Query
@@ -76,24 +76,24 @@ pub record Explains (line : List ℕ) (values : List Value) (before : State) (ou
   pub asks : query_of command ≡ Some query
   pub leads : LeadsFilled line values (Explain query) before outcome ⊎ (outcome ≡ refused_outcome Memory before)
 
--- The same of a statement that was found, with as many values as its line has holes.
+-- There is a statement with as many holes as values, and this is an outcome of explaining it.
 pub record ExplainsFound (found : Option (List ℕ)) (values : List Value) (before : State) (outcome : Outcome) : Type 0 where
   pub line : List ℕ
   pub is : found ≡ Some line
   pub count : length values ≡ hole_count (holes_of line)
   pub explains : Explains line values before outcome
 
--- No statement was found, or it takes more or fewer values.
+-- The misuse is correct: there is no statement, or it has more or fewer holes than values.
 abbrev pub IsMisused : Option (List ℕ) → ℕ → Misuse → Type 0
 IsMisused found count NoSuchStatement = found ≡ None
 IsMisused found count WrongNumberOfValues = (line : List ℕ) × (found ≡ Some line) × (count ≢ hole_count (holes_of line))
 IsMisused found count NoPlan = ⊥
 
--- The line reads as a command without a query.
+-- The line reads as a command that is neither a SELECT nor an EXPLAIN.
 abbrev pub LacksPlan : List ℕ → Type 0
 LacksPlan line = (command : Command) × (template_of line ≡ Ok command) × (query_of command ≡ None)
 
--- No statement was found, it has no query, or it takes more or fewer values.
+-- The misuse is correct: there is no statement, it has no query, or it has more or fewer holes than values.
 abbrev pub IsUnexplained : Option (List ℕ) → ℕ → Misuse → Type 0
 IsUnexplained found count NoPlan = (line : List ℕ) × (found ≡ Some line) × LacksPlan line
 IsUnexplained found count NoSuchStatement = IsMisused found count NoSuchStatement

@@ -1,4 +1,5 @@
--- What the pieces of a session do. They say how the pieces of the code fit together, and not what is promised.
+-- Contracts between the parts of the crate. No promise to callers depends on them.
+pub mod Filled
 pub mod Forms
 pub mod Kept
 pub mod Readings

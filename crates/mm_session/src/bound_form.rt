@@ -1,12 +1,13 @@
 //! Bound forms: commands that run without looking up a name.
-ghost use Rattle.std.specs.Prelude.{◌≡◌, Ok, Some, None, IfOk, IfSome};
+ghost use Rattle.std.specs.Prelude.{◌≡◌, Ok, Some, None, IfOk, IfSome, true};
 ghost use Rattle.mm_lang.specs.Answering.{MayLeadTo};
 ghost use Rattle.mm_query.specs.declared.command.Command.TheVariants.{Change as ChangeCommand, Select as SelectCommand};
 ghost use Rattle.mm_query.specs.declared.command.Mutation.{Mutation as AnyMutation};
 ghost use Rattle.mm_query.specs.declared.query.Query.{Query as AnyQuery};
 ghost use Rattle.mm_query.specs.declared.bind.BoundChange.TheVariants.{Insert as BoundInsert};
-ghost use Rattle.mm_txn.specs.Bound.{IsBoundChange, IsBoundQuery};
+ghost use Rattle.mm_txn.specs.Bound.{IsBoundChange, IsBoundQuery, bound_of};
 ghost use Rattle.mm_txn.specs.Steps.{IsStep};
+ghost use Rattle.mm_session.specs.steps.Filled.{can_be_lent};
 ghost use Rattle.mm_session.specs.steps.Forms.{IsBoundForm, KeepsChange};
 ghost use Rattle.mm_session.specs.steps.Kept.{outcome_kept};
 
@@ -17,7 +18,7 @@ use mm_txn::{ChangeToRun, Db};
 use mm_value::{Few, Refusal, Tuple};
 use std::alloc::{AllocError, Global};
 
-/// The bound form of a command, with places instead of names.
+/// The bound form of a command: places instead of names.
 #[derive(Drop)]
 pub(crate) enum BoundForm {
     /// The bound form of a SELECT.
@@ -26,7 +27,7 @@ pub(crate) enum BoundForm {
     Change(BoundChange),
 }
 
-/// Executes a command, and returns the reply. Binds a SELECT or a change of rows first, and stores the bound form.
+/// Executes a command and returns its reply. Binds a SELECT or a change of rows first, and stores the bound form.
 pub(crate) fn bind_and_run(
     alloc: Global,
     database: &mut Db,
@@ -47,7 +48,7 @@ pub(crate) fn bind_and_run(
     }
 }
 
-/// Returns the rows of a query. Binds the query first, and stores the bound form.
+/// Binds a query, runs it, stores the bound form, and returns the reply.
 fn bind_and_select(
     alloc: Global,
     database: &Db,
@@ -69,20 +70,21 @@ fn bind_and_select(
     }
 }
 
-/// Returns the rows of a bound query.
+/// Runs a bound query, and returns the reply.
 pub(crate) fn select(alloc: Global, database: &Db, rows: &mut RowBuffer, bound: &Bound) -> Kept
     requires { (query : AnyQuery) × IsBoundQuery database.now.schema query bound.now }
     ensures { (query : AnyQuery) → IsBoundQuery database.now.schema query bound.now
         → MayLeadTo (Ok (SelectCommand query)) database.now (outcome_kept rows.new result database.now) }
 {
     rows.clear();
-    match database.select_into(alloc, bound, rows) {
+    let mut reads = 0;
+    match database.select_into(alloc, bound, rows, &mut reads) {
         Ok(()) => Kept::InBuffer,
         Err(refusal) => Kept::Other(Reply::Refused(refusal)),
     }
 }
 
-/// Changes rows. Binds the change first, and stores the bound form.
+/// Binds a change of rows, makes it, stores the bound form, and returns the reply.
 fn bind_and_change(
     alloc: Global,
     database: &mut Db,
@@ -99,7 +101,8 @@ fn bind_and_change(
     }
 }
 
-/// Makes a bound change, and stores it. An INSERT gives its rows away, so copies of them are stored, or nothing if an allocation fails.
+/// Makes a bound change, stores it, and returns the reply. An INSERT consumes its rows, so its form has copies of them; it is not stored if
+/// an allocation fails.
 fn change_and_keep(
     alloc: Global,
     database: &mut Db,
@@ -115,15 +118,16 @@ fn change_and_keep(
     match bound {
         BoundChange::Insert { table, tuples } => {
             *form = insert_form(alloc, table, &tuples);
-            database.change_bound(alloc, ChangeToRun::Insert { table, tuples })
+            change_bound(alloc, database, ChangeToRun::Insert { table, tuples })
         }
         BoundChange::Update {
             table,
             assignments,
             tests,
         } => {
-            let reply = database.change_bound(
+            let reply = change_bound(
                 alloc,
+                database,
                 ChangeToRun::Update {
                     table,
                     assignments: assignments.as_slice(),
@@ -138,8 +142,9 @@ fn change_and_keep(
             reply
         }
         BoundChange::Delete { table, tests } => {
-            let reply = database.change_bound(
+            let reply = change_bound(
                 alloc,
+                database,
                 ChangeToRun::Delete {
                     table,
                     tests: tests.as_slice(),
@@ -148,6 +153,36 @@ fn change_and_keep(
             *form = Some(BoundForm::Change(BoundChange::Delete { table, tests }));
             reply
         }
+    }
+}
+
+/// Makes a bound change. The number of rows that it reads for the lists is not kept.
+pub(crate) fn change_bound(alloc: Global, database: &mut Db, change: ChangeToRun<'_>) -> Reply
+    requires { (mutation : AnyMutation) × IsBoundChange database.old.schema mutation (bound_of change) }
+    ensures { (mutation : AnyMutation) → IsBoundChange database.old.schema mutation (bound_of change.entry)
+        → IsStep (ChangeCommand mutation) database.old (record { reply = Some result; state = database.new }) }
+{
+    let mut reads = 0;
+    database.change_bound(alloc, change, &mut reads)
+}
+
+/// Returns the bound form of a SELECT, an UPDATE or a DELETE, and `None` for any other command. Fails as [`Db::bind_query`] and
+/// [`Db::bind_change`] do.
+pub(crate) fn bind(
+    alloc: Global,
+    database: &Db,
+    command: Command<'_>,
+) -> Result<Option<BoundForm>, Refusal>
+    ensures form { IfOk result (λ bound. IfSome bound (IsBoundForm database.now.schema command.entry)) }
+    ensures lent { IfOk result (λ bound. IfSome bound (λ form. can_be_lent form ≡ true)) }
+{
+    match command {
+        Command::Select(query) => Ok(Some(BoundForm::Query(database.bind_query(alloc, query)?))),
+        Command::Change(mutation) => match database.bind_change(alloc, mutation)? {
+            BoundChange::Insert { .. } => Ok(None),
+            bound => Ok(Some(BoundForm::Change(bound))),
+        },
+        _ => Ok(None),
     }
 }
 

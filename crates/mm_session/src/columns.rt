@@ -1,4 +1,4 @@
-//! The columns of the rows of a reply.
+//! The columns of the rows that a command returns.
 ghost use Rattle.std.specs.Prelude.{◌≡◌, ◌++◌, ◌⊎◌, [], Err, IfErr, IfOk, OnOk, find, map};
 ghost use Rattle.std.specs.List.{cons_option};
 ghost use Rattle.std.specs.Option.{option_copied};
@@ -17,7 +17,7 @@ use mm_txn::Db;
 use mm_value::Refusal;
 use std::alloc::{AllocError, Global};
 
-/// Returns the columns of the rows that a line replies; none if the line replies no rows. The line may have holes. Fails as
+/// Returns the columns of the rows that a line returns: none if it returns no rows. The line may have holes. Fails as
 /// [`mm_lang::prepare`] does, and with `Memory` if an allocation fails.
 pub(crate) fn columns_of_line<'c>(
     alloc: Global,
@@ -32,7 +32,7 @@ pub(crate) fn columns_of_line<'c>(
     Ok(columns)
 }
 
-/// Returns the columns of the rows that a command replies; none if the command replies no rows. Fails if an allocation fails.
+/// Returns the columns of the rows that a command returns: none if it returns no rows. Fails if an allocation fails.
 fn columns_of_command<'c>(
     alloc: Global,
     database: &'c Db,
@@ -56,7 +56,7 @@ fn columns_of_command<'c>(
     }
 }
 
-/// Returns the columns of a table. Fails if an allocation fails.
+/// Returns the columns of a table: none if it does not exist. Fails if an allocation fails.
 fn table_columns<'c>(
     alloc: Global,
     catalog: &'c Catalog,
@@ -90,7 +90,7 @@ fn query_columns<'c>(
     Ok(found)
 }
 
-/// Returns the columns at the places of the fields of a query. Fails if an allocation fails.
+/// Returns the columns at the places of a bound query's fields. Fails if an allocation fails.
 fn bound_columns<'c>(
     alloc: Global,
     catalog: &'c Catalog,
@@ -106,7 +106,7 @@ fn bound_columns<'c>(
     Ok(found)
 }
 
-/// Appends a column that was found. Fails if an allocation fails.
+/// Appends a column, if there is one. Fails if an allocation fails.
 fn push_found<'c>(
     columns: &mut Vec<&'c Column>,
     found: Option<&'c Column>,
@@ -120,21 +120,21 @@ fn push_found<'c>(
     Ok(())
 }
 
-/// Returns the item of FROM with an alias.
+/// Returns the first item of FROM with an alias.
 fn find_item<'f>(from: &'f [FromItem], alias: &NameRef<'_>) -> Option<&'f FromItem>
     ensures { option_copied result ≡ find (λ (item : AnyItem). same_name alias.now item.alias) from.now }
 {
     from.iter().find(|item| *alias == item.alias.as_ref())
 }
 
-/// Returns the column with a name.
+/// Returns the first column with a name.
 fn find_column<'c>(columns: &'c [Column], name: &NameRef<'_>) -> Option<&'c Column>
     ensures { option_copied result ≡ column_named name.now columns.now }
 {
     columns.iter().find(|column| *name == column.name.as_ref())
 }
 
-/// Returns the column that a field names.
+/// Returns the column that a field names, or `None` if its alias or column does not exist.
 fn column_of_field<'c>(
     catalog: &'c Catalog,
     from: &[FromItem],
@@ -147,7 +147,7 @@ fn column_of_field<'c>(
     find_column(table.definition.columns.as_slice(), &field.column)
 }
 
-/// Returns the column at a place.
+/// Returns the column at a place, or `None` if its table or column does not exist.
 fn column_at_place<'c>(
     catalog: &'c Catalog,
     from: &[FromItem],

@@ -1,10 +1,12 @@
-//! Sessions: a program that keeps its tables in its own process drives them by lines and by prepared statements. Each call is a step of
-//! the machine of row lists.
+//! Sessions: a database in a program's own process, with lines of the language and prepared statements. Each call is a step of the machine
+//! of row lists.
 //!
 //! A call that may allocate takes the allocator as a parameter. No other call allocates.
 #![tactic(auto)]
 
 mod bound_form;
+mod bound_line;
+mod calls_law;
 mod columns;
 mod columns_law;
 mod misuse;
@@ -17,12 +19,22 @@ mod session;
 mod slots;
 mod statement;
 mod statement_kind;
+mod template_hash;
+mod template_set;
+mod template_slots;
+mod templates;
 
+pub use bound_line::BoundLine;
+pub use calls_law::{
+    calls_lead_to_states_of_commands, parameters_are_the_holes_of_a_line,
+    rows_of_calls_have_the_types_of_columns, statements_answer_as_their_lines,
+};
 pub use columns_law::{
     columns_have_the_names_of_fields, rows_have_the_types_of_columns,
-    standing_queries_keep_their_columns,
+    scans_have_the_columns_of_their_table, standing_queries_keep_their_columns,
 };
 pub use misuse::{ColumnsError, Misuse};
 pub use replies::LastReply;
 pub use session::Session;
 pub use statement_kind::StatementKind;
+pub use templates::Templates;

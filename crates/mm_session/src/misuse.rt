@@ -1,16 +1,16 @@
-//! How a call by a statement's number fails.
+//! The errors of calls that take a statement's number.
 use thiserror::Error;
 
-/// Why a call by a statement's number was not made. The session is unchanged.
+/// Why a call that takes a statement's number did nothing. The session is unchanged.
 #[derive(Clone, Copy, Debug, Drop, Error, PartialEq, Eq)]
 pub enum Misuse {
     /// No statement has the number.
     #[error("no statement has this number")]
     NoSuchStatement,
-    /// The statement takes more or fewer values than were passed.
+    /// The statement has more or fewer holes than values were passed.
     #[error("the statement takes another number of values")]
     WrongNumberOfValues,
-    /// The statement is no SELECT and no EXPLAIN.
+    /// The statement is neither a SELECT nor an EXPLAIN.
     #[error("the statement has no query")]
     NoPlan,
 }

@@ -1,4 +1,4 @@
-//! A statement's line, read and filled with values.
+//! Reading a statement's line and filling its holes with values.
 ghost use Rattle.std.specs.Prelude.{◌≡◌, ◌≢◌, IfOk, IsSome, Ok, length};
 ghost use Rattle.mm_lang.specs.Templates.{holes_of, template_of};
 ghost use Rattle.mm_query.specs.declared.command.Command.{Command as AnyCommand};
@@ -11,7 +11,7 @@ use mm_statement::fill;
 use mm_value::{Refusal, Value};
 use std::alloc::{AllocError, Global};
 
-/// Reads a line with this many holes, and returns its command with the values in the holes. Fails with `Syntax` and `NumberOutOfRange` as
+/// Reads a line with this many holes, and returns its command with the holes filled. Fails with `Syntax` and `NumberOutOfRange` as
 /// [`fill`] does. May fail with `Memory` if the command allocates.
 pub(crate) fn read_filled<'l>(
     alloc: Global,
@@ -32,7 +32,7 @@ pub(crate) fn read_filled<'l>(
     }
 }
 
-/// Reads a line with holes, and returns its command with the values in the holes.
+/// Reads a line with holes, and returns its command with the holes filled.
 fn fill_line<'l>(alloc: Global, line: &'l [u8], values: &[Value]) -> Result<Command<'l>, Refusal>
     requires reads { (command : AnyCommand) × (template_of line.now ≡ Ok command) }
     requires holes { hole_count (holes_of line.now) ≢ 0 }
@@ -45,7 +45,7 @@ fn fill_line<'l>(alloc: Global, line: &'l [u8], values: &[Value]) -> Result<Comm
     fill(alloc, command, holes.as_slice(), values)
 }
 
-/// Reads the line of a SELECT or an EXPLAIN, and returns the EXPLAIN of its query with the values in the holes. Fails with `Syntax` and
+/// Reads the line of a SELECT or an EXPLAIN, and returns the EXPLAIN of its query with the holes filled. Fails with `Syntax` and
 /// `NumberOutOfRange` as [`fill`] does, and with `Memory` if an allocation fails.
 pub(crate) fn read_explain<'l>(
     alloc: Global,

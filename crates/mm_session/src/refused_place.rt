@@ -30,7 +30,7 @@ pub(crate) fn place_of_refusal(
 }
 
 /// Returns the place of the first name of a line that is neither in the catalog nor an alias of the line, or 0. Skips the name that INDEX
-/// or WATCH makes, and all names of TABLE except those after REF.
+/// or WATCH creates, and all names of TABLE except those after REF.
 fn place_of_unknown_name(alloc: Global, catalog: &Catalog, line: &[u8]) -> usize
     ensures { result ≤ length line.now }
 {
@@ -48,7 +48,7 @@ fn place_of_unknown_name(alloc: Global, catalog: &Catalog, line: &[u8]) -> usize
     0
 }
 
-/// Returns whether the line makes the name at a place: a name directly after INDEX or WATCH, or any name of a TABLE that is not after REF.
+/// Returns whether the line creates the name at a place: a name directly after INDEX or WATCH, or a name of a TABLE that is not after REF.
 fn is_made(line: &[u8], place: usize) -> bool {
     let front = line[..place.min(line.len())].trim_ascii();
     let is_of_table = line.trim_ascii_start().starts_with(b"TABLE") && !front.ends_with(b"REF");

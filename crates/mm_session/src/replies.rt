@@ -29,7 +29,7 @@ pub enum LastReply<'s> {
     Other(&'s Reply),
 }
 
-/// Returns the stored reply. Its rows are those of the buffer.
+/// Borrows the stored reply. Its rows are those of the buffer.
 pub(crate) fn lend<'s>(rows: &'s RowBuffer, reply: &'s Kept) -> LastReply<'s>
     ensures { reply_lent result ≡ reply_kept rows.now reply.now }
 {

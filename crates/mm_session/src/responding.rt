@@ -1,4 +1,4 @@
-//! Commands that are executed, and their replies.
+//! Executing commands and storing their replies.
 ghost use Rattle.std.specs.Prelude.{◌≡◌, ◌⊎◌, Ok, Some};
 ghost use Rattle.mm_lang.specs.Answering.{MayLeadTo};
 ghost use Rattle.mm_query.specs.declared.reply.Reply.TheVariants.{Refused, Rows as RowReply};
@@ -20,7 +20,7 @@ pub(crate) fn is_definition(command: &Command<'_>) -> bool
     matches!(command, Command::Define(_))
 }
 
-/// Executes a command, and returns the reply. Copies its rows into the buffer. If an allocation for the rows fails, the reply is `Memory`.
+/// Executes a command and returns its reply. Copies its rows into the buffer. If an allocation for the rows fails, the reply is `Memory`.
 pub(crate) fn respond(
     alloc: Global,
     database: &mut Db,
@@ -31,8 +31,14 @@ pub(crate) fn respond(
 {
     match Request::of(command) {
         Request::Nothing => Kept::Nothing,
-        Request::Change(change) => Kept::Other(database.execute(alloc, change)),
-        Request::Ask(question) => keep_answer(alloc, database.ask(alloc, question), rows),
+        Request::Change(change) => {
+            let mut reads = 0;
+            Kept::Other(database.execute(alloc, change, &mut reads))
+        }
+        Request::Ask(question) => {
+            let mut reads = 0;
+            keep_answer(alloc, database.ask(alloc, question, &mut reads), rows)
+        }
     }
 }
 

@@ -1,6 +1,7 @@
 //! Sessions.
 ghost use Rattle.std.specs.Prelude.{◌≡◌, ◌≤◌, ◌⊎◌, [], Err, IfErr, IfOk, None, Ok, is_some, length, map};
 
+use crate::bound_line::run_bound;
 use crate::columns::columns_of_line;
 use crate::misuse::{ColumnsError, Misuse};
 use crate::refused_place::place_of_refusal;
@@ -11,6 +12,7 @@ use crate::slots::{
 };
 use crate::statement::Statement;
 use crate::statement_kind::StatementKind;
+use crate::templates::Templates;
 use mm_lang::parse;
 use mm_query::{Command, Reply, RowBuffer};
 use mm_schema::{Column, Name};
@@ -24,19 +26,22 @@ use std::marker::Model;
 #[derive(Drop)]
 pub struct Session {
     database: Db,
-    /// The statements by their numbers, with `None` where one was deleted.
+    /// The statements by number; `None` if one was deleted.
     statements: Vec<Option<Statement>>,
     /// The rows of the last reply, if it has any. The buffer's allocations are reused.
     rows: RowBuffer,
     reply: Kept,
-    /// How many rows all calls changed, modulo 2^64.
+    /// The number of rows that all calls changed, modulo 2^64.
     changes: u64,
+    /// The templates of lines that came more than once.
+    templates: Templates,
 }
 
 impl Model for Session {
     ghost use Rattle.std.specs.List.{All};
     ghost use Rattle.std.specs.Prelude.{map};
     ghost use Rattle.mm_session.specs.Session.{SessionState};
+    ghost use Rattle.mm_session.specs.Templates.{AreReady};
     ghost use Rattle.mm_session.specs.steps.Forms.{IsReady};
     ghost use Rattle.mm_session.specs.steps.Kept.{reply_kept};
     ghost use Rattle.mm_session.specs.steps.Places.{line_in};
@@ -50,7 +55,7 @@ impl Model for Session {
       changes = s.changes;
     } };
 
-    ghost invariant = { λ s. All (IsReady s.database.schema) s.statements.items };
+    ghost invariant = { λ s. All (IsReady s.database.schema) s.statements.items × AreReady s.database.schema s.templates };
 }
 
 impl Session {
@@ -74,11 +79,27 @@ impl Session {
             rows: RowBuffer::new(alloc),
             reply: Kept::Nothing,
             changes: 0,
+            templates: Templates::new(alloc),
         }
     }
 
-    /// Executes a line, without its line feed and carriage return, and stores the reply. The line is read as [`mm_lang::parse`] does.
+    /// Executes a line, without its line feed and carriage return, and stores the reply. The line is read as [`mm_lang::parse`] does. If the
+    /// line differs from earlier ones in its literals alone, it is not read again.
     pub fn execute(&mut self, alloc: Global, line: &[u8])
+        ensures { AnswersLine line.now self.old self.new }
+    {
+        match self.templates.find(alloc, &self.database, line) {
+            Some(number) => {
+                let bound = self.templates.bound(number);
+                self.reply = run_bound(alloc, &mut self.database, &mut self.rows, bound);
+                count_changes(&mut self.changes, &self.reply);
+            }
+            None => self.read_and_answer(alloc, line),
+        }
+    }
+
+    /// Reads a line, and executes it as [`Session::execute`] does.
+    fn read_and_answer(&mut self, alloc: Global, line: &[u8])
         ensures { AnswersLine line.now self.old self.new }
     {
         match parse(alloc, line) {
@@ -87,7 +108,7 @@ impl Session {
         }
     }
 
-    /// Executes a command, and stores the reply. Drops the bound forms of all statements if the catalog may have changed.
+    /// Executes a command and stores its reply. Drops all bound forms if the catalog may have changed.
     fn answer(&mut self, alloc: Global, command: Command<'_>)
         ensures leads { MayLeadTo (Ok command.entry) self.old.state (outcome_in self.new) }
         ensures lines { self.new.lines ≡ self.old.lines }
@@ -98,11 +119,12 @@ impl Session {
         count_changes(&mut self.changes, &self.reply);
         if is_definition {
             forget_bound_forms(&mut self.statements);
+            self.templates.forget();
         }
     }
 
-    /// Prepares a line, which is read as [`mm_lang::prepare`] does, and returns the number of the statement: the least one that is free.
-    /// Fails as [`mm_lang::prepare`] does, and with `Memory` if an allocation fails. The reply to the last call stays.
+    /// Prepares a line, as [`mm_lang::prepare`] reads it, and returns the statement's number: the least free one. Fails as
+    /// [`mm_lang::prepare`] does, and with `Memory` if an allocation fails. The last reply is unchanged.
     pub fn prepare(&mut self, alloc: Global, line: &[u8]) -> Result<usize, Refusal>
         ensures { IsPrepared line.now self.old self.new result }
     {
@@ -111,7 +133,7 @@ impl Session {
         Ok(number)
     }
 
-    /// Returns the number of values that a statement takes, or `None` if no statement has the number.
+    /// Returns the number of holes of a statement, or `None` if no statement has the number.
     pub fn parameters(&self, statement: usize) -> Option<usize>
         ensures { result ≡ parameters_at statement self.now.lines }
     {
@@ -125,7 +147,7 @@ impl Session {
         kind(&self.statements, statement)
     }
 
-    /// Returns the columns of the rows that a statement replies, in the catalog as it is now; none if it replies no rows. Fails with
+    /// Returns the columns of the rows that a statement returns in the current catalog: none if it returns no rows. Fails with
     /// `NoSuchStatement` if no statement has the number, and with `Memory` if an allocation fails. Reads the statement's line again.
     pub fn statement_columns(
         &self,
@@ -140,7 +162,7 @@ impl Session {
     }
 
     /// Runs a statement with a value for each hole, from left to right, and stores the reply. Fails with `NoSuchStatement` if no statement
-    /// has the number, and with `WrongNumberOfValues` if the statement takes more or fewer values; nothing changes then.
+    /// has the number, and with `WrongNumberOfValues` if the statement has more or fewer holes; nothing changes then.
     pub fn run(&mut self, alloc: Global, statement: usize, values: &[Value]) -> Result<(), Misuse>
         ensures { RunsStatement statement values.now self.old self.new result }
     {
@@ -149,6 +171,7 @@ impl Session {
             &mut self.database,
             &mut self.rows,
             &mut self.statements,
+            &mut self.templates,
             statement,
             values,
         )?;
@@ -157,8 +180,8 @@ impl Session {
     }
 
     /// Runs EXPLAIN with the query of a SELECT or an EXPLAIN and a value for each hole, and stores the reply. Fails with `NoSuchStatement`
-    /// if no statement has the number, with `NoPlan` if the statement is of another kind, and with `WrongNumberOfValues` if it takes more
-    /// or fewer values; nothing changes then. Reads the statement's line again.
+    /// if no statement has the number, with `NoPlan` if the statement is of another kind, and with `WrongNumberOfValues` if it has more
+    /// or fewer holes; nothing changes then. Reads the statement's line again.
     pub fn explain(
         &mut self,
         alloc: Global,
@@ -178,7 +201,7 @@ impl Session {
         Ok(())
     }
 
-    /// Deletes a statement. Fails with `NoSuchStatement` if no statement has the number. The reply to the last call stays.
+    /// Deletes a statement. Fails with `NoSuchStatement` if no statement has the number. The last reply is unchanged.
     pub fn finalize(&mut self, statement: usize) -> Result<(), Misuse>
         ensures { Finalizes statement self.old self.new result }
     {
@@ -199,8 +222,8 @@ impl Session {
         self.changes
     }
 
-    /// Returns the columns of the rows that a line replies, in the catalog as it is now; none if the line replies no rows. The line may
-    /// have holes. Fails as [`mm_lang::prepare`] does, and with `Memory` if an allocation fails.
+    /// Returns the columns of the rows that a line returns in the current catalog: none if it returns no rows. The line may have holes.
+    /// Fails as [`mm_lang::prepare`] does, and with `Memory` if an allocation fails.
     pub fn columns(&self, alloc: Global, line: &[u8]) -> Result<Vec<&Column>, Refusal>
         ensures ok { IfOk result (λ found. AreColumnsOf line.now self.now.state (map (λ column. column.now) found.items)) }
         ensures err { IfErr result (λ refusal. (template_of line.now ≡ Err refusal) ⊎ (refusal ≡ Memory)) }
@@ -216,9 +239,9 @@ impl Session {
         place_of_refusal(alloc, self.database.catalog(), line, refusal)
     }
 
-    /// Releases the latest savepoint with a name, and all savepoints set after it. All rows stay as they are. Fails with `Syntax` if the
-    /// bytes are not a name, with `NoTransaction` if no transaction is open, and with `NoSuchSavepoint` if the transaction has no savepoint
-    /// with the name; nothing changes then. Allocates nothing. The reply to the last call stays.
+    /// Releases the latest savepoint with a name, and all savepoints set after it. No row changes. Fails with `Syntax` if the bytes are not
+    /// a name, with `NoTransaction` if no transaction is open, and with `NoSuchSavepoint` if the transaction has no savepoint with the
+    /// name; nothing changes then. Allocates nothing. The last reply is unchanged.
     pub fn release(&mut self, name: &[u8]) -> Result<(), Refusal>
         ensures { Releases name.now self.old self.new result }
     {

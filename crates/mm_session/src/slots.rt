@@ -1,4 +1,4 @@
-//! Prepared statements by their numbers.
+//! Prepared statements by number.
 ghost use Rattle.std.specs.List.{All, position};
 ghost use Rattle.std.specs.Option.{IfNone};
 ghost use Rattle.std.specs.Prelude.{◌≡◌, IfErr, IfOk, IfSome, List, None, OnErr, OnOk, Some, false, is_none, length, map, slice_set, ℕ};
@@ -6,6 +6,7 @@ ghost use Rattle.mm_schema.specs.Schema.{Schema};
 ghost use Rattle.mm_session.specs.Session.{AreTaken};
 ghost use Rattle.mm_session.specs.Statements.{AreColumnsFound, ExplainsFound, IsKindOf, IsMisused, IsUnexplained, LacksColumns, RunsFound};
 ghost use Rattle.mm_session.specs.Statements.{line_at, parameters_at};
+ghost use Rattle.mm_session.specs.Templates.{AreReady};
 ghost use Rattle.mm_session.specs.declared.misuse.Misuse.TheVariants.{NoSuchStatement};
 ghost use Rattle.mm_session.specs.steps.Forms.{IsReady, IsReadyStatement};
 ghost use Rattle.mm_session.specs.steps.Kept.{outcome_kept};
@@ -16,14 +17,15 @@ use crate::misuse::{ColumnsError, Misuse};
 use crate::replies::Kept;
 use crate::statement::Statement;
 use crate::statement_kind::StatementKind;
+use crate::templates::Templates;
 use mm_query::RowBuffer;
 use mm_schema::Column;
 use mm_txn::Db;
 use mm_value::Value;
 use std::alloc::{AllocError, Global};
 
-/// Stores a statement with the least free number, and returns the number. Fails with `AllocError` if an allocation fails, and changes
-/// nothing then.
+/// Stores a statement at the least free number, and returns the number. Fails with `AllocError` if an allocation fails; nothing changes
+/// then.
 pub(crate) fn add(
     statements: &mut Vec<Option<Statement>>,
     statement: Statement,
@@ -45,24 +47,27 @@ pub(crate) fn add(
     }
 }
 
-/// Returns the first number whose statement was deleted.
+/// Returns the least number whose statement was deleted.
 fn first_free(statements: &[Option<Statement>]) -> Option<usize>
     ensures { result ≡ position is_none statements.now }
 {
     statements.iter().position(|slot| slot.is_none())
 }
 
-/// Runs the statement with a number, and returns the reply. Drops the bound forms of all statements if the catalog may have changed.
+/// Runs the statement with a number, and returns the reply. Drops all bound forms if the catalog may have changed.
 pub(crate) fn run_at(
     alloc: Global,
     database: &mut Db,
     rows: &mut RowBuffer,
     statements: &mut Vec<Option<Statement>>,
+    templates: &mut Templates,
     number: usize,
     values: &[Value],
 ) -> Result<Kept, Misuse>
-    requires { All (IsReady database.old.schema) statements.old.items }
+    requires statements { All (IsReady database.old.schema) statements.old.items }
+    requires templates { AreReady database.old.schema templates.old }
     ensures ready { All (IsReady database.new.schema) statements.new.items }
+    ensures templates { AreReady database.new.schema templates.new }
     ensures lines { map line_in statements.new.items ≡ map line_in statements.old.items }
     ensures ok { IfOk result (λ reply. RunsFound (line_at number (map line_in statements.old.items)) values.now database.old
         (outcome_kept rows.new reply database.new)) }
@@ -79,19 +84,20 @@ pub(crate) fn run_at(
     } = run_slot(alloc, database, rows, slot, values)?;
     if is_definition {
         forget_bound_forms(statements);
+        templates.forget();
     }
     Ok(reply)
 }
 
-/// What a run of a statement returned.
+/// The result of running a statement.
 #[derive(Drop)]
 struct Ran {
     reply: Kept,
-    /// Whether the command was a change of the catalog.
+    /// Whether the command was a definition, which changes the catalog.
     is_definition: bool,
 }
 
-/// Runs a statement with values, if there is one.
+/// Runs the statement of a slot with values. Fails if the slot is empty or the number of values is wrong.
 fn run_slot(
     alloc: Global,
     database: &mut Db,
@@ -123,7 +129,7 @@ fn run_slot(
 }
 
 /// Returns the statement with a number, if there is one.
-fn statement_at(statements: &[Option<Statement>], number: usize) -> Option<&Statement>
+pub(crate) fn statement_at(statements: &[Option<Statement>], number: usize) -> Option<&Statement>
     ensures line { IfSome result (λ found. line_at number (map line_in statements.now) ≡ Some found.now.line.items) }
     ensures ready { IfSome result (λ found. (schema : Schema) → All (IsReady schema) statements.now → IsReadyStatement schema found.now) }
     ensures none { IfNone result (line_at number (map line_in statements.now) ≡ None) }
@@ -134,7 +140,7 @@ fn statement_at(statements: &[Option<Statement>], number: usize) -> Option<&Stat
     }
 }
 
-/// Returns the number of values that the statement with a number takes, if there is one.
+/// Returns the number of holes of the statement with a number, if there is one.
 pub(crate) fn parameters(statements: &[Option<Statement>], number: usize) -> Option<usize>
     requires { (schema : Schema) × All (IsReady schema) statements.now }
     ensures { result ≡ parameters_at number (map line_in statements.now) }
@@ -156,7 +162,7 @@ pub(crate) fn kind(statements: &[Option<Statement>], number: usize) -> Option<St
     }
 }
 
-/// Returns the columns of the rows that the statement with a number replies, in the catalog as it is now. Reads the line again.
+/// Returns the columns of the rows that the statement with a number returns in the current catalog. Reads the line again.
 pub(crate) fn columns_at<'c>(
     alloc: Global,
     database: &'c Db,
@@ -177,8 +183,8 @@ pub(crate) fn columns_at<'c>(
     }
 }
 
-/// Returns the reply to EXPLAIN with the query of the statement with a number and the values in its holes. Fails with `NoSuchStatement`,
-/// `NoPlan` or `WrongNumberOfValues`.
+/// Returns the reply to EXPLAIN with the query of the statement with a number and the holes filled. Fails with `NoSuchStatement`, `NoPlan`
+/// or `WrongNumberOfValues`.
 pub(crate) fn explain_at(
     alloc: Global,
     database: &mut Db,

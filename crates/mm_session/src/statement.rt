@@ -1,18 +1,20 @@
 //! Prepared statements.
-ghost use Rattle.std.specs.Prelude.{◌≡◌, IfSome, None, false, length, true};
+ghost use Rattle.std.specs.Prelude.{◌≡◌, IfOk, IfSome, None, false, length, true};
 ghost use Rattle.std.specs.Option.{IfNone};
 ghost use Rattle.mm_lang.specs.Templates.{holes_of};
+ghost use Rattle.mm_schema.specs.Schema.{Schema};
 ghost use Rattle.mm_statement.specs.Holes.{hole_count};
 ghost use Rattle.mm_session.specs.Statements.{Explains, Runs};
+ghost use Rattle.mm_session.specs.steps.Filled.{IsFilledStatement};
 ghost use Rattle.mm_session.specs.steps.Forms.{IsReadyStatement, ReadsStatement};
 ghost use Rattle.mm_session.specs.steps.Kept.{outcome_kept};
 ghost use Rattle.mm_session.specs.Kinds.{has_plan};
 ghost use Rattle.mm_session.specs.steps.Readings.{is_of_catalog};
 
-use crate::bound_form::{BoundForm, bind_and_run};
+use crate::bound_form::{BoundForm, bind, bind_and_run};
 use crate::reading::{read_explain, read_filled};
 use crate::replies::Kept;
-use crate::rerun::rerun;
+use crate::rerun::{refill, rerun};
 use crate::responding::respond;
 use crate::statement_kind::StatementKind;
 use mm_lang::{Template, prepare};
@@ -22,12 +24,12 @@ use mm_txn::Db;
 use mm_value::{Refusal, Value};
 use std::alloc::Global;
 
-/// A line that was read once, to be run with values.
+/// A line that was read once, and is run with values.
 #[derive(Drop)]
 pub(crate) struct Statement {
     /// The line.
     pub(crate) line: Vec<u8>,
-    /// Where its holes are.
+    /// The places of its holes.
     pub(crate) holes: Holes,
     /// The kind of its command.
     pub(crate) kind: StatementKind,
@@ -36,7 +38,7 @@ pub(crate) struct Statement {
 }
 
 impl Statement {
-    /// Returns the statement of a line. The refusals are those of [`prepare`].
+    /// Reads a line, and returns its statement. Fails as [`prepare`] does, and with `Memory` if an allocation fails.
     pub(crate) fn read(alloc: Global, line: &[u8]) -> Result<Statement, Refusal>
         ensures { ReadsStatement line.now result }
     {
@@ -53,7 +55,7 @@ impl Statement {
         })
     }
 
-    /// Runs the statement with a value for each hole, and returns the reply. Uses the bound form if there is one, and otherwise the line.
+    /// Runs the statement with a value for each hole, and returns the reply. Uses the bound form if there is one, and the line otherwise.
     pub(crate) fn run(
         &mut self,
         alloc: Global,
@@ -128,7 +130,60 @@ impl Statement {
         }
     }
 
-    /// Returns the reply to EXPLAIN with the statement's query and the values in its holes. Reads the line again.
+    /// Fills the holes of the bound form with values, and returns whether it has all of them. Reads and binds the line if there is no
+    /// form. If the values do not fit the form, the form is dropped. Fails as [`read_filled`] and [`bind`] do.
+    pub(crate) fn fill(
+        &mut self,
+        alloc: Global,
+        database: &Db,
+        values: &[Value],
+    ) -> Result<bool, Refusal>
+        requires ready { IsReadyStatement database.now.schema self.old }
+        requires values { length values.now ≡ hole_count (holes_of self.old.line.items) }
+        ensures ready { IsReadyStatement database.now.schema self.new }
+        ensures filled { IfOk result (λ is_filled. is_filled ≡ true
+            → IsFilledStatement database.now.schema self.old.line.items values.now self.new) }
+    {
+        if self.bound.is_some() {
+            Ok(self.refill(alloc, values))
+        } else {
+            self.fill_line(alloc, database, values)
+        }
+    }
+
+    /// Writes values into the holes of the bound form, and returns whether it has all of them. Drops the form otherwise.
+    fn refill(&mut self, alloc: Global, values: &[Value]) -> bool
+        requires ready { (schema : Schema) × IsReadyStatement schema self.old }
+        requires values { length values.now ≡ hole_count (holes_of self.old.line.items) }
+        ensures ready { (schema : Schema) → IsReadyStatement schema self.old → IsReadyStatement schema self.new }
+        ensures filled { result ≡ true → (schema : Schema) → IsReadyStatement schema self.old
+            → IsFilledStatement schema self.old.line.items values.now self.new }
+    {
+        let Some(form) = &mut self.bound else {
+            return false;
+        };
+        if refill(alloc, &self.holes, values, form) {
+            true
+        } else {
+            forget(&mut self.bound);
+            false
+        }
+    }
+
+    /// Reads the line, and binds its command with the values. Returns whether there is a bound form now.
+    fn fill_line(&mut self, alloc: Global, database: &Db, values: &[Value]) -> Result<bool, Refusal>
+        requires ready { IsReadyStatement database.now.schema self.old }
+        requires values { length values.now ≡ hole_count (holes_of self.old.line.items) }
+        ensures ready { IsReadyStatement database.now.schema self.new }
+        ensures filled { IfOk result (λ is_filled. is_filled ≡ true
+            → IsFilledStatement database.now.schema self.old.line.items values.now self.new) }
+    {
+        let command = read_filled(alloc, self.line.as_slice(), self.holes.count(), values)?;
+        self.bound = bind(alloc, database, command)?;
+        Ok(self.bound.is_some())
+    }
+
+    /// Returns the reply to EXPLAIN with the statement's query and the holes filled. Reads the line again.
     pub(crate) fn explain(
         &self,
         alloc: Global,

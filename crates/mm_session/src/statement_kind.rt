@@ -75,7 +75,7 @@ impl StatementKind {
         }
     }
 
-    /// Returns the kind of a change of the catalog.
+    /// Returns the kind of a definition.
     fn of_definition(definition: &Definition<'_>) -> StatementKind
         ensures { result ≡ kind_of (Command.Define definition.now) }
     {

@@ -1,4 +1,4 @@
--- Statements, and the bound forms that they keep.
+-- Statements and their bound forms.
 use Rattle.std.specs.Prelude.{◌≡◌, ◌⊎◌, ℕ, Bool, false, List, Option, None, Result, Ok, Err, IfSome}
 use Rattle.mm_value.specs.declared.refusal.Refusal.{Refusal}
 use Rattle.mm_value.specs.declared.refusal.Refusal.TheVariants.{Memory}
@@ -26,13 +26,13 @@ use Rattle.mm_session.specs.declared.bound_form.BoundForm.TheVariants as form
 use Rattle.mm_session.specs.declared.statement.Statement.{Statement}
 use Rattle.mm_session.specs.steps.Readings.{is_definition}
 
--- By a catalog, this is the bound form of a command.
+-- This is the bound form of a command in a catalog.
 abbrev pub IsBoundForm : Schema → Command → BoundForm → Type 0
 IsBoundForm schema (Select query) (form.Query bound) = IsBoundQuery schema query bound
 IsBoundForm schema (Change mutation) (form.Change bound) = IsBoundChange schema mutation bound
 IsBoundForm schema command bound = ⊥
 
--- By a catalog, this is the bound form of a query that is a command with values in its holes.
+-- This is the bound form, in a catalog, of a SELECT with these values in its holes.
 pub record IsQueryForm (schema : Schema) (holes : List Bool) (values : List Value) (command : Command) (bound : Bound) : Type 0 where
   pub template : Query
   pub is : command ≡ Select template
@@ -40,7 +40,7 @@ pub record IsQueryForm (schema : Schema) (holes : List Bool) (values : List Valu
   pub binds : BindsFilledQuery schema holes values template query bound.query
   pub tables : bound.tables ≡ places_in schema query.from
 
--- By a catalog, this is the bound form of a change of rows that is a command with values in its holes.
+-- This is the bound form, in a catalog, of a change of rows with these values in its holes.
 pub record IsChangeForm (schema : Schema) (holes : List Bool) (values : List Value) (command : Command) (bound : BoundChange) : Type 0 where
   pub template : Mutation
   pub is : command ≡ Change template
@@ -48,21 +48,21 @@ pub record IsChangeForm (schema : Schema) (holes : List Bool) (values : List Val
   pub binds : BindsFilledChange schema holes values template mutation bound
   pub distinct : HasDistinctNames schema
 
--- By a catalog, this is the bound form of a command with values in its holes.
+-- This is the bound form, in a catalog, of a command with these values in its holes.
 abbrev pub IsFormWith : Schema → List Bool → List Value → Command → BoundForm → Type 0
 IsFormWith schema holes values command (form.Query bound) = IsQueryForm schema holes values command bound
 IsFormWith schema holes values command (form.Change bound) = IsChangeForm schema holes values command bound
 
--- The same of some values.
+-- This is the bound form, in a catalog, of a command with some values in its holes.
 abbrev pub IsFormOf : Schema → List Bool → Command → BoundForm → Type 0
 IsFormOf schema holes command bound = (values : List Value) × IsFormWith schema holes values command bound
 
--- The bound form of a command whose holes are told.
+-- The places are those of the command's holes, and this is a bound form of the command.
 pub record HasForm (schema : Schema) (holes : HolePlaces) (command : Command) (bound : BoundForm) : Type 0 where
   pub places : holes ≡ hole_places holes.are_holes command
   pub form : IsFormOf schema holes.are_holes command bound
 
--- A bound form was run with values in the holes of its command, and it is good as it is left.
+-- This is an outcome of the command with these values in its holes, and the form is still a bound form of the command.
 pub record Reruns (holes : HolePlaces) (values : List Value) (command : Command) (before : State) (bound : BoundForm) (outcome : Outcome) : Type 0 where
   pub filled : Command
   pub fills : Filled holes.are_holes values command filled
@@ -71,11 +71,11 @@ pub record Reruns (holes : HolePlaces) (values : List Value) (command : Command)
   pub leads : MayLeadTo (Ok filled) before outcome
   pub form : IsFormOf before.schema holes.are_holes command bound
 
--- A bound form is this change.
+-- The bound form is this change.
 abbrev pub KeepsChange : BoundChange → BoundForm → Type 0
 KeepsChange change bound = bound ≡ form.Change change
 
--- A statement has the holes of its line and the kind of its command, and a bound form that it keeps is good by a catalog.
+-- A statement has the holes and the kind of its line's command, and its bound form, if any, is one in this catalog.
 pub record IsReadyStatement (schema : Schema) (statement : Statement) : Type 0 where
   pub command : Command
   pub read : template_of statement.line.items ≡ Ok command
@@ -83,11 +83,11 @@ pub record IsReadyStatement (schema : Schema) (statement : Statement) : Type 0 w
   pub kind : statement.kind ≡ kind_of command
   pub bound : IfSome statement.bound (IsFormOf schema (holes_of statement.line.items) command)
 
--- The same, where there is a statement.
+-- The slot is empty or has a ready statement.
 abbrev pub IsReady : Schema → Option Statement → Type 0
 IsReady schema slot = IfSome slot (IsReadyStatement schema)
 
--- A call makes a line a statement, which keeps no bound form, or refuses it as its reading is or by want of memory.
+-- The line is now a statement that is ready in any catalog; or it cannot be read, or an allocation failed.
 abbrev pub ReadsStatement : List ℕ → Result Statement Refusal → Type 0
 ReadsStatement line (Ok statement) = (statement.line.items ≡ line) × ((schema : Schema) → IsReadyStatement schema statement)
 ReadsStatement line (Err refusal) = (template_of line ≡ Err refusal) ⊎ (refusal ≡ Memory)

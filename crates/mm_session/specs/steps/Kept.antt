@@ -1,4 +1,4 @@
--- The reply that a session keeps, whose rows stand in its buffer.
+-- The reply as a session stores it, with its rows in the buffer.
 use Rattle.std.specs.Prelude.{List, Option, Some, None}
 use Rattle.mm_value.specs.declared.values.Value.{Value}
 use Rattle.mm_query.specs.Machine.{Outcome}
@@ -8,12 +8,12 @@ use Rattle.mm_query.specs.declared.reply.Reply.TheVariants as reply
 use Rattle.mm_session.specs.declared.replies.Kept.{Kept}
 use Rattle.mm_session.specs.declared.replies.Kept.TheVariants as kept
 
--- The reply that is kept beside the rows of the buffer.
+-- The reply that a `Kept` and the rows of the buffer stand for.
 abbrev pub reply_kept : List (List Value) → Kept → Option Reply
 reply_kept rows kept.Nothing = None
 reply_kept rows kept.InBuffer = Some (reply.Rows rows)
 reply_kept rows (kept.Other reply) = Some reply
 
--- What a call came to that kept this reply and left this state.
+-- The outcome of a call that stored this reply and left this state.
 abbrev pub outcome_kept : List (List Value) → Kept → State → Outcome
 outcome_kept rows reply state = record { reply = reply_kept rows reply; state = state }

@@ -1,9 +1,9 @@
--- The places of statements in a session's list.
+-- The slots of statements in a session.
 use Rattle.std.specs.Prelude.{◌≡◌, ◌⊎◌, ◌++◌, ◌∷◌, ℕ, List, [], Option, Some, None, length, slice_get, slice_set}
 use Rattle.std.specs.Option.{option_map}
 use Rattle.mm_session.specs.declared.statement.Statement.{Statement}
 
--- The line of a statement, where there is one.
+-- The line of a slot's statement, if there is one.
 abbrev pub line_in : Option Statement → Option (List ℕ)
 line_in slot = option_map (λ (statement : Statement). statement.line.items) slot
 
@@ -11,11 +11,11 @@ line_in slot = option_map (λ (statement : Statement). statement.line.items) slo
 abbrev pub unbound : Statement → Statement
 unbound statement = record statement { bound = None }
 
--- The same, where there is a statement.
+-- A slot whose statement, if any, has no bound form.
 abbrev pub forgotten : Option Statement → Option Statement
 forgotten slot = option_map unbound slot
 
--- A statement stands behind the others, or in place of one that is gone.
+-- The statement is stored at a free number: after the last one, or in an empty slot.
 abbrev pub PutsStatement : Statement → ℕ → List (Option Statement) → List (Option Statement) → Type 0
 PutsStatement statement number old new =
     ((number ≡ length old) × (new ≡ old ++ Some statement ∷ []))

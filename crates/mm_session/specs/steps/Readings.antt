@@ -1,4 +1,4 @@
--- A statement's line, read and filled.
+-- Reading a statement's line and filling its holes.
 use Rattle.std.specs.Prelude.{◌≡◌, ◌⊎◌, ℕ, Bool, true, false, List, Some, Result, Ok, Err, IsTrue}
 use Rattle.mm_value.specs.declared.refusal.Refusal.{Refusal}
 use Rattle.mm_value.specs.declared.refusal.Refusal.TheVariants.{Memory}
@@ -13,12 +13,12 @@ use Rattle.mm_session.specs.Kinds.{query_of}
 use Rattle.mm_session.specs.declared.statement_kind.StatementKind.{StatementKind}
 use Rattle.mm_session.specs.declared.statement_kind.StatementKind.TheVariants as kind
 
--- The command changes the catalog.
+-- Whether the command is a definition, which changes the catalog.
 abbrev pub is_definition : Command → Bool
 is_definition (Define definition) = true
 is_definition command = false
 
--- The kind of a change of the catalog.
+-- Whether commands of this kind are definitions.
 abbrev pub is_of_catalog : StatementKind → Bool
 is_of_catalog kind.Table = true
 is_of_catalog kind.DropTable = true
@@ -28,18 +28,18 @@ is_of_catalog kind.Watch = true
 is_of_catalog kind.Unwatch = true
 is_of_catalog other = false
 
--- A SELECT turned into the EXPLAIN of its query. Any other command stays as it is.
+-- The EXPLAIN of a SELECT's query; any other command unchanged.
 abbrev pub explained : Command → Command
 explained (Select query) = Explain query
 explained command = command
 
--- A call answers the filling of what the line reads as, or want of memory where that takes memory.
+-- The result is the line's command with the holes filled, the refusal of a value, or a failed allocation if the command allocates.
 pub record FillsLine (line : List ℕ) (values : List Value) (result : Result Command Refusal) : Type 0 where
   pub command : Command
   pub read : template_of line ≡ Ok command
   pub fills : IsFilling (holes_of line) values command result ⊎ ((result ≡ Err Memory) × IsTrue (command_takes_memory command))
 
--- A call returns a filling of the EXPLAIN of the query that a line reads as, or is refused memory.
+-- The result is the EXPLAIN of the line's query with the holes filled, the refusal of a value, or a failed allocation.
 pub record FillsExplain (line : List ℕ) (values : List Value) (result : Result Command Refusal) : Type 0 where
   pub command : Command
   pub query : Query

@@ -7,7 +7,6 @@ use Rattle.mm_statement.specs.Filling.{AnswersFilling}
 use Rattle.mm_session.proofs.KindLemmas.{explained_literals}
 use Rattle.mm_session.proofs.LineReadings.{template_within}
 use Rattle.mm_session.proofs.PlanReadings.{asked_query, explain_filled}
-use Rattle.mm_session.specs.steps.Readings.{explained}
 use Rattle.mm_session.proofs.reading.read_explain.Goals as goal
 
 pub fill-requires-clause-flags : goal.fill-requires-clause-flags

@@ -14,5 +14,5 @@ pub returns-in-Ok-Some-clause-done : goal.returns-in-Ok-Some-clause-done
 returns-in-Ok-Some-clause-done c command has =
     let table = c.args.table in
     copy_done c.args.database.now c.args.holes.now c.args.values.now command c.requires.count (bound.Insert table c.args.tuples.now)
-    (bound.Insert table c.in-Ok-Some.tuples) (record { reply = Some c.change_bound.result; state = c.change_bound.new.self }) has
+    (bound.Insert table c.in-Ok-Some.tuples) (record { reply = Some c.change_bound.result; state = c.change_bound.new.database }) has
     ((rw c.in-Ok-Some.field-0-is at c.in-Ok-Some.ensures) table) c.change_bound.ensures

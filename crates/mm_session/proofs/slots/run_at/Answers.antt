@@ -1,8 +1,10 @@
 use Rattle.std.proofs.Common.{◌≡◌, ℕ, false, List, Option, Vec, Global, map, set, sym, ap, subst, ◌∙◌, arith}
 use Rattle.std.specs.List.{All}
+use Rattle.mm_schema.specs.Schema.{Schema}
 use Rattle.mm_session.proofs.ReadyStatements.{lines_beside, lines_kept, ready_beside, ready_forgotten}
 use Rattle.mm_session.proofs.SlotLemmas.{line_of_slot}
 use Rattle.mm_session.specs.Statements.{RunsFound}
+use Rattle.mm_session.specs.Templates.{AreReady}
 use Rattle.mm_session.specs.declared.statement.Statement.{Statement}
 use Rattle.mm_session.specs.steps.Forms.{IsReady}
 use Rattle.mm_session.specs.steps.Kept.{outcome_kept}
@@ -21,13 +23,26 @@ returns-clause-ready c =
     elim c.if-is_definition.branch [
       | then-is_definition w ↦
           subst (All (IsReady after)) (sym (ap (λ (v : Vec (Option Statement) Global). v.items) w.statements-is ∙ w.forget_bound_forms.ensures))
-          (ready_forgotten before after items number slot c.requires c.in_ok-reply.ensures.ready)
+          (ready_forgotten before after items number slot c.requires.statements c.in_ok-reply.ensures.ready)
       | else-is_definition w ↦
           (let other : c.in_ok-reply.field-0.is_definition ≡ false = cc in
           subst (All (IsReady after)) (sym (ap (λ (v : Vec (Option Statement) Global). v.items) w.statements-is))
-          (ready_beside before after items number slot c.requires c.in_ok-reply.ensures.ready (c.in_ok-reply.ensures.schema other)))
+          (ready_beside before after items number slot c.requires.statements c.in_ok-reply.ensures.ready (c.in_ok-reply.ensures.schema other)))
     ] in
     all
+
+pub returns-clause-templates : goal.returns-clause-templates
+returns-clause-templates c =
+    let after = c.run_slot.new.database.schema in
+    let ready : AreReady after c.if-is_definition.templates =
+    elim c.if-is_definition.branch [
+      | then-is_definition w ↦ subst (AreReady after) (sym w.templates-is) (w.forget.ensures after)
+      | else-is_definition w ↦
+          (let other : c.in_ok-reply.field-0.is_definition ≡ false = cc in
+          subst (AreReady after) (sym w.templates-is)
+          (subst (λ (schema : Schema). AreReady schema c.args.templates.now) (sym (c.in_ok-reply.ensures.schema other)) c.requires.templates))
+    ] in
+    ready
 
 pub returns-clause-lines : goal.returns-clause-lines
 returns-clause-lines c =

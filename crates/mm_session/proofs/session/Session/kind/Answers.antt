@@ -5,4 +5,4 @@ use Rattle.mm_session.proofs.session.Session.kind.Goals as goal
 
 pub kind-requires : goal.kind-requires
 kind-requires c =
-    let schema = c.self.inside.database.schema in (schema, subst (All (IsReady schema)) (sym c.deref.ensures.value) c.self.invariant)
+    let schema = c.self.inside.database.schema in (schema, subst (All (IsReady schema)) (sym c.deref.ensures.value) c.self.invariant.0)

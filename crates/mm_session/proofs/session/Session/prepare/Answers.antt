@@ -6,9 +6,11 @@ use Rattle.mm_session.specs.steps.Places.{line_in}
 use Rattle.mm_session.proofs.session.Session.prepare.Goals as goal
 
 pub invariant_of-self-2 : goal.invariant_of-self-2
-invariant_of-self-2 c =
-    put_ready c.self.inside.database.schema c.in_ok-statement.statement c.in_ok-number.number c.self.inside.statements.items c.add.new.statements.items
-    c.in_ok-number.ensures.ok (c.in_ok-statement.ensures.1 c.self.inside.database.schema) c.self.invariant
+invariant_of-self-2 c = (
+  put_ready c.self.inside.database.schema c.in_ok-statement.statement c.in_ok-number.number c.self.inside.statements.items c.add.new.statements.items
+      c.in_ok-number.ensures.ok (c.in_ok-statement.ensures.1 c.self.inside.database.schema) c.self.invariant.0,
+  c.self.invariant.1,
+)
 
 pub returns : goal.returns
 returns c =

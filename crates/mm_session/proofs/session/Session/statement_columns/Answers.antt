@@ -5,4 +5,4 @@ use Rattle.mm_session.proofs.session.Session.statement_columns.Goals as goal
 
 pub columns_at-requires : goal.columns_at-requires
 columns_at-requires c =
-    let schema = c.self.inside.database.schema in (schema, subst (All (IsReady schema)) (sym c.deref.ensures.value) c.self.invariant)
+    let schema = c.self.inside.database.schema in (schema, subst (All (IsReady schema)) (sym c.deref.ensures.value) c.self.invariant.0)

@@ -1,7 +1,7 @@
 use Rattle.std.proofs.Common.{ℕ, List, Ok, ap, subst, sym, ◌∙◌}
 use Rattle.mm_lang.specs.Templates.{template_of}
 use Rattle.mm_session.proofs.KindLemmas.{kind_plans}
-use Rattle.mm_session.proofs.PlanReadings.{explain_keeps, explains_filled, explains_refused}
+use Rattle.mm_session.proofs.PlanReadings.{explain_keeps, explains_filled}
 use Rattle.mm_session.specs.Kinds.{has_plan}
 use Rattle.mm_session.specs.steps.Kept.{outcome_kept}
 use Rattle.mm_session.specs.steps.Readings.{FillsExplain}

@@ -9,7 +9,7 @@ returns-in-Some-rerun-clause-runs c =
     let ready = c.requires.ready in
     rerun_runs before statement ready c.args.values.now c.rerun.new.form
     (outcome_kept c.rerun.new.rows c.in-Some-rerun.reply c.rerun.new.database)
-    (c.in-Some-rerun.ensures.done ready.command (has_form before statement ready c.in-Some.form c.in-Some.is))
+    (c.in-Some-rerun.ensures.done ready.command (has_form before.schema statement ready c.in-Some.form c.in-Some.is))
 
 pub returns-in-Some-rerun-clause-ready : goal.returns-in-Some-rerun-clause-ready
 returns-in-Some-rerun-clause-ready c =
@@ -18,4 +18,4 @@ returns-in-Some-rerun-clause-ready c =
     let ready = c.requires.ready in
     rerun_ready before statement ready c.args.values.now c.rerun.new.form
     (outcome_kept c.rerun.new.rows c.in-Some-rerun.reply c.rerun.new.database)
-    (c.in-Some-rerun.ensures.done ready.command (has_form before statement ready c.in-Some.form c.in-Some.is))
+    (c.in-Some-rerun.ensures.done ready.command (has_form before.schema statement ready c.in-Some.form c.in-Some.is))

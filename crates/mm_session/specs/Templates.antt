@@ -1,0 +1,35 @@
+-- Templates of lines, kept with their bound forms.
+use Rattle.std.specs.Prelude.{◌≡◌, ℕ, List, Some, Ok, true}
+use Rattle.std.specs.List.{All}
+use Rattle.mm_schema.specs.Schema.{Schema}
+use Rattle.mm_query.specs.declared.command.Command.{Command}
+use Rattle.mm_query.specs.declared.command.Command.TheVariants.{Change, Select}
+use Rattle.mm_query.specs.declared.command.Mutation.{Mutation}
+use Rattle.mm_query.specs.declared.query.Query.{Query}
+use Rattle.mm_lang.specs.Reading.{reading}
+use Rattle.mm_txn.specs.Bound.{IsBoundChange, IsBoundQuery, bound_of}
+use Rattle.mm_session.specs.declared.bound_form.BoundForm.{BoundForm}
+use Rattle.mm_session.specs.declared.bound_line.BoundLine.{BoundLine}
+use Rattle.mm_session.specs.declared.bound_line.BoundLine.TheVariants as lent
+use Rattle.mm_session.specs.declared.templates.Templates.{Templates}
+use Rattle.mm_session.specs.steps.Filled.{can_be_lent, form_at}
+use Rattle.mm_session.specs.steps.Forms.{IsBoundForm, IsReady}
+
+-- Each kept template reads as a command, and its bound form, if any, is one in this catalog.
+abbrev pub AreReady : Schema → Templates → Type 0
+AreReady schema templates = All (IsReady schema) templates.slots.items
+
+-- This is the bound form, in a catalog, of the SELECT or the change of rows that the line reads as.
+abbrev pub IsBoundLine : Schema → List ℕ → BoundLine → Type 0
+IsBoundLine schema line (lent.Query bound) = (query : Query) × (reading line ≡ Ok (Select query)) × IsBoundQuery schema query bound.now
+IsBoundLine schema line (lent.Change change) =
+    (mutation : Mutation) × (reading line ≡ Ok (Change mutation)) × IsBoundChange schema mutation (bound_of change)
+
+-- The template with this number has the bound form, in a catalog, of the command that the line reads as, and that is no INSERT.
+pub record IsBoundAt (number : ℕ) (schema : Schema) (line : List ℕ) (templates : Templates) : Type 0 where
+  pub form : BoundForm
+  pub is : form_at number templates.slots.items ≡ Some form
+  pub lent : can_be_lent form ≡ true
+  pub command : Command
+  pub read : reading line ≡ Ok command
+  pub binds : IsBoundForm schema command form
