@@ -1,4 +1,5 @@
 pub mod Answering
+pub mod BoundLines
 pub mod FeedLemmas
 pub mod Inputs
 pub mod LawLemmas

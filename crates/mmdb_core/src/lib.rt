@@ -7,6 +7,7 @@ mod laws;
 mod limits;
 mod run_error;
 mod run_script;
+mod templated_db;
 mod window;
 
 pub use laws::{

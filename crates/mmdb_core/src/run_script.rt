@@ -8,8 +8,8 @@ use crate::answer::{answer_line, send, without_return};
 use crate::input::{Input, Next};
 use crate::limits::{Limits, Totals};
 use crate::run_error::RunError;
+use crate::templated_db::TemplatedDb;
 use mm_lang::Reply;
-use mm_txn::Db;
 use mm_value::{Refusal, Watched};
 use std::alloc::Global;
 use std::io::{Read, Write};
@@ -52,7 +52,7 @@ pub fn run<R: Read, W: Write>(
     ensures broke_off { IfErr result (BrokeOff R.remaining reader.old reader.new limits
         (W.contents (inner_of writer.old)) (W.contents (inner_of writer.new))) }
 {
-    let mut database = Db::new(alloc);
+    let mut database = TemplatedDb::new(alloc);
     let mut input = Input::new(limits);
     let mut totals = Totals {
         lines: 0,
@@ -70,7 +70,7 @@ fn answer_next<R: Read, W: Write>(
     alloc: Global,
     input: &mut Input,
     reader: &mut Watched<R>,
-    database: &mut Db,
+    database: &mut TemplatedDb,
     writer: &mut Watched<W>,
 ) -> Result<Option<bool>, RunError>
     requires { has_failed writer.old ≡ false }

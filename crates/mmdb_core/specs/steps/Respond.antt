@@ -1,5 +1,5 @@
 -- What one line does: the reply is written, and the state is the one after it.
-use Rattle.std.specs.Prelude.{◌≡◌, ◌⊎◌, Bool, false, List, [], ℕ, Option, Some, None, Result, Ok, Err, IfOk, IsTrue}
+use Rattle.std.specs.Prelude.{◌≡◌, Bool, false, List, [], ℕ, Option, Some, None, Result, Ok, Err, IfOk}
 use Rattle.std.specs.Io.KnownBytes.{Keeps}
 use Rattle.mm_lang.specs.Answering.{MayLeadTo, answer}
 use Rattle.mm_lang.specs.Lines.{without_return}
@@ -10,6 +10,7 @@ use Rattle.mm_value.specs.declared.refusal.Refusal.{Refusal}
 use Rattle.mm_query.specs.Machine.{Outcome}
 use Rattle.mm_query.specs.State.{State}
 use Rattle.mm_query.specs.declared.command.Command.{Command}
+use Rattle.mm_session.specs.steps.Readings.{is_definition}
 use Rattle.mmdb_core.specs.steps.Input.{Advances, Finds, PassesLine, StopsInLine}
 use Rattle.mm_lang.specs.ReplyText.{text_of}
 use Rattle.mmdb_core.specs.Run.{is_error}
@@ -31,6 +32,11 @@ pub record RepliesToReading {W E : Type 0} (contents : W → Option (List ℕ)) 
   pub outcome : Outcome
   pub leads : MayLeadTo read before outcome
   pub replies : Replies contents old new after outcome result
+
+-- What was read is a definition, which changes the catalog.
+abbrev pub defines : Result Command Refusal → Bool
+defines (Ok command) = is_definition command
+defines (Err refusal) = false
 
 -- The same of a line, memory refused to it or not.
 pub record RepliesToLine {W E : Type 0} (contents : W → Option (List ℕ)) (old new : Watched W) (line : List ℕ) (before after : State)

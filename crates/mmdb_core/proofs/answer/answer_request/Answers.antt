@@ -1,4 +1,4 @@
-use Rattle.std.proofs.Common.{Some, None, false, Ok, inl, refl, sym, ap, subst}
+use Rattle.std.proofs.Common.{Some, None, false, Ok, inl, refl, sym, subst}
 use Rattle.mm_value.proofs.Writing.{Writes-nil}
 use Rattle.mm_query.specs.Machine.{Outcome}
 use Rattle.mm_txn.specs.Answers.{reply_of}
@@ -23,7 +23,7 @@ returns-in-Change g c =
     let new = c.execute.new.self in
     sent c.execute.result (Ok (command_of c.args.request)) old new c.send.ensures.written c.send.ensures.refused
     (subst (λ (r : Request). MayLeadTo (Ok (command_of r)) old (record { reply = Some c.execute.result; state = new })) (sym c.in-Change.is)
-    (change_leads c.in-Change.change old (record { reply = Some c.execute.result; state = new }) c.execute.ensures))
+    (change_leads c.in-Change.change old (record { reply = Some c.execute.result; state = new }) c.execute.ensures.step))
 
 pub returns-in-Ask : goal.returns-in-Ask
 returns-in-Ask g c =
@@ -31,4 +31,4 @@ returns-in-Ask g c =
     let reply = reply_of c.ask.result in
     sent reply (Ok (command_of c.args.request)) state state c.send_answer.ensures.written c.send_answer.ensures.refused
     (subst (λ (r : Request). MayLeadTo (Ok (command_of r)) state (record { reply = Some reply; state = state })) (sym c.in-Ask.is)
-    (question_leads c.in-Ask.question state (record { reply = Some reply; state = state }) c.ask.ensures))
+    (question_leads c.in-Ask.question state (record { reply = Some reply; state = state }) c.ask.ensures.step))

@@ -1,4 +1,4 @@
-use Rattle.std.proofs.Common.{ap, length, subst, sym, ◌∙◌}
+use Rattle.std.proofs.Common.{ap, length, sym, ◌∙◌}
 use Rattle.mm_txn.specs.Sources.{rows_to_read}
 use Rattle.mmdb_core.proofs.Answering.{writes_as}
 use Rattle.mmdb_core.proofs.answer.write_rows.Goals as goal
