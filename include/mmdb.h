@@ -210,9 +210,10 @@ uint8_t mmdb_statement_columns(mmdb *db, size_t statement, mmdb_column *columns,
 
 /*
  * Runs a statement with a value for each hole, from left to right, and keeps the reply, which is that of the line with the values in its
- * holes. Returns the status of the reply. Returns MMDB_MISUSE, and leaves the reply unchanged, if no statement has this number, count is
- * not its number of parameters, a cell is not a value, or the handle is closed. Returns MMDB_MEMORY, and leaves the reply unchanged, if
- * the values cannot be copied; this requires at least one value. So a prepared ROLLBACK in a transaction always succeeds.
+ * holes. Here such a line may be longer than 4,096 bytes and have a negative number after the sign of a shift. Returns the status of the
+ * reply. Returns MMDB_MISUSE if no statement has this number, count is not its number of parameters, a cell is not a value, or the handle
+ * is closed. Returns MMDB_MEMORY if the values cannot be copied, which requires at least one value. In both cases the reply is unchanged.
+ * So a prepared ROLLBACK in a transaction always succeeds.
  */
 uint8_t mmdb_run(mmdb *db, size_t statement, const mmdb_cell *values, size_t count);
 

@@ -1,9 +1,10 @@
-/* Calls of the library, each in its place and out of it, with what they must leave as it was.
+/* Tests every call of the library: correct calls, misuses, and what each must leave unchanged.
 
      calls [CALLS]
 
-   Each test is a function that writes one line. A check that fails writes its own line before that. With CALLS the test of many calls makes so many; else a
-   million. The status is 0 only if all passed. Want of memory is tested elsewhere: tests/refused_growths.py refuses each growth to the driver script.c. */
+   Each test is a function that prints one line. A failed check prints its source line and condition first. The test many_calls makes
+   CALLS calls, one million by default. The exit status is 0 if all tests pass. Failing allocations are tested by
+   tests/refused_growths.py, with the driver script.c. */
 #include <mmdb.h>
 #include <pthread.h>
 #include <stdio.h>
@@ -41,7 +42,7 @@ static bool is_words(const mmdb_cell *value, const void *text, size_t length) {
   return value->kind == MMDB_STRING && value->len == length && !memcmp(value->text, text, length);
 }
 
-/* Calls with C's strings. */
+/* Calls with null-terminated strings. */
 
 static uint8_t execute(mmdb *db, const char *line) { return mmdb_execute(db, (const uint8_t *)line, strlen(line)); }
 
@@ -55,14 +56,14 @@ static uint8_t release(mmdb *db, const char *name) { return mmdb_release(db, (co
 
 static size_t place_in(mmdb *db, const char *line, uint8_t status) { return mmdb_place(db, (const uint8_t *)line, strlen(line), status); }
 
-/* The number of a statement that must not be refused. */
+/* Prepares a line, which must succeed, and returns the statement's number. */
 static size_t prepared(mmdb *db, const char *line) {
   size_t statement = SIZE_MAX;
   check(prepare(db, line, &statement) == MMDB_DONE, line, __LINE__);
   return statement;
 }
 
-/* Writes the last reply as far as it has room, and gives its length. */
+/* Copies as many bytes of the last reply's text as fit, and returns its full length. */
 static size_t text_of_reply(mmdb *db, uint8_t *text, size_t room) {
   size_t length = SIZE_MAX;
   MUST(mmdb_text(db, text, room, &length) == MMDB_DONE);
@@ -77,12 +78,12 @@ static bool last_reply_is(mmdb *db, const char *text) {
   return holds;
 }
 
-/* Whether a line has a status and a reply. */
+/* Executes a line, and returns whether it has this status and this reply. */
 static bool answers(mmdb *db, const char *line, uint8_t status, const char *text) { return execute(db, line) == status && last_reply_is(db, text); }
 
 static bool is_done(mmdb *db, const char *line) { return answers(db, line, MMDB_DONE, "ok\n"); }
 
-/* Whether a statement has a status and a reply. */
+/* Runs a statement, and returns whether it has this status and this reply. */
 static bool runs(mmdb *db, size_t statement, const mmdb_cell *values, size_t count, uint8_t status, const char *text) {
   return mmdb_run(db, statement, values, count) == status && last_reply_is(db, text);
 }
@@ -95,7 +96,7 @@ static mmdb opened(void) {
   return db;
 }
 
-/* A database with a table t of two rows, of which one has a text with a quote. */
+/* A database with a table t of two rows, one of which contains a text with a quote. */
 static mmdb opened_with_rows(void) {
   mmdb db = opened();
   MUST(is_done(&db, "TABLE t (id INT KEY, k INT, s TEXT)"));
@@ -103,7 +104,7 @@ static mmdb opened_with_rows(void) {
   return db;
 }
 
-/* What can be seen of a database with a table t. The last reply is that to SCAN t. */
+/* The observable state of a database with a table t. Taking it makes the reply to SCAN t the last reply. */
 struct picture {
   uint8_t catalog[ROOM], rows[ROOM];
   size_t catalog_length, rows_length, count;
@@ -133,7 +134,7 @@ static bool is_as_before(mmdb *db, const struct picture *before) {
   return !memcmp(after.catalog, before->catalog, ROOM) && !memcmp(after.rows, before->rows, ROOM) && after.in_transaction == before->in_transaction;
 }
 
-/* Whether the last reply and all that can be seen is as it was. */
+/* Whether the last reply and the observable state are unchanged. */
 static bool stays(mmdb *db, const struct picture *before) { return last_reply_is_scan(db, before) && is_as_before(db, before); }
 
 /* The handle. */
@@ -187,7 +188,7 @@ static void opened_twice_and_closed_twice(void) {
   mmdb_close(&db);
 }
 
-/* What is open is freed with the database: a transaction, savepoints, statements, rows of a reply. */
+/* Closing frees everything that is open: a transaction, savepoints, statements, the rows of a reply. */
 static void closed_in_the_middle(void) {
   mmdb db = opened_with_rows();
   MUST(is_done(&db, "WATCH w SELECT a.s FROM t a WHERE a.k > 0"));
@@ -218,7 +219,7 @@ static void two_databases(void) {
   mmdb_close(&other);
 }
 
-/* Makes a database and fills it with numbers, and says by its argument whether all of them came out again. */
+/* Inserts numbers into a database of its own, and sets *argument if it reads all of them back. */
 static void *one_thread(void *argument) {
   bool *is_right = argument;
   mmdb db = MMDB_CLOSED;
@@ -243,7 +244,7 @@ static void two_threads(void) {
   MUST(are_right[0] && are_right[1]);
 }
 
-/* A database that is used by the thread that has just started. */
+/* A database that one thread after another uses. */
 struct shared {
   mmdb db;
   size_t insert, find;
@@ -281,7 +282,7 @@ static void *close_it(void *argument) {
   return NULL;
 }
 
-/* A handle moves between threads: one opens it, others use it one after another, and another closes it. */
+/* One thread opens a handle, two others use it one after the other, and a fourth closes it. */
 static void a_handle_of_several_threads(void) {
   struct shared shared = {.db = MMDB_CLOSED};
   void *(*const parts[])(void *) = {open_it, use_it, use_it, close_it};
@@ -292,7 +293,7 @@ static void a_handle_of_several_threads(void) {
   MUST(shared.is_right && !shared.db.is_open);
 }
 
-/* What is known without a handle. */
+/* Calls without a handle. */
 
 static void versions(void) {
   MUST(mmdb_version() == MMDB_VERSION);
@@ -336,7 +337,7 @@ static const char *words_of(unsigned status) {
   return "";
 }
 
-/* All 256 numbers, each into every room: the words up to there, no byte past them, and the whole length. */
+/* All 256 statuses, each with buffers of every size: the words are cut at the buffer's end, and the length is the full one. */
 static void words_of_statuses(void) {
   for (unsigned status = 0; status < 256; status++) {
     const char *wanted = words_of(status);
@@ -370,7 +371,7 @@ static void each_kind_of_reply(void) {
   mmdb_close(&db);
 }
 
-/* A line for each refusal that has one over the rows of each_refusal. They stand in the order in which they are given. */
+/* A line for each refusal that a line can have over the rows of each_refusal, in the order of execution. */
 static const struct { uint8_t number; const char *line, *text; } refusals[] = {
   {MMDB_SYNTAX, "SCAN t;", "error 11 syntax\n"},
   {MMDB_SYNTAX, "SCAN t\r", "error 11 syntax\n"},
@@ -442,7 +443,7 @@ static void lines_of_the_greatest_length(void) {
   mmdb_close(&db);
 }
 
-/* A text in pieces: no more is written than has room, and the whole length is told. */
+/* A reply's text in buffers of every size: the text is cut at the buffer's end, and the length is the full one. */
 static void a_reply_as_text(void) {
   mmdb db = opened_with_rows();
   const char *wanted = "(1, 5, 'a')\n(2, -7, 'it''s')\nrows 2\n";
@@ -457,7 +458,7 @@ static void a_reply_as_text(void) {
   mmdb_close(&db);
 }
 
-/* Rows in pieces: as many whole rows as have room, from any row on. */
+/* Rows in buffers of every size, from every row on: as many whole rows as fit. */
 static void rows_in_pieces(void) {
   mmdb db = opened();
   enum { ROWS = 10, COLUMNS = 3, CELLS = ROWS * COLUMNS };
@@ -486,7 +487,7 @@ static void rows_in_pieces(void) {
   mmdb_close(&db);
 }
 
-/* Lines beside their replies: the columns of these, and where a refused line stopped. */
+/* Columns of lines, and places of refusals in lines. */
 
 static bool is_column(const mmdb_column *column, uint8_t type, const char *name) {
   static const uint8_t none[MMDB_NAME_BYTES];
@@ -495,7 +496,7 @@ static bool is_column(const mmdb_column *column, uint8_t type, const char *name)
   return is_named && column->type == type && !memcmp(column->name + length, none, MMDB_NAME_BYTES - length);
 }
 
-/* Lines that have a reading, and the columns of their replies, each with its type. */
+/* Lines that can be read, and the columns of the rows that they return: type and name. */
 static const struct { const char *line, *columns; } lines_with_columns[] = {
   {"SCAN t", "0 id 0 k 1 s "},
   {"SCAN INDEX i", "0 id 0 k 1 s "},
@@ -531,7 +532,7 @@ static void columns_of_lines(void) {
   mmdb_close(&db);
 }
 
-/* No more columns are written than have room, and none for a line that is refused. */
+/* Only as many columns are written as fit, and none for a line that cannot be read. */
 static void columns_in_their_room(void) {
   static uint8_t line[LONGEST_LINE + 1];
   mmdb db = opened_with_rows();
@@ -552,7 +553,7 @@ static void columns_in_their_room(void) {
   mmdb_close(&db);
 }
 
-/* The columns are those of the tables as they are now. */
+/* The columns are those of the current catalog. */
 static void columns_of_the_catalog(void) {
   mmdb db = opened();
   mmdb_column columns[2];
@@ -569,7 +570,7 @@ static void columns_of_the_catalog(void) {
   mmdb_close(&db);
 }
 
-/* The columns of a statement are those of its line, also after the catalog changed. */
+/* The columns of a statement are those of its line, also after the catalog has changed. */
 static void columns_of_statements(void) {
   enum { COUNT = sizeof lines_with_columns / sizeof *lines_with_columns };
   mmdb db = opened_with_rows();
@@ -605,7 +606,7 @@ static void columns_of_statements(void) {
   mmdb_close(&db);
 }
 
-/* Lines that are refused, and where in them the reason stands. */
+/* Refused lines, and the place of the refusal in each. */
 static const struct { uint8_t status; const char *line; size_t place; } lines_with_places[] = {
   {MMDB_SYNTAX, "SCAN", 4},
   {MMDB_SYNTAX, "SCAN t u", 7},
@@ -661,7 +662,7 @@ static void numbers_of_statements(void) {
   mmdb_close(&db);
 }
 
-/* A number that is free again is that of another statement then. */
+/* The number of a deleted statement is reused for the next one. */
 static void a_number_used_again(void) {
   mmdb db = opened_with_rows();
   mmdb_cell one = number(1);
@@ -676,7 +677,7 @@ static void a_number_used_again(void) {
   mmdb_close(&db);
 }
 
-/* Lines, what it comes to to prepare them, and how many values they take. */
+/* Lines, the status of preparing them, and their number of holes. */
 static const struct { const char *line; uint8_t status; size_t count; } lines_to_prepare[] = {
   {"INSERT t (?, 1, ?), (?, ?, 'x?')", MMDB_DONE, 4},
   {"UPDATE t SET k = ?, s = ? WHERE id >= ? AND k < id + ?", MMDB_DONE, 4},
@@ -768,7 +769,7 @@ static void kinds_of_statements(void) {
   mmdb_close(&db);
 }
 
-/* Whether EXPLAIN with the query of a statement has a status and a reply. */
+/* Explains a statement, and returns whether it has this status and this reply. */
 static bool explains(mmdb *db, size_t statement, const mmdb_cell *values, size_t count, uint8_t status, const char *text) {
   return mmdb_explain(db, statement, values, count) == status && last_reply_is(db, text);
 }
@@ -797,7 +798,7 @@ static void explained_statements(void) {
   mmdb_close(&db);
 }
 
-/* The plan of a statement is the reply to EXPLAIN with its line, for each line that has a query. */
+/* The plan of a statement is the reply to EXPLAIN with the same query. */
 static void explained_as_their_lines(void) {
   static const char *const queries[] = {
     "SELECT a.k FROM t a",
@@ -820,7 +821,7 @@ static void explained_as_their_lines(void) {
   mmdb_close(&db);
 }
 
-/* Whether mmdb_explain with these values is a misuse, and all stays as it was. */
+/* Whether mmdb_explain with these values is a misuse and changes nothing. */
 static bool is_unexplained(mmdb *db, size_t statement, const mmdb_cell *values, size_t count, const struct picture *before) {
   return mmdb_explain(db, statement, values, count) == MMDB_MISUSE && stays(db, before);
 }
@@ -852,7 +853,7 @@ static void misused_explains(void) {
   mmdb_close(&db);
 }
 
-/* Each reply "ok N" adds its N, and nothing else changes the sum: no refusal, question, rollback or plan. */
+/* Each reply "ok N" adds N to the sum. Refusals, queries, rollbacks and plans do not change it. */
 static void counted_changes(void) {
   mmdb db = opened();
   size_t done;
@@ -873,7 +874,7 @@ static void counted_changes(void) {
   mmdb_close(&db);
 }
 
-/* Arrays of no elements are NULL, in each call that takes one. */
+/* An empty array may be NULL, in each call that takes one. */
 static void arrays_that_are_null(void) {
   mmdb db = opened_with_rows();
   size_t statement = 77, count, rows, done;
@@ -900,7 +901,7 @@ static void arrays_that_are_null(void) {
   MUST(mmdb_execute(&db, NULL, 0) == MMDB_MISUSE && mmdb_run(&db, 0, NULL, 0) == MMDB_MISUSE && mmdb_read(&db, 0, NULL, 0) == 0);
 }
 
-/* Whether a call by run, query and run_many with these values is a misuse, and all stays as it was. */
+/* Whether mmdb_run, mmdb_query and mmdb_run_many with these values are misuses and change nothing. */
 static bool are_misused(mmdb *db, size_t statement, const mmdb_cell *values, size_t count, const struct picture *before) {
   mmdb_cell cell = number(-1);
   size_t rows = 77, done = 77;
@@ -936,7 +937,7 @@ static void misused_values(void) {
   mmdb_close(&db);
 }
 
-/* Only len bytes of a text are part of a value, and nothing of the text of a number. */
+/* Only the first len bytes of a text belong to its value, and no byte of the text of a number does. */
 static void bytes_behind_a_value(void) {
   mmdb db = opened_with_rows();
   size_t insert = prepared(&db, "INSERT t (?, ?, ?)");
@@ -949,7 +950,7 @@ static void bytes_behind_a_value(void) {
   mmdb_close(&db);
 }
 
-/* Texts of all lengths at which they may be kept in other ways, with all bytes, go in and come out the same. */
+/* Texts with all bytes, of all lengths that are stored in different ways, are read back unchanged. */
 static void texts(void) {
   static const size_t lengths[] = {0, 1, 15, 16, 17, 22, 23, 24, 25, 63, 64};
   mmdb db = opened();
@@ -1014,7 +1015,7 @@ static void values_of_the_wrong_type(void) {
   mmdb_close(&db);
 }
 
-/* Digits of a shift: a sign of the value counts, a text is no number, and the least number has no opposite. */
+/* Values in the hole of a shift: the sign of the value counts, a text is an error, and the least number cannot be negated. */
 static void shifts(void) {
   mmdb db = opened_with_rows();
   size_t minus = prepared(&db, "UPDATE t SET k = k - ? WHERE id = 1"), plus = prepared(&db, "UPDATE t SET k = k + ? WHERE id = 1");
@@ -1038,7 +1039,7 @@ static void shifts(void) {
   mmdb_close(&db);
 }
 
-/* A statement does what its line would do now, whatever became of its table and its indexes. */
+/* A statement does what its line would do in the current catalog, whatever happened to its table and indexes. */
 static void changes_of_the_catalog(void) {
   mmdb db = opened();
   size_t insert = prepared(&db, "INSERT t (?, ?)"), find = prepared(&db, "SELECT a.k FROM t a WHERE a.id = ?");
@@ -1069,7 +1070,7 @@ static void changes_of_the_catalog(void) {
   mmdb_close(&db);
 }
 
-/* A statement after another table has come or gone, so that its own table stands at another place of the catalog. */
+/* A statement still works after creating or dropping another table has moved its own table in the catalog. */
 static void other_tables(void) {
   mmdb db = opened();
   MUST(is_done(&db, "TABLE u (x TEXT KEY)") && is_done(&db, "TABLE t (id INT KEY, k INT)"));
@@ -1132,7 +1133,7 @@ static void transactions(void) {
   mmdb_close(&db);
 }
 
-/* A released savepoint is forgotten with those after it. The rows stay, and ROLLBACK TO an earlier savepoint restores its rows. */
+/* A release removes a savepoint and those after it. No row changes, and ROLLBACK TO an earlier savepoint restores its rows. */
 static void released_savepoints(void) {
   mmdb db = opened_with_rows();
   struct picture before = picture_of(&db);
@@ -1153,7 +1154,7 @@ static void released_savepoints(void) {
   mmdb_close(&db);
 }
 
-/* Two savepoints of one name: the later one is released first. */
+/* Of two savepoints with one name, the later one is released first. */
 static void released_savepoints_of_one_name(void) {
   mmdb db = opened_with_rows();
   struct picture before = picture_of(&db);
@@ -1167,7 +1168,7 @@ static void released_savepoints_of_one_name(void) {
   mmdb_close(&db);
 }
 
-/* A program that sets a savepoint for each item and releases it never has more than one, however many items there are. */
+/* A program that sets and releases a savepoint for each item never has more than one. */
 static void a_savepoint_for_each_item(void) {
   mmdb db = opened_with_rows();
   MUST(is_done(&db, "BEGIN"));
@@ -1182,7 +1183,7 @@ static void a_savepoint_for_each_item(void) {
   mmdb_close(&db);
 }
 
-/* Bytes that are no name are refused before anything else. */
+/* Bytes that are not a name are a syntax error before any other refusal. */
 static void names_of_savepoints(void) {
   static const char *const names[] = {"", "S", "s s", "1s", "_s", "s?", "'s'", "s\n", "a234567890123456789012345678_0123"};
   mmdb db = opened_with_rows();
@@ -1196,7 +1197,7 @@ static void names_of_savepoints(void) {
   mmdb_close(&db);
 }
 
-/* Runs and reads in one call. */
+/* mmdb_query: a run and a read in one call. */
 static void queries(void) {
   mmdb db = opened_with_rows();
   size_t find = prepared(&db, "SELECT a.id, a.s FROM t a WHERE a.id >= ?"), change = prepared(&db, "UPDATE t SET k = ?"), rows;
@@ -1236,7 +1237,7 @@ static void runs_of_many(void) {
   mmdb_close(&db);
 }
 
-/* A misuse in the second of two rows, by a value that is none or by a row that is short: the first is run, and its reply is the last one. */
+/* A misuse in the second of two rows, by a cell that is not a value or a short row: the first row runs, and its reply is the last one. */
 static void runs_of_many_with_a_misuse(void) {
   mmdb db = opened_with_rows();
   size_t insert = prepared(&db, "INSERT t (?, ?, 'x')"), done = 77;
@@ -1250,7 +1251,7 @@ static void runs_of_many_with_a_misuse(void) {
   mmdb_close(&db);
 }
 
-/* A table with as many rows as may be, made by few calls. */
+/* A table with the maximum number of rows, inserted by few calls. */
 static void a_full_table(void) {
   enum { AT_ONCE = 1 << 12 };
   static mmdb_cell values[AT_ONCE], cells[AT_ONCE];
@@ -1269,12 +1270,12 @@ static void a_full_table(void) {
   int64_t next = 0;
   for (size_t count; (count = mmdb_read(&db, (size_t)next, cells, AT_ONCE)) > 0; next += (int64_t)count)
     for (size_t i = 0; i < count; i++)
-      if (!is_number(&cells[i], next + (int64_t)i)) MUST(!"a row is another one");
+      if (!is_number(&cells[i], next + (int64_t)i)) MUST(!"a wrong row");
   MUST(next == most);
   mmdb_close(&db);
 }
 
-/* Rows are found, changed, put in and deleted, again and again, beside an array that does the same. */
+/* Random finds, updates, inserts and deletes, compared with an array. */
 static void many_calls(void) {
   enum { KEYS = 1000 };
   static int64_t kept[KEYS];

@@ -1,5 +1,5 @@
-/* The header alone: each struct has the layout, and each name the number, that the library was built for. Compiled as C11 and as C++11, and
-   never run. */
+/* Static assertions about the header: the layouts of structs and the numbers of names that the library was built for. Compiled as C11 and
+   C++11, and never run. */
 #include <mmdb.h>
 
 #ifdef __cplusplus

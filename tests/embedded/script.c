@@ -1,20 +1,20 @@
-/* Does what the program mmdb does, through the library: it reads commands from standard input, one a line, and writes the reply to a line before it reads
-   the next one.
+/* Behaves like the program mmdb, but through the library: it reads commands from standard input, one per line, and writes the reply to a line before it
+   reads the next one.
 
      script [--statements]
 
-   With --statements each line that can be read runs as a prepared statement: its numbers and texts are the values of holes, where a hole may stand. The
-   statement is kept for the next line of the same form. Without it each line is executed. The replies are the same in both ways, byte for byte. Compiled
-   with -DALWAYS_STATEMENTS it needs no argument, so it can stand where a test wants a program.
+   With --statements each line that can be read runs as a prepared statement: where the language allows a hole, numbers and texts become values. The
+   statement is kept for the next line of the same form. Without it each line is executed. Both ways must produce the same replies, byte for byte. Compiled
+   with -DALWAYS_STATEMENTS it needs no argument, so tests can run it instead of a program.
 
-   It compares each reply with its status, its count and its rows. Its status is 0 at the end of the input, and 2 where a device failed or no database could
-   be opened. It is 4 where the library did not keep its word, or where a reply has no room here; then a line on standard error says what was wrong. Input
-   of any length is read.
+   It compares each reply with its status, its count and its rows. The exit status is 0 at the end of the input, and 2 if a device failed or no database
+   could be opened. It is 4 if the library broke its contract or a reply is too long for the buffer here; a line on standard error then says what is wrong.
+   The input may have any length.
 
-   Compiled with -DASKS_ABOUT_LINES it compares each reply also with what mmdb_columns and mmdb_place tell of the line. These calls take memory that no
-   reply needs, so a test that refuses memory wants it compiled without.
+   Compiled with -DASKS_ABOUT_LINES it also compares each reply with the results of mmdb_columns and mmdb_place. These calls allocate memory that no reply
+   needs, so tests with failing allocations compile it without.
 
-   It takes no memory of its own: its buffers are static, and it uses no stdio but for that line. So each growth of memory is one of the library. */
+   It allocates nothing: its buffers are static, and it uses stdio only for the line on standard error. So each growth of memory is the library's. */
 #include <errno.h>
 #include <inttypes.h>
 #include <mmdb.h>
@@ -33,13 +33,13 @@
 enum { LONGEST_LINE = 4096, MOST_VALUES = LONGEST_LINE / 2, MOST_COLUMNS = 16, LONGEST_REPLY = 1 << 25, MOST_KEPT = 48 };
 enum { STATUS_OF_DEVICE = 2, STATUS_OF_FAULT = 4 };
 
-/* A line of the input. One that is too long is cut off behind the first bytes that are too many. */
+/* A line of the input. A line that is too long is cut after its first excess bytes. */
 struct line {
   uint8_t bytes[LONGEST_LINE + 2];
   size_t length;
 };
 
-/* A line with a question mark in place of each literal that can be a hole, and these literals. */
+/* A line with a question mark for each literal that can be a hole, and these literals. */
 struct form {
   uint8_t bytes[LONGEST_LINE];
   size_t length;
@@ -84,7 +84,7 @@ static int next_byte(void) {
   return count ? bytes[from++] : -1;
 }
 
-/* Reads a line, without its line feed and one carriage return in front of it. Tells whether there was one. */
+/* Reads a line, without its line feed and one carriage return before it. Returns whether there was a line. */
 static bool read_line(void) {
   int byte = next_byte();
   if (byte < 0) return false;
@@ -105,15 +105,15 @@ static void write_all(const uint8_t *bytes, size_t length) {
   }
 }
 
-/* Replies: their text, and beside it their status, their count and their rows. */
+/* Replies: their text, compared with their status, their count and their rows. */
 
-/* The text of a reply, as far as it was not compared yet. */
+/* The part of a reply's text that has not been compared yet. */
 struct rest {
   const uint8_t *bytes;
   size_t length;
 };
 
-/* Whether the text goes on with these bytes, which are then behind. */
+/* Consumes these bytes if the text continues with them, and returns whether it did. */
 static bool goes_on(struct rest *rest, const void *bytes, size_t length) {
   if (rest->length < length || memcmp(rest->bytes, bytes, length)) return false;
   rest->bytes += length;
@@ -145,7 +145,7 @@ static bool goes_on_with_row(struct rest *rest, const mmdb_cell *cells, size_t c
   return holds && goes_on_with(rest, ")\n");
 }
 
-/* Whether the text goes on with the rows that can be read, of which each is read by itself. Its first row has as many columns as it wants room. */
+/* Whether the text continues with the rows of the reply, read one at a time. The number of columns is the least room that the first row fits into. */
 static bool goes_on_with_rows(struct rest *rest) {
   mmdb_cell cells[MOST_COLUMNS];
   size_t columns = 1, row = 0;
@@ -154,7 +154,7 @@ static bool goes_on_with_rows(struct rest *rest) {
   return row == mmdb_count(&db);
 }
 
-/* Whether the text of a reply is one of those that its status tells of. */
+/* Whether the text of a reply has the form that its status says. */
 static bool fits_status(uint8_t status, struct rest rest) {
   char told[32];
   switch (status) {
@@ -168,24 +168,24 @@ static bool fits_status(uint8_t status, struct rest rest) {
   }
 }
 
-/* Writes the reply. Where memory is refused to its text, it is the one that says so. That is right of a question and of a refused line, which have changed
-   nothing; all other replies are short. */
+/* Writes the reply, or error 90 if the allocation for its text fails. That is correct for a query and a refused line, which change nothing. All other
+   replies are short, and must not fail. */
 static void write_reply(uint8_t status) {
   static const char memory[] = "error 90 memory\n";
   static uint8_t text[LONGEST_REPLY];
   size_t length;
   uint8_t told = status == MMDB_MEMORY ? MMDB_MEMORY : mmdb_text(&db, text, sizeof text, &length);
   if (told == MMDB_MEMORY) {
-    must(status == MMDB_ROWS || status == MMDB_TEXT || status >= MMDB_LINE_TOO_LONG, "memory was refused to a short reply");
+    must(status == MMDB_ROWS || status == MMDB_TEXT || status >= MMDB_LINE_TOO_LONG, "an allocation for a short reply failed");
     write_all((const uint8_t *)memory, sizeof memory - 1);
     return;
   }
   must(told == MMDB_DONE && length <= sizeof text, "a reply is too long");
-  must(fits_status(status, (struct rest){text, length}), "the reply is not what the status says");
+  must(fits_status(status, (struct rest){text, length}), "the reply does not match its status");
   write_all(text, length);
 }
 
-/* Whether the columns that are told of the line are those of the rows of its reply, in their number and their kinds. */
+/* Whether the line's columns match the rows of its reply in number and kinds. */
 static bool are_columns_of_rows(const mmdb_column *columns, size_t count) {
   mmdb_cell cells[MOST_COLUMNS];
   size_t rows = mmdb_count(&db);
@@ -197,34 +197,34 @@ static bool are_columns_of_rows(const mmdb_column *columns, size_t count) {
   return holds;
 }
 
-/* Compares what is told of the line with its reply, which stays. */
+/* Compares the line's columns and place with its reply, which must not change. */
 static void ask_about_line(uint8_t status) {
   mmdb_column columns[MOST_COLUMNS];
   size_t count = 0;
   must(mmdb_place(&db, line.bytes, line.length, status) <= (status < MMDB_LINE_TOO_LONG ? 0 : line.length), "a place is past the line");
   if (status >= MMDB_LINE_TOO_LONG) return;
-  must(mmdb_columns(&db, line.bytes, line.length, columns, MOST_COLUMNS, &count) == MMDB_DONE, "a line that was answered has no columns");
-  must(status == MMDB_ROWS ? are_columns_of_rows(columns, count) : count == 0, "the columns are others");
+  must(mmdb_columns(&db, line.bytes, line.length, columns, MOST_COLUMNS, &count) == MMDB_DONE, "mmdb_columns failed for a line that was executed");
+  must(status == MMDB_ROWS ? are_columns_of_rows(columns, count) : count == 0, "the columns do not match the rows");
 }
 
 /* From a line to its form. */
 
-/* What stands in front of a token, as far as it tells whether the token can be a hole. */
+/* The token before a literal, as far as it decides whether the literal can be a hole. */
 enum before { NAME, BEFORE_A_LITERAL, MINUS_OF_A_NUMBER, SIGN_OF_A_SHIFT, ELSE };
 
-/* How far a line was looked through. */
+/* The state of scanning a line. */
 struct look {
   size_t at;
   enum before before;
-  bool has_holes; /* here a literal can be a hole: in a change of rows or a question, in front of ORDER */
-  bool is_first;  /* no token has been met yet */
+  bool has_holes; /* a literal can be a hole here: in a change of rows or a query, before ORDER */
+  bool is_first;  /* no token was found yet */
 };
 
 static bool is_word(uint8_t byte) {
   return (byte >= '0' && byte <= '9') || (byte >= 'a' && byte <= 'z') || (byte >= 'A' && byte <= 'Z') || byte == '_';
 }
 
-/* Whether digits are a number of 64 bits, which is then written to *number. Sums are negative ones, since the least number has no opposite. */
+/* Writes digits as a number, and returns whether it fits into 64 bits. Sums are negative, since the least number has no positive counterpart. */
 static bool read_number(const uint8_t *digits, size_t count, bool is_negative, int64_t *number) {
   int64_t sum = 0;
   for (size_t i = 0; i < count; i++)
@@ -249,7 +249,7 @@ static mmdb_cell *add_hole(void) {
   return value;
 }
 
-/* Puts a hole in place of digits, and of the minus in front of them that is part of the number; or copies them, where no hole may stand. */
+/* Replaces digits, and a minus that is part of the number, by a hole; or copies the digits if no hole is allowed. */
 static void add_digits(struct look *look, const uint8_t *digits, size_t count) {
   bool is_negative = look->before == MINUS_OF_A_NUMBER && form.bytes[form.length - 1] == '-';
   bool fits = is_negative || look->before == BEFORE_A_LITERAL || look->before == SIGN_OF_A_SHIFT;
@@ -273,7 +273,7 @@ static void add_word(struct look *look, const uint8_t *word, size_t length) {
   look->is_first = false;
 }
 
-/* Puts a hole in place of a text, or copies it. Tells whether the text has an end. */
+/* Replaces a text by a hole, or copies it. Returns whether the text is closed. */
 static bool add_text(struct look *look) {
   mmdb_cell value = {.kind = MMDB_STRING};
   size_t start = look->at, length = 0;
@@ -292,7 +292,7 @@ static bool add_text(struct look *look) {
   return true;
 }
 
-/* Copies a symbol, or a byte that is part of no token. */
+/* Copies a symbol, or a byte outside of all tokens. */
 static void add_symbol(struct look *look) {
   uint8_t byte = line.bytes[look->at++];
   copy(&byte, 1);
@@ -303,7 +303,7 @@ static void add_symbol(struct look *look) {
   look->is_first = false;
 }
 
-/* Makes the form of the line. Tells whether it has one: a line that is too long has none, nor one with a question mark or with half a text. */
+/* Computes the form of the line, and returns whether it has one. A line that is too long, has a question mark or an unclosed text has none. */
 static bool make_form(void) {
   struct look look = {.at = 0, .before = ELSE, .has_holes = false, .is_first = true};
   form.length = form.count = 0;
@@ -331,21 +331,21 @@ static bool make_form(void) {
 
 /* Statements. */
 
-/* A place for a statement. Where as many are kept as may be, the one that was made first is dropped for it. */
+/* A slot for a statement. If all slots are taken, the oldest statement is deleted. */
 static struct kept *place_for_one_more(void) {
   if (number_kept < MOST_KEPT) return &kept[number_kept++];
   struct kept *place = &kept[next_to_replace++ % MOST_KEPT];
-  must(mmdb_finalize(&db, place->statement) == MMDB_DONE, "a kept statement was not there");
+  must(mmdb_finalize(&db, place->statement) == MMDB_DONE, "a kept statement does not exist");
   return place;
 }
 
-/* The kept statement of the form, or NULL where it can't be prepared. */
+/* The statement of the form, prepared now or before, or NULL if the form cannot be prepared. */
 static const struct kept *statement_of_form(void) {
   for (size_t i = 0; i < number_kept; i++)
     if (kept[i].length == form.length && !memcmp(kept[i].bytes, form.bytes, form.length)) return &kept[i];
   size_t statement, parameters;
   if (mmdb_prepare(&db, form.bytes, form.length, &statement) != MMDB_DONE) return NULL;
-  must(mmdb_parameters(&db, statement, &parameters) == MMDB_DONE && parameters == form.count, "a statement takes another number of values");
+  must(mmdb_parameters(&db, statement, &parameters) == MMDB_DONE && parameters == form.count, "a statement has another number of parameters");
   struct kept *place = place_for_one_more();
   place->statement = statement;
   place->length = form.length;
@@ -360,7 +360,7 @@ static void answer(bool by_statements) {
   write_reply(status);
 }
 
-/* Opens the database, and has it take room for the text of a short reply, which it keeps. Tells whether it got the memory for both. */
+/* Opens the database, and makes it allocate its buffer for the text of short replies. Returns whether both succeeded. */
 static bool open_with_room(void) {
   uint8_t none;
   size_t length;

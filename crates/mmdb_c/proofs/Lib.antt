@@ -1,8 +1,11 @@
 mod BlockSteps
+mod CallSequences
 mod CellLemmas
 mod ColumnLemmas
 mod GlobalSteps
 mod HandleSteps
 mod Plans
+mod ReadExamples
 mod RowsRead
+mod RunExamples
 mod Running

@@ -28,85 +28,85 @@ use Rattle.mmdb_c.specs.Words.{IsNoRefusal}
 use Rattle.mmdb_c.specs.declared.cell.Cell.{Cell}
 use Rattle.mmdb_c.specs.declared.column.ColumnCell.{ColumnCell}
 
--- What a call does at an open handle, and what it comes to at a closed one, which stays closed.
+-- A call does this with an open handle, which stays open, or that with a closed one, which stays closed.
 abbrev pub OnOpen : (SessionState → SessionState → Type 0) → Type 0 → Option SessionState → Option SessionState → Type 0
 OnOpen Does Closed None None = Closed
 OnOpen Does Closed None (Some new) = ⊥
 OnOpen Does Closed (Some old) None = ⊥
 OnOpen Does Closed (Some old) (Some new) = Does old new
 
--- A line was answered, and the status tells of the reply.
+-- The session executed the line, and the status is that of the reply.
 pub record Executes (line : List ℕ) (status : ℕ) (old new : SessionState) : Type 0 where
   pub answers : AnswersLine line old new
   pub status_is : status ≡ status_of new.reply
 
--- It is told whether a transaction is open.
+-- The result says whether a transaction is open.
 abbrev pub InTransaction : Bool → SessionState → SessionState → Type 0
 InTransaction open_now old new = (new ≡ old) × (open_now ≡ has_transaction old.state)
 
--- It is told how many rows all calls changed.
+-- The result is the number of rows that all calls changed.
 abbrev pub TellsChanges : ℕ → SessionState → SessionState → Type 0
 TellsChanges changes old new = (new ≡ old) × (changes ≡ old.changes)
 
--- The number that is told of a statement that was made; where none was, it is as before.
+-- The number of the new statement, or the number from before if there is none.
 abbrev pub number_told : Result ℕ Refusal → ℕ → ℕ
 number_told result before = option_map_or (λ number. number) (result_ok result) before
 
--- A line was made a statement, whose number is told, or refused.
+-- The line was prepared and its number written, or the call failed.
 pub record Prepares (line : List ℕ) (number_old number_new status : ℕ) (old new : SessionState) : Type 0 where
   pub result : Result ℕ Refusal
   pub prepared : IsPrepared line old new result
   pub number_is : number_new ≡ number_told result number_old
   pub status_is : status ≡ status_of_result result
 
--- It is told how many values a statement takes. Where there is no such statement, that is misuse.
+-- The number of holes of a statement was written; or there is no such statement, and the call is a misuse.
 abbrev pub TellsParameters : ℕ → ℕ → ℕ → ℕ → SessionState → SessionState → Type 0
 TellsParameters number count_old count_new status old new =
     (new ≡ old) × (((parameters_at number old.lines ≡ Some count_new) × (status ≡ done))
     ⊎ ((parameters_at number old.lines ≡ None) × (count_new ≡ count_old) × (status ≡ misuse)))
 
--- The number of a statement's kind is told. Where there is no such statement, that is misuse.
+-- The number of a statement's kind was written; or there is no such statement, and the call is a misuse.
 abbrev pub TellsKind : ℕ → ℕ → ℕ → ℕ → SessionState → SessionState → Type 0
 TellsKind number kind_old kind_new status old new =
     (new ≡ old) × (((kind : StatementKind) × IsKindOf (line_at number old.lines) (Some kind) × (kind_new ≡ kind_number kind) × (status ≡ done))
     ⊎ ((line_at number old.lines ≡ None) × (kind_new ≡ kind_old) × (status ≡ misuse)))
 
--- A statement was run with the values that cells stand for, and the status tells of the reply.
+-- The statement ran with the values that the cells stand for, and the status is that of the reply.
 pub record RunsValues (number : ℕ) (cells : List Cell) (status : ℕ) (old new : SessionState) : Type 0 where
   pub values : List Value
   pub stand : StandFor cells values
   pub runs : RunsAt number values old new
   pub status_is : status ≡ status_of new.reply
 
--- A statement cannot be run with cells: none of the number takes as many values, or a cell stands for no value.
+-- Running the statement with these cells is a misuse: no statement with the number has as many holes, or a cell is not a value.
 abbrev pub IsMisuseOf : ℕ → List Cell → SessionState → Type 0
 IsMisuseOf number cells old = (parameters_at number old.lines ≢ Some (length cells)) ⊎ ((values : List Value) → StandFor cells values → ⊥)
 
--- Memory was refused to the value of a cell: the cells up to there stand for values, as many as the statement takes.
+-- An allocation for the value of a cell failed: the cells up to that one are values, and there are as many cells as holes.
 abbrev pub RefusesMemory : ℕ → List Cell → ℕ → SessionState → Type 0
 RefusesMemory number cells status old =
     (status ≡ refusal_number Memory) × (parameters_at number old.lines ≡ Some (length cells)) × ((place : ℕ) × StandUpTo place cells)
 
--- A statement was not run with cells, and nothing changes: that is misuse, or memory was refused to a value.
+-- The statement did not run: the call is a misuse, or an allocation for a value failed.
 abbrev pub RefusesCells : ℕ → List Cell → ℕ → SessionState → Type 0
 RefusesCells number cells status old = ((status ≡ misuse) × IsMisuseOf number cells old) ⊎ RefusesMemory number cells status old
 
--- A statement was run with cells, or was not.
+-- The statement ran with the values of the cells; or it did not run, and nothing changed.
 abbrev pub RunsCells : ℕ → List Cell → ℕ → SessionState → SessionState → Type 0
 RunsCells number cells status old new = RunsValues number cells status old new ⊎ ((new ≡ old) × RefusesCells number cells status old)
 
--- The query of a statement was explained with the values that cells stand for, and the status tells of the reply.
+-- The statement's query was explained with the values that the cells stand for, and the status is that of the reply.
 pub record ExplainsValues (number : ℕ) (cells : List Cell) (status : ℕ) (old new : SessionState) : Type 0 where
   pub values : List Value
   pub stand : StandFor cells values
   pub explains : ExplainsAt number values old new
   pub status_is : status ≡ status_of new.reply
 
--- The statement of a number has no query.
+-- The statement with the number has no query.
 abbrev pub LacksPlanAt : ℕ → SessionState → Type 0
 LacksPlanAt number old = (line : List ℕ) × (line_at number old.lines ≡ Some line) × LacksPlan line
 
--- The statement of a number has a query.
+-- The statement with the number has a query.
 pub record HasPlanAt (number : ℕ) (old : SessionState) : Type 0 where
   pub line : List ℕ
   pub is : line_at number old.lines ≡ Some line
@@ -115,81 +115,81 @@ pub record HasPlanAt (number : ℕ) (old : SessionState) : Type 0 where
   pub query : Query
   pub asks : query_of command ≡ Some query
 
--- The query of a statement was not explained, and nothing changes: that is misuse, or memory was refused to a value.
+-- The statement's query was not explained: the call is a misuse, or an allocation for a value failed.
 abbrev pub RefusesPlan : ℕ → List Cell → ℕ → SessionState → Type 0
 RefusesPlan number cells status old =
     ((status ≡ misuse) × (IsMisuseOf number cells old ⊎ LacksPlanAt number old))
     ⊎ (RefusesMemory number cells status old × HasPlanAt number old)
 
--- The query of a statement was explained with cells, or was not.
+-- The statement's query was explained with the values of the cells; or it was not, and nothing changed.
 abbrev pub ExplainsCells : ℕ → List Cell → ℕ → SessionState → SessionState → Type 0
 ExplainsCells number cells status old new =
     ExplainsValues number cells status old new ⊎ ((new ≡ old) × RefusesPlan number cells status old)
 
--- The latest savepoint of a name was released, or that is refused.
+-- The latest savepoint with the name was released, or the release was refused.
 pub record ReleasesName (name : List ℕ) (status : ℕ) (old new : SessionState) : Type 0 where
   pub result : Result (Unit {0}) Refusal
   pub releases : Releases name old new result
   pub status_is : status ≡ status_of_result result
 
--- A statement was taken away. Where there is none of the number, that is misuse.
+-- The statement was deleted; or there is none with the number, and the call is a misuse.
 abbrev pub TakesStatement : ℕ → ℕ → SessionState → SessionState → Type 0
 TakesStatement number status old new =
     ((status ≡ done) × TakesAway number old new) ⊎ ((status ≡ misuse) × (new ≡ old) × (line_at number old.lines ≡ None))
 
--- A closed handle was opened, with a new session. At an open one nothing happens, nor where memory is refused.
+-- A closed handle was opened with a new session; or the handle was open or an allocation failed, and nothing changed.
 abbrev pub Opens : ℕ → Option SessionState → Option SessionState → Type 0
 Opens status old new =
     ((old ≡ None) × (new ≡ Some new_session) × (status ≡ done))
     ⊎ ((new ≡ old) × (((old ≢ None) × (status ≡ misuse)) ⊎ ((old ≡ None) × (status ≡ refusal_number Memory))))
 
--- It is told how many rows the reply has or tells of.
+-- The result is the number of rows that the reply has or counts.
 abbrev pub Counts : ℕ → SessionState → SessionState → Type 0
 Counts count old new = (new ≡ old) × (count ≡ count_of old.reply)
 
--- Rows of the reply were read into cells.
+-- Rows of the reply were copied into cells.
 abbrev pub Reads : ℕ → List Cell → List Cell → ℕ → SessionState → SessionState → Type 0
 Reads first out_old out_new rows old new = (new ≡ old) × ReadsRows (rows_of old.reply) first out_old out_new rows
 
--- The text of the reply was copied as far as there was room, and its whole length is told. Where memory for it is refused, nothing is.
+-- As many bytes of the reply's text as fit were copied, and its length was written; or an allocation failed, and nothing was written.
 abbrev pub TellsText : List ℕ → List ℕ → ℕ → ℕ → ℕ → SessionState → SessionState → Type 0
 TellsText old_out new_out length_old length_new status old new =
     (new ≡ old) × (((status ≡ done) × (length_new ≡ length (text_of old.reply)) × CopiesFront (text_of old.reply) old_out new_out)
     ⊎ ((status ≡ refusal_number Memory) × (length_new ≡ length_old) × (new_out ≡ old_out)))
 
--- The columns of the rows that a line replies are told, or it is refused: it has no reading, or memory was refused.
+-- The columns of the rows that a line returns were written; or the line cannot be read or an allocation failed, and nothing was written.
 abbrev pub TellsColumns : List ℕ → List ColumnCell → List ColumnCell → ℕ → ℕ → ℕ → SessionState → SessionState → Type 0
 TellsColumns line out_old out_new count_old count_new status old new =
     (new ≡ old) × (((columns : List Column) × AreColumnsOf line old.state columns × WritesColumns columns out_old out_new count_new × (status ≡ done))
     ⊎ ((refusal : Refusal) × ((template_of line ≡ Err refusal) ⊎ (refusal ≡ Memory)) × (status ≡ refusal_number refusal)
     × (out_new ≡ out_old) × (count_new ≡ count_old)))
 
--- The status of a statement whose columns are not told: misuse where there is no such statement, else want of memory.
+-- The status if a statement's columns were not written: misuse if there is no such statement, and a failed allocation otherwise.
 abbrev pub status_untold : Option (List ℕ) → ℕ
 status_untold None = misuse
 status_untold (Some line) = refusal_number Memory
 
--- The columns of the rows that a statement replies are told, or nothing is.
+-- The columns of the rows that a statement returns were written, or the call failed and nothing was written.
 abbrev pub TellsStatementColumns : ℕ → List ColumnCell → List ColumnCell → ℕ → ℕ → ℕ → SessionState → SessionState → Type 0
 TellsStatementColumns number out_old out_new count_old count_new status old new =
     (new ≡ old) × (((columns : List Column) × AreColumnsFound (line_at number old.lines) old.state columns
     × WritesColumns columns out_old out_new count_new × (status ≡ done))
     ⊎ ((status ≡ status_untold (line_at number old.lines)) × (out_new ≡ out_old) × (count_new ≡ count_old)))
 
--- A place within a line is told, or 0 where no refusal has the number.
+-- The result is a place within the line: 0 if no refusal has the number.
 pub record FindsPlace (line : List ℕ) (number place : ℕ) (old new : SessionState) : Type 0 where
   pub same : new ≡ old
   pub within : place ≤ length line
   pub none : IsNoRefusal number → place ≡ 0
 
--- A statement was run, and then rows of its reply were read from the first on; where the reply has none, no cell changes.
+-- The statement ran, and then rows of its reply were copied from the first one on; if the reply has no rows, no cell changed.
 pub record Queries (number : ℕ) (cells : List Cell) (out_old out_new : List Cell) (rows status : ℕ) (old new : SessionState) : Type 0 where
   pub runs : RunsCells number cells status old new
   pub read : (status ≡ has_rows) → ReadsRows (rows_of new.reply) 0 out_old out_new rows
   pub none : (status ≢ has_rows) → (rows ≡ 0) × (out_new ≡ out_old)
 
--- A statement was run with the cells in rows of a width, row by row, until one was refused or misused, or none was left. It is told how
--- many runs were done, and the status is that of the one that stopped them, or done.
+-- The statement ran with each row of cells in turn, until a run failed or no row was left; the count is that of the runs that succeeded,
+-- and the status is that of the failed run, or `done`.
 abbrev pub RunsMany : ℕ → ℕ → ℕ → List Cell → ℕ → SessionState → SessionState → Type 0
 RunsMany number width zero cells status old new =
     ((cells ≡ []) × (status ≡ done) × (new ≡ old))
@@ -198,7 +198,7 @@ RunsMany number width (suc count) cells status old new =
     (one : ℕ) × (between : SessionState) × (cells ≢ []) × (one < first_refusal_number) × RunsCells number (take width cells) one old between
     × RunsMany number width count (drop width cells) status between new
 
--- The same where rows have a width; those of no cells are misuse.
+-- The statement ran with each row of cells in turn; a width of 0 is a misuse.
 abbrev pub RunsRows : ℕ → ℕ → ℕ → List Cell → ℕ → SessionState → SessionState → Type 0
 RunsRows number width count cells status old new =
     ((0 < width) × RunsMany number width count cells status old new) ⊎ ((width ≡ 0) × (new ≡ old) × (count ≡ 0) × (status ≡ misuse))

@@ -1,27 +1,27 @@
--- What the cells of C stand for.
+-- The values that cells stand for.
 use Rattle.std.specs.Prelude.{◌≡◌, ℕ, ◌+◌, ◌<◌, List, [], ◌∷◌, length, take}
 use Rattle.mm_value.specs.Text.{IsText}
 use Rattle.mm_value.specs.declared.values.Value.{Value}
 use Rattle.mm_value.specs.declared.values.Value.TheVariants.{Int, Text}
 use Rattle.mmdb_c.specs.declared.cell.Cell.{Cell}
 
--- A cell stands for a value: of kind 0 for its number, and of kind 1 for the text of its first bytes.
+-- A cell of kind 0 stands for its number, and a cell of kind 1 for the text in its first bytes.
 abbrev pub StandsFor : Cell → Value → Type 0
 StandsFor cell (Int number) = (cell.kind ≡ 0) × (cell.number ≡ number)
 StandsFor cell (Text text) = (cell.kind ≡ 1) × (cell.len ≡ length text) × (take (length text) cell.text ≡ text) × IsText text
 
--- A value that is copied to a block of its own: a text of more than 16 bytes.
+-- A value whose copy allocates: a text of more than 16 bytes.
 abbrev pub NeedsMemory : Value → Type 0
 NeedsMemory (Int number) = ⊥
 NeedsMemory (Text text) = 16 < length text
 
--- Each of the cells stands for the value at its place, and there are as many values.
+-- There are as many cells as values, and each cell stands for the value at its place.
 abbrev pub StandFor : List Cell → List Value → Type 0
 StandFor [] [] = Unit {0}
 StandFor [] (value ∷ values) = ⊥
 StandFor (cell ∷ cells) [] = ⊥
 StandFor (cell ∷ cells) (value ∷ values) = StandsFor cell value × StandFor cells values
 
--- A cell, and each before it, stands for a value.
+-- The cell at a place and all cells before it stand for values.
 abbrev pub StandUpTo : ℕ → List Cell → Type 0
 StandUpTo place cells = (place < length cells) × ((values : List Value) × StandFor (take (place + 1) cells) values)

@@ -1,6 +1,6 @@
--- Bytes copied into the memory of C.
+-- Copying bytes into the caller's memory.
 use Rattle.std.specs.Prelude.{◌≡◌, ◌++◌, ℕ, List, drop, length, take}
 
--- Bytes were copied as far as there was room. The bytes behind them stay.
+-- As many bytes as fit were copied, and the rest of the output is unchanged.
 abbrev pub CopiesFront : List ℕ → List ℕ → List ℕ → Type 0
 CopiesFront bytes old new = new ≡ take (length old) bytes ++ drop (length bytes) old

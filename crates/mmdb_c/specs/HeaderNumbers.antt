@@ -1,4 +1,4 @@
--- The numbers of the header, for laws: what a turned definition would break.
+-- The numbers of the header, for laws that a wrong definition would violate.
 use Rattle.std.specs.Prelude.{◌≡◌, ℕ, List, Some, None}
 use Rattle.mm_value.specs.declared.refusal.Refusal.{Refusal}
 use Rattle.mm_value.specs.declared.refusal.Refusal.TheVariants as refusal

@@ -5,7 +5,7 @@ use Rattle.mm_session.specs.declared.statement_kind.StatementKind.TheVariants.{N
 use Rattle.mm_session.specs.declared.statement_kind.StatementKind.TheVariants.{Update, Delete, Scan, ScanIndex, Select, Show, Explain, Tables}
 use Rattle.mm_session.specs.declared.statement_kind.StatementKind.TheVariants.{Begin, Commit, Rollback, Savepoint, RollbackTo}
 
--- The number of a kind: the tens tell of definitions, changes of rows, questions with rows, questions with a text, and transactions.
+-- The number of a kind, in groups of ten: definitions, changes of rows, queries with rows, queries with a text, and transactions.
 abbrev pub kind_number : StatementKind → ℕ
 kind_number Nothing = 0
 kind_number Table = 10

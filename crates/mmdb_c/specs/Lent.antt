@@ -1,4 +1,4 @@
--- What becomes of a handle whose value was lent.
+-- Handles whose session is borrowed.
 use base.Fml.{Fml}
 use Rattle.std.specs.Prelude.{Option, Some, None, cond}
 use Rattle.std.specs.Borrow.{MutBor, follows}
@@ -7,14 +7,14 @@ use Rattle.mmdb_c.specs.declared.handle.Handle.{Handle}
 use Rattle.mmdb_c.specs.contracts.handle.Handle as handle
 use Rattle.mmdb_c.specs.contracts.library.Library as library
 
--- The state of an open handle; a closed one has none.
+-- The session's state if the handle is open, and None if it is closed.
 abbrev pub held : Handle → Option SessionState
 held h = cond h.is_open (Some h.value) None
 
--- The handle h with the value w.
+-- The handle h with the session's state w.
 abbrev pub with_value : Handle → SessionState → Handle
 with_value h w = record { at = h.at; is_open = h.is_open; heap = h.heap; value = w }
 
--- Once the borrow r is over, the handle holds what was written last through r.
+-- When the borrow r ends, the handle h has the state that was last written through r.
 abbrev pub handle_follows : MutBor Handle → MutBor SessionState → Fml
 handle_follows h r = follows handle.the_row library.the_row h.ghost_name r.ghost_name (with_value h.now)

@@ -14,6 +14,6 @@ use Rattle.std.specs.contracts.impls.GlobalAllocator.TheImpl.{ghosts}
 abbrev pub block_owns : (Ty → Ptr → Fml) → (R : RattleType) → Ptr → R.Denot → Fml
 block_owns may_free R p x = fsep (lies_at R full_share p x) (may_free (raw (lone R.mir)) p)
 
--- An open handle owns its block, which is one of the heap, and a closed one nothing.
+-- An open handle owns its block on the heap, and a closed handle owns nothing.
 abbrev pub handle_owns : Global → (R : RattleType) → Bool → Ptr → R.Denot → Fml
 handle_owns heap R is_open p x = cond is_open (block_owns (ghosts.dealloc_token heap) R p x) ftrue

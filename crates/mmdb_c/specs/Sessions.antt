@@ -1,8 +1,8 @@
--- What a session is at first.
+-- The initial state of a session.
 use Rattle.std.specs.Prelude.{[], None}
 use Rattle.mm_query.specs.State.{first_state}
 use Rattle.mm_session.specs.Session.{SessionState}
 
--- A session that has an empty database, no statements and no reply, and that changed no row.
+-- A session with an empty database, no statements, no reply, and no changed rows.
 abbrev pub new_session : SessionState
 new_session = record { state = first_state; lines = []; reply = None; changes = 0 }

@@ -9,13 +9,13 @@ use Rattle.mmdb_c.specs.Statuses.{misuse}
 abbrev pub IsNoRefusal : ℕ → Type 0
 IsNoRefusal number = (refusal : Refusal) → refusal_number refusal ≢ number
 
--- These are the words of a status: those of the refusal with this number, "misuse", or none for any other number.
+-- These are the words of a status: the text of the refusal with this number, "misuse", or nothing for any other number.
 abbrev pub AreWordsOf : ℕ → List ℕ → Type 0
 AreWordsOf status words =
     ((refusal : Refusal) × (refusal_number refusal ≡ status) × (words ≡ refusal_text refusal))
     ⊎ (((status ≡ misuse) × (words ≡ codes "misuse")) ⊎ (IsNoRefusal status × (status ≢ misuse) × (words ≡ [])))
 
--- The words of a status were copied as far as there was room, and it is told how long they are.
+-- As many bytes of a status's words as fit were copied, and the count is the length of all words.
 pub record TellsWords (status : ℕ) (old new : List ℕ) (count : ℕ) : Type 0 where
   pub words : List ℕ
   pub are : AreWordsOf status words

@@ -1,3 +1,3 @@
--- What the pieces of the code do. They say how these fit together, and not what is promised.
+-- Contracts between the parts of the crate. No promise to callers depends on them.
 pub mod Reading
 pub mod Running

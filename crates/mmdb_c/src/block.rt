@@ -1,10 +1,10 @@
-//! A value on the heap, between a box and a handle.
+//! Owned heap values whose pointer a handle can store.
 ghost use Rattle.std.specs.Prelude.{◌≡◌};
 
 use std::alloc::Allocator;
 use std::marker::Model;
 
-/// Owns a value on the heap, as a `Box` does, with a pointer that this crate can read.
+/// Owns a value on the heap, as a `Box` does, but exposes its pointer.
 pub(crate) struct Block<T, A: Allocator> {
     pub(crate) at: *mut T,
     pub(crate) alloc: A,
@@ -18,7 +18,7 @@ impl<T, A: Allocator> Model for Block<T, A> {
 }
 
 impl<T: Drop, A: Allocator> Block<T, A> {
-    /// Returns the block of a box.
+    /// Turns a box into a block.
     pub(crate) fn from_box(boxed: Box<T, A>) -> Block<T, A>
         ensures { result.value ≡ boxed.value }
     {
@@ -26,7 +26,7 @@ impl<T: Drop, A: Allocator> Block<T, A> {
         Block { at, alloc }
     }
 
-    /// Returns the block as a box.
+    /// Turns the block into a box.
     pub(crate) fn into_box(self) -> Box<T, A>
         ensures { result.value ≡ self.value }
     {

@@ -1,4 +1,4 @@
-//! Values as C has them.
+//! Values in their C layout.
 ghost use Rattle.std.specs.Prelude.{◌≡◌, IfOk, IsErrOf, List, OnOk, ℕ};
 ghost use Rattle.mm_value.specs.declared.values.Value.{Value};
 ghost use Rattle.mmdb_c.specs.Cells.{NeedsMemory, StandFor, StandUpTo, StandsFor};
@@ -12,7 +12,7 @@ pub(crate) const NUMBER_KIND: u8 = 0;
 /// The kind of a cell with a text.
 pub(crate) const TEXT_KIND: u8 = 1;
 
-/// A value as C has it: a number, or the first bytes of a text.
+/// A value in its C layout: a number, or a text in the first bytes of `text`.
 #[repr(C)]
 #[derive(Clone, Copy)]
 pub struct Cell {
@@ -22,7 +22,7 @@ pub struct Cell {
     text: [u8; 64],
 }
 
-/// Why cells were not read.
+/// Why reading cells failed.
 #[derive(Debug, Drop, Error)]
 pub(crate) enum CellError {
     /// A cell is not a value.
@@ -44,8 +44,8 @@ impl<T: Drop> From<AllocFailed<T>> for CellError {
 }
 
 impl Cell {
-    /// Returns the value of the cell. Fails with `NoValue` if the kind is neither of the two, or the text is too long or has a line feed,
-    /// and with `Memory` only for a text of more than 16 bytes.
+    /// Returns the value of the cell. Fails with `NoValue` if the kind is unknown, or the text is too long or contains a line feed. Fails
+    /// with `Memory` only for a text of more than 16 bytes.
     fn value(&self, alloc: Global) -> Result<Value, CellError>
         ensures ok { IfOk result (λ value. StandsFor self.now value) }
         ensures none { IsErrOf result CellError.NoValue → (value : Value) → StandsFor self.now value → ⊥ }
@@ -58,7 +58,7 @@ impl Cell {
         }
     }
 
-    /// Returns the text of a cell of the kind of texts.
+    /// Returns the value of a cell whose kind is `TEXT_KIND`. Fails as `value` does.
     fn text_value(&self, alloc: Global) -> Result<Value, CellError>
         requires { self.now.kind ≡ 1 }
         ensures ok { IfOk result (λ value. StandsFor self.now value) }
@@ -76,7 +76,7 @@ impl Cell {
         }
     }
 
-    /// Stores a value in the cell. The fields that the value does not need are unchanged.
+    /// Stores a value in the cell. Fields that the value does not need are unchanged.
     pub(crate) fn set(&mut self, value: &Value)
         ensures { StandsFor self.new value.now }
     {
@@ -95,8 +95,8 @@ impl Cell {
     }
 }
 
-/// Replaces the values of a buffer by those of cells. Fails with `NoValue` if a cell is not a value, and with `Memory` if an allocation for
-/// the value of a cell fails; that cell and those before it are values then. After an error the buffer has the values so far.
+/// Replaces the contents of a buffer with the values of cells. Fails with `NoValue` if a cell is not a value, and with `Memory` if an
+/// allocation for a cell's value fails; that cell and those before it are values then. After an error the buffer has the values so far.
 pub(crate) fn read_cells(
     alloc: Global,
     cells: &[Cell],

@@ -1,4 +1,4 @@
-//! Columns as C has them.
+//! Columns in their C layout.
 ghost use Rattle.std.specs.Prelude.{◌≡◌, ◌++◌, drop, length, map, take};
 ghost use Rattle.mmdb_c.specs.Columns.{WritesColumns, column_cell, kind_of};
 
@@ -6,7 +6,7 @@ use crate::cell::{NUMBER_KIND, TEXT_KIND};
 use mm_schema::Column;
 use mm_value::ColType;
 
-/// A column as C has it: the kind of its cells, and its name, padded with 0.
+/// A column in its C layout: the kind of its cells, and its name, padded with zeros.
 #[repr(C)]
 #[derive(Clone, Copy)]
 pub struct ColumnCell {
@@ -16,7 +16,7 @@ pub struct ColumnCell {
 }
 
 impl ColumnCell {
-    /// Returns the cell of a column.
+    /// Returns a column in its C layout.
     fn of(column: &Column) -> ColumnCell
         ensures { result ≡ column_cell column.now }
     {
@@ -31,7 +31,7 @@ impl ColumnCell {
     }
 }
 
-/// Returns the kind of the cells of a type.
+/// Returns the kind of cells with values of a type.
 fn kind_of(col_type: ColType) -> u8
     ensures { result ≡ kind_of col_type }
 {
@@ -41,7 +41,7 @@ fn kind_of(col_type: ColType) -> u8
     }
 }
 
-/// Writes as many columns as fit.
+/// Writes as many columns as fit. The other cells are unchanged.
 fn set_columns(cells: &mut [ColumnCell], columns: &[&Column])
     ensures { cells.new ≡ map (λ column. column_cell column.now) (take (length cells.old) columns.now) ++ drop (length columns.now) cells.old }
 {
@@ -50,7 +50,7 @@ fn set_columns(cells: &mut [ColumnCell], columns: &[&Column])
     }
 }
 
-/// Writes as many columns as fit, and the number of all of them.
+/// Writes as many columns as fit, and the number of all columns.
 pub(crate) fn write_columns(columns: &[&Column], cells: &mut [ColumnCell], count: &mut usize)
     ensures { WritesColumns (map (λ column. column.now) columns.now) cells.old cells.new count.new }
 {

@@ -1,4 +1,4 @@
-//! The handle that C holds.
+//! The handle of a C program.
 ghost use Rattle.std.specs.Prelude.{◌≡◌, Some, None, true, false};
 ghost use Rattle.mm_session.specs.Session.{SessionState};
 ghost use Rattle.std.specs.declared.alloc.Global.{Global};
@@ -9,7 +9,7 @@ use std::alloc::Global;
 use std::marker::Model;
 use std::ptr::null_mut;
 
-/// A handle: a pointer to a session, and whether there is one.
+/// A handle: a pointer to a `Library`, and whether the handle is open.
 #[repr(C)]
 #[derive(Drop)]
 pub struct Handle {
@@ -47,7 +47,7 @@ impl Handle {
         self.is_open
     }
 
-    /// Returns the session of an open handle.
+    /// Borrows the library of an open handle.
     pub(crate) fn as_mut(&mut self) -> &mut Library
         requires { self.old.is_open ≡ true }
         ensures* writes_back { sem 𝓛 (handle_follows self.entry result) }

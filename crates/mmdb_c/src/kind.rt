@@ -1,10 +1,10 @@
-//! The kinds of statements as C has them.
+//! The kinds of statements as numbers of the header.
 ghost use Rattle.std.specs.Prelude.{◌≡◌};
 ghost use Rattle.mmdb_c.specs.Kinds.{kind_number};
 
 use mm_session::StatementKind;
 
-/// Returns the number of a kind.
+/// Returns the header's number of a kind.
 pub(crate) fn kind_number(kind: StatementKind) -> u8
     ensures { result ≡ kind_number kind }
 {

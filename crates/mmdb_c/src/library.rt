@@ -1,4 +1,4 @@
-//! What a handle leads to.
+//! What an open handle points to: a session with reusable buffers.
 ghost use Rattle.std.specs.Prelude.{◌≡◌, IfErr, List, OnOk, Some, false, true, ℕ};
 ghost use Rattle.mmdb_c.specs.Calls.{Counts, Executes, ExplainsCells, FindsPlace, HasPlanAt, InTransaction, Prepares, Queries, Reads};
 ghost use Rattle.mmdb_c.specs.Calls.{RefusesCells, ReleasesName, RunsCells, RunsRows, TakesStatement, TellsChanges, TellsColumns};
@@ -20,7 +20,7 @@ use std::alloc::Global;
 use std::marker::Model;
 use std::mem::replace;
 
-/// A session, seen as its state, and two buffers that calls reuse: for the values of a run and for the text of a reply.
+/// A session, modelled as its state, and two buffers that calls reuse: one for the values of a run, one for the text of a reply.
 #[derive(Drop)]
 pub(crate) struct Library {
     session: Session,
@@ -69,7 +69,7 @@ impl Library {
         }
     }
 
-    /// Writes the number of values that a statement takes, and returns a status.
+    /// Writes the number of holes of a statement, and returns a status.
     pub(crate) fn parameters(&mut self, number: usize, count: &mut usize) -> u8
         ensures { TellsParameters number count.old count.new result self.old self.new }
     {
@@ -105,7 +105,7 @@ impl Library {
         }
     }
 
-    /// Runs a statement with the values of cells, and reads rows of the reply from the first one on.
+    /// Runs a statement with the values of cells, copies rows of the reply, and returns the reply's status.
     pub(crate) fn query(
         &mut self,
         alloc: Global,
@@ -124,7 +124,8 @@ impl Library {
         status
     }
 
-    /// Runs a statement with each row of cells up to the first run that fails, and counts the runs that succeeded.
+    /// Runs a statement with each row of cells up to the first run that fails. Writes the number of runs that succeeded, and returns a
+    /// status.
     pub(crate) fn run_many(
         &mut self,
         alloc: Global,
@@ -182,7 +183,7 @@ impl Library {
         count_of(&self.session.reply())
     }
 
-    /// Copies rows of the reply into cells, and returns how many.
+    /// Copies rows of the reply into cells, and returns the number of rows copied.
     pub(crate) fn read(&mut self, first: usize, cells: &mut [Cell]) -> usize
         ensures { Reads first cells.old cells.new result self.old self.new }
     {
@@ -208,7 +209,7 @@ impl Library {
         }
     }
 
-    /// Writes as many columns of the rows that a line replies as fit, writes the number of all of them, and returns a status.
+    /// Writes as many columns of the rows that a line returns as fit, and the number of all of them. Returns a status.
     pub(crate) fn columns(
         &mut self,
         alloc: Global,
@@ -226,7 +227,7 @@ impl Library {
         DONE
     }
 
-    /// Writes as many columns of the rows that a statement replies as fit, writes the number of all of them, and returns a status.
+    /// Writes as many columns of the rows that a statement returns as fit, and the number of all of them. Returns a status.
     pub(crate) fn statement_columns(
         &mut self,
         alloc: Global,
@@ -245,7 +246,7 @@ impl Library {
         DONE
     }
 
-    /// Returns the byte offset in a line to show in the message of the refusal with a number.
+    /// Returns the byte offset in a line to show in the message of the refusal with a number: 0 if there is none.
     pub(crate) fn place(&mut self, alloc: Global, line: &[u8], number: u8) -> usize
         ensures { FindsPlace line.now number result self.old self.new }
     {
@@ -280,7 +281,7 @@ impl Library {
     }
 }
 
-/// Reads the values of cells for a statement, if it takes as many. Fails with the status of the call.
+/// Reads the values of cells for a statement. Fails with the call's status if the statement has another number of holes.
 fn read_values(
     alloc: Global,
     session: &Session,
@@ -301,7 +302,7 @@ fn read_values(
     }
 }
 
-/// Runs a statement with values.
+/// Runs a statement with values, and returns the status of the reply.
 fn run_values(alloc: Global, session: &mut Session, number: usize, values: &[Value]) -> u8
     ensures { RunsWith number values.now result session.old session.new }
 {
@@ -311,7 +312,7 @@ fn run_values(alloc: Global, session: &mut Session, number: usize, values: &[Val
     }
 }
 
-/// Explains the query of a statement with values.
+/// Explains the query of a statement with values, and returns the status of the reply.
 fn explain_values(alloc: Global, session: &mut Session, number: usize, values: &[Value]) -> u8
     ensures { ExplainsWith number values.now result session.old session.new }
 {
@@ -321,7 +322,7 @@ fn explain_values(alloc: Global, session: &mut Session, number: usize, values: &
     }
 }
 
-/// Returns whether a number has a statement with a query.
+/// Returns whether the statement with a number has a query.
 fn has_plan(session: &Session, number: usize) -> bool
     ensures some { result ≡ true → HasPlanAt number session.now }
     ensures none { result ≡ false → (line : List ℕ) → line_at number session.now.lines ≡ Some line → LacksPlan line }

@@ -1,4 +1,4 @@
-//! Lines from C.
+//! The exported calls about lines and transactions.
 ghost use Rattle.std.specs.Prelude.{◌≡◌, false};
 ghost use Rattle.mmdb_c.specs.Lent.{held};
 ghost use Rattle.mmdb_c.specs.Calls.{Executes, FindsPlace, InTransaction, OnOpen, ReleasesName, TellsColumns};
@@ -9,7 +9,7 @@ use crate::handle::Handle;
 use crate::status::MISUSE;
 use std::alloc::Global;
 
-/// Executes a line, stores the reply, and returns its status. Returns misuse if the handle is closed.
+/// Executes a line, stores the reply, and returns its status. Returns `MISUSE` if the handle is closed.
 #[unsafe(no_mangle)]
 pub extern "C" fn mmdb_execute(alloc: Global, db: &mut Handle, line: &[u8]) -> u8
     ensures { OnOpen (Executes line.now result) (result ≡ misuse) (held db.old) (held db.new) }
@@ -20,8 +20,8 @@ pub extern "C" fn mmdb_execute(alloc: Global, db: &mut Handle, line: &[u8]) -> u
     db.as_mut().execute(alloc, line)
 }
 
-/// Writes as many columns of the rows that a line replies as fit, and the number of all of them: 0 if the line replies no rows. The line
-/// may have holes. Returns done; the number of a refusal; or misuse if the handle is closed. If it fails, nothing is written.
+/// Writes as many columns of the rows that a line returns as fit, and the number of all of them: 0 if it returns no rows. The line may
+/// have holes. Returns `DONE`, the number of a refusal, or `MISUSE` if the handle is closed. If it fails, nothing is written.
 #[unsafe(no_mangle)]
 pub extern "C" fn mmdb_columns(
     alloc: Global,
@@ -59,7 +59,7 @@ pub extern "C" fn mmdb_in_transaction(db: &mut Handle) -> bool
     db.is_open() && db.as_mut().is_in_transaction()
 }
 
-/// Releases the latest savepoint with a name, and all savepoints set after it. Returns done; the number of a refusal; or misuse if the
+/// Releases the latest savepoint with a name, and all savepoints set after it. Returns `DONE`, the number of a refusal, or `MISUSE` if the
 /// handle is closed. If it fails, nothing changes.
 #[unsafe(no_mangle)]
 pub extern "C" fn mmdb_release(db: &mut Handle, name: &[u8]) -> u8

@@ -1,4 +1,4 @@
-//! How C opens and closes a database.
+//! The exported calls that open and close a handle.
 ghost use Rattle.std.specs.Prelude.{◌≡◌, None, Some};
 ghost use Rattle.mmdb_c.specs.Lent.{held};
 ghost use Rattle.mmdb_c.specs.Calls.{Opens};
@@ -11,8 +11,8 @@ use mm_value::Refusal;
 use std::alloc::Global;
 use std::mem::replace;
 
-/// Opens a closed handle with a new session. Returns done; misuse if the handle is open; or the number of `Memory`, and the handle stays
-/// closed.
+/// Opens a closed handle with a new session. Returns `DONE`; `MISUSE` if the handle is open; or the number of `Memory`, and the handle
+/// stays closed.
 #[unsafe(no_mangle)]
 pub extern "C" fn mmdb_open(alloc: Global, db: &mut Handle) -> u8
     ensures { Opens result (held db.old) (held db.new) }

@@ -1,4 +1,4 @@
-//! What C reads after a call: the reply, and the count of changed rows.
+//! The exported calls that read the reply and the count of changed rows.
 ghost use Rattle.std.specs.Prelude.{◌≡◌};
 ghost use Rattle.mmdb_c.specs.Calls.{Counts, OnOpen, Reads, TellsChanges, TellsText};
 ghost use Rattle.mmdb_c.specs.Lent.{held};
@@ -31,7 +31,7 @@ pub extern "C" fn mmdb_read(db: &mut Handle, first_row: usize, cells: &mut [Cell
     db.as_mut().read(first_row, cells)
 }
 
-/// Copies as many bytes of the reply's text as fit, and writes its full length. Returns done; the number of `Memory`; or misuse if the
+/// Copies as many bytes of the reply's text as fit, and writes its full length. Returns `DONE`, the number of `Memory`, or `MISUSE` if the
 /// handle is closed. If it fails, nothing is written.
 #[unsafe(no_mangle)]
 pub extern "C" fn mmdb_text(

@@ -1,4 +1,4 @@
-//! What can be read of a reply.
+//! Reading a reply: its rows, their number, and its text.
 ghost use Rattle.std.specs.Prelude.{◌≡◌, ◌+◌, ◌^◌, ◌<◌, ◌≤◌, Some, IfSome, IfNone, OnSome, length, slice_get, false};
 ghost use Rattle.mm_lang.specs.ReplyText.{text_of};
 ghost use Rattle.mm_session.specs.Replies.{reply_lent};
@@ -26,7 +26,7 @@ pub(crate) fn count_of(reply: &LastReply<'_>) -> usize
     }
 }
 
-/// Returns the row of a reply with an index, if there is one.
+/// Returns the row at an index of a reply, if there is one.
 fn row_at<'s>(reply: &LastReply<'s>, place: usize) -> Option<&'s [Value]>
     ensures some { IfSome result (λ row. slice_get (rows_of (reply_lent reply.now)) place ≡ Some row.now) }
     ensures none { IfNone result (length (rows_of (reply_lent reply.now)) ≤ place) }
@@ -39,7 +39,7 @@ fn row_at<'s>(reply: &LastReply<'s>, place: usize) -> Option<&'s [Value]>
     }
 }
 
-/// Writes the values of a row into cells, from an index on.
+/// Stores the values of a row in cells, starting at an index.
 fn set_cells(cells: &mut [Cell], place: usize, row: &[Value])
     requires { place + length row.now ≤ length cells.old }
     ensures { WritesCells place row.now cells.old cells.new }
@@ -49,7 +49,7 @@ fn set_cells(cells: &mut [Cell], place: usize, row: &[Value])
     }
 }
 
-/// Copies rows of a reply into cells, from the first one on, as many whole rows as fit. Returns the number of rows copied.
+/// Copies rows of a reply into cells, starting at row `first`: as many whole rows as fit. Returns the number of rows copied.
 pub(crate) fn read_rows(reply: &LastReply<'_>, first: usize, cells: &mut [Cell]) -> usize
     ensures { ReadsRows (rows_of (reply_lent reply.now)) first cells.old cells.new result }
 {
@@ -66,8 +66,8 @@ pub(crate) fn read_rows(reply: &LastReply<'_>, first: usize, cells: &mut [Cell])
     count
 }
 
-/// Writes the text of a reply, as the program does. Allocates nothing. After `WriteError` the writer has failed, and the start of the text
-/// was written.
+/// Writes the text of a reply, as the program does. Allocates nothing itself. After `WriteError` the writer has failed, and a prefix of the
+/// text was written.
 pub(crate) fn write_text<W: Write>(
     reply: &LastReply<'_>,
     writer: &mut Watched<W>,

@@ -1,4 +1,4 @@
-//! Prepared statements for C.
+//! The exported calls about prepared statements.
 ghost use Rattle.std.specs.Prelude.{◌≡◌};
 ghost use Rattle.mmdb_c.specs.Calls.{ExplainsCells, OnOpen, Prepares, Queries, RunsCells, RunsRows, TakesStatement};
 ghost use Rattle.mmdb_c.specs.Calls.{TellsKind, TellsParameters, TellsStatementColumns};
@@ -11,8 +11,8 @@ use crate::handle::Handle;
 use crate::status::MISUSE;
 use std::alloc::Global;
 
-/// Prepares a line, and writes the number of the statement. Returns done; the number of a refusal; or misuse if the handle is closed. If it
-/// fails, nothing is written.
+/// Prepares a line, and writes the number of the statement. Returns `DONE`, the number of a refusal, or `MISUSE` if the handle is closed.
+/// If it fails, nothing is written.
 #[unsafe(no_mangle)]
 pub extern "C" fn mmdb_prepare(
     alloc: Global,
@@ -28,7 +28,7 @@ pub extern "C" fn mmdb_prepare(
     db.as_mut().prepare(alloc, line, statement)
 }
 
-/// Writes the number of values that a statement takes. Returns done; or misuse if no statement has the number or the handle is closed, and
+/// Writes the number of holes of a statement. Returns `DONE`; or `MISUSE` if no statement has the number or the handle is closed, and
 /// nothing is written.
 #[unsafe(no_mangle)]
 pub extern "C" fn mmdb_parameters(db: &mut Handle, statement: usize, count: &mut usize) -> u8
@@ -40,8 +40,8 @@ pub extern "C" fn mmdb_parameters(db: &mut Handle, statement: usize, count: &mut
     db.as_mut().parameters(statement, count)
 }
 
-/// Writes the number of a statement's kind. Returns done; or misuse if no statement has the number or the handle is closed, and nothing is
-/// written.
+/// Writes the number of a statement's kind. Returns `DONE`; or `MISUSE` if no statement has the number or the handle is closed, and
+/// nothing is written.
 #[unsafe(no_mangle)]
 pub extern "C" fn mmdb_statement_kind(db: &mut Handle, statement: usize, kind: &mut u8) -> u8
     ensures { OnOpen (TellsKind statement kind.old kind.new result) ((result ≡ misuse) × (kind.new ≡ kind.old))
@@ -53,8 +53,8 @@ pub extern "C" fn mmdb_statement_kind(db: &mut Handle, statement: usize, kind: &
     db.as_mut().kind(statement, kind)
 }
 
-/// Writes as many columns of the rows that a statement replies as fit, and the number of all of them: 0 if it replies no rows. Returns
-/// done; the number of `Memory`; or misuse if no statement has the number or the handle is closed. If it fails, nothing is written.
+/// Writes as many columns of the rows that a statement returns as fit, and the number of all of them: 0 if it returns no rows. Returns
+/// `DONE`, the number of `Memory`, or `MISUSE` if no statement has the number or the handle is closed. If it fails, nothing is written.
 #[unsafe(no_mangle)]
 pub extern "C" fn mmdb_statement_columns(
     alloc: Global,
@@ -73,8 +73,9 @@ pub extern "C" fn mmdb_statement_columns(
         .statement_columns(alloc, statement, columns, count)
 }
 
-/// Runs a statement with the values of cells, stores the reply, and returns its status. Returns misuse if the statement takes other values
-/// or the handle is closed, and the number of `Memory` if the values cannot be copied; nothing changes then.
+/// Runs a statement with the values of cells, stores the reply, and returns its status. Returns `MISUSE` if no statement has the number,
+/// the cells are not values for its holes, or the handle is closed, and the number of `Memory` if the values cannot be copied; nothing
+/// changes then.
 #[unsafe(no_mangle)]
 pub extern "C" fn mmdb_run(alloc: Global, db: &mut Handle, statement: usize, values: &[Cell]) -> u8
     ensures { OnOpen (RunsCells statement values.now result) (result ≡ misuse) (held db.old) (held db.new) }
@@ -85,7 +86,8 @@ pub extern "C" fn mmdb_run(alloc: Global, db: &mut Handle, statement: usize, val
     db.as_mut().run(alloc, statement, values)
 }
 
-/// Runs a statement as [`mmdb_run`] does, and copies rows of the reply as `mmdb_read` does.
+/// Runs a statement as [`mmdb_run`] does, copies rows of the reply as `mmdb_read` does, and writes their number. Returns the status of the
+/// run.
 #[unsafe(no_mangle)]
 pub extern "C" fn mmdb_query(
     alloc: Global,
@@ -106,7 +108,7 @@ pub extern "C" fn mmdb_query(
 }
 
 /// Runs a statement with each row of values, `width` cells a row, up to the first run that fails, and writes the number of runs that
-/// succeeded. Returns done; the status of the run that failed; or misuse if the width is 0 or the handle is closed.
+/// succeeded. Returns `DONE`, the status of the run that failed, or `MISUSE` if the width is 0 or the handle is closed.
 #[unsafe(no_mangle)]
 pub extern "C" fn mmdb_run_many(
     alloc: Global,
@@ -125,8 +127,8 @@ pub extern "C" fn mmdb_run_many(
     db.as_mut().run_many(alloc, statement, values, width, runs)
 }
 
-/// Explains the query of a statement with the values of cells, stores the reply, and returns its status. Returns misuse if the statement
-/// has no query or takes other values or the handle is closed, and the number of `Memory` if the values cannot be copied; nothing changes then.
+/// Explains the query of a statement with the values of cells, stores the reply, and returns its status. Returns `MISUSE` as [`mmdb_run`]
+/// does, and if the statement has no query. Returns the number of `Memory` if the values cannot be copied. Nothing changes then.
 #[unsafe(no_mangle)]
 pub extern "C" fn mmdb_explain(
     alloc: Global,
@@ -142,7 +144,7 @@ pub extern "C" fn mmdb_explain(
     db.as_mut().explain(alloc, statement, values)
 }
 
-/// Deletes a statement. Returns done; or misuse if no statement has the number or the handle is closed.
+/// Deletes a statement. Returns `DONE`; or `MISUSE` if no statement has the number or the handle is closed.
 #[unsafe(no_mangle)]
 pub extern "C" fn mmdb_finalize(db: &mut Handle, statement: usize) -> u8
     ensures { OnOpen (TakesStatement statement result) (result ≡ misuse) (held db.old) (held db.new) }

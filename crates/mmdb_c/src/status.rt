@@ -1,4 +1,4 @@
-//! The byte that a call returns.
+//! The status that a call returns, as a byte.
 ghost use Rattle.std.specs.Prelude.{◌≡◌, IfNone, IfSome};
 ghost use Rattle.mm_session.specs.Replies.{reply_lent};
 ghost use Rattle.mm_value.specs.Refusals.{refusal_number};
@@ -10,11 +10,11 @@ use mm_query::Reply;
 use mm_session::LastReply;
 use mm_value::Refusal;
 
-/// The line had no command.
+/// The line is empty or a comment: there is no reply.
 pub(crate) const NOTHING: u8 = 0;
-/// The command is done.
+/// The call succeeded, and its reply, if any, is "ok".
 pub(crate) const DONE: u8 = 1;
-/// The command is done, and the reply counts rows.
+/// The reply is a count of changed rows.
 pub(crate) const COUNT: u8 = 2;
 /// The reply has rows.
 pub(crate) const ROWS: u8 = 3;
@@ -22,10 +22,10 @@ pub(crate) const ROWS: u8 = 3;
 pub(crate) const TEXT: u8 = 4;
 /// The least number of a refusal.
 pub(crate) const FIRST_REFUSAL: u8 = 10;
-/// The call was not made, and changed nothing.
+/// The call was a misuse, and nothing changed.
 pub(crate) const MISUSE: u8 = 100;
 
-/// Returns the status of a reply: the number of a refusal, or one of those above.
+/// Returns the status of a reply: the number of its refusal, or one of the statuses above.
 pub(crate) fn status_of(reply: &LastReply<'_>) -> u8
     ensures { result ≡ status_of (reply_lent reply.now) }
 {
@@ -42,7 +42,7 @@ pub(crate) fn status_of(reply: &LastReply<'_>) -> u8
     }
 }
 
-/// Returns the refusal with a number, or `None` if there is none.
+/// Returns the refusal with a number, or `None` if no refusal has it.
 pub(crate) fn refusal_of(number: u8) -> Option<Refusal>
     ensures some { IfSome result (λ refusal. refusal_number refusal ≡ number) }
     ensures none { IfNone result (IsNoRefusal number) }
@@ -80,7 +80,7 @@ pub(crate) fn refusal_of(number: u8) -> Option<Refusal>
     Some(refusal)
 }
 
-/// Returns the words of a status: the text of the refusal with this number, "misuse", or no bytes for any other number.
+/// Returns the words of a status: the text of the refusal with this number, "misuse", or no bytes.
 fn words_of(status: u8) -> &'static [u8]
     ensures { AreWordsOf status result.now }
 {
@@ -91,7 +91,7 @@ fn words_of(status: u8) -> &'static [u8]
     }
 }
 
-/// Copies the words of a status, as many bytes as fit, and returns their full length: 0 if the number is no refusal and no misuse.
+/// Copies the words of a status, as many bytes as fit, and returns their full length: 0 if the status is neither a refusal nor misuse.
 #[unsafe(no_mangle)]
 pub extern "C" fn mmdb_words(status: u8, bytes: &mut [u8]) -> usize
     ensures { TellsWords status bytes.old bytes.new result }

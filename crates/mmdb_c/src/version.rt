@@ -2,7 +2,7 @@
 ghost use Rattle.std.specs.Prelude.{◌≡◌};
 ghost use Rattle.mmdb_c.specs.Versions.{version};
 
-/// The version: major * 1000000 + minor * 1000 + patch. It is that of MMDB_VERSION in the header.
+/// The version, as MMDB_VERSION of the header: major * 1000000 + minor * 1000 + patch.
 const VERSION: u32 = 1_001_000;
 
 /// Returns the version of the library.

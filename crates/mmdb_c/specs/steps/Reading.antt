@@ -1,10 +1,10 @@
--- What a row does to the cells that it is read into.
+-- Copying a row into cells.
 use Rattle.std.specs.Prelude.{◌≡◌, ℕ, ◌+◌, List, length, drop, take}
 use Rattle.mm_value.specs.declared.values.Value.{Value}
 use Rattle.mmdb_c.specs.Cells.{StandFor}
 use Rattle.mmdb_c.specs.declared.cell.Cell.{Cell}
 
--- From a place on, cells stand for the values, and the others are as they were.
+-- Starting at a place, the cells stand for the values, and all other cells are unchanged.
 pub record WritesCells (place : ℕ) (values : List Value) (old new : List Cell) : Type 0 where
   pub front : take place new ≡ take place old
   pub stand : StandFor (take (length values) (drop place new)) values
