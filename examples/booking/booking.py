@@ -1,7 +1,7 @@
 #!/usr/bin/env python3
 """Books seats for events. The database lives in this program, and a standing query has the free seats at any time.
 
-What it prints is in booking.out. booking.c and booking.rs do the same in C and in Rust.
+booking.out has the output. booking.c and booking.rs do the same in C and in Rust.
 """
 
 import mmdb
@@ -21,7 +21,7 @@ class SeatTaken(Exception):
 
 
 def open_service() -> mmdb.Connection:
-    """A database with two events and their seats."""
+    """Returns a database with two events and their seats."""
     connection = mmdb.connect()
     connection.executescript(SCHEMA)
     connection.watch("free_seats", FREE_SEATS)
@@ -33,7 +33,7 @@ def open_service() -> mmdb.Connection:
 
 
 def book_seat(connection: mmdb.Connection, booking: int, seat: int, guest: str) -> None:
-    """Books a seat inside a transaction. Raises SeatTaken where the seat is not free."""
+    """Books a seat inside a transaction. Raises SeatTaken if the seat is not free."""
     if connection.execute("UPDATE seat SET taken = 1 WHERE id = ? AND taken = 0", (seat,)).rowcount != 1:
         raise SeatTaken
     connection.execute("INSERT booking (?, ?, ?)", (booking, seat, guest))
@@ -53,7 +53,7 @@ def book(connection: mmdb.Connection, booking: int, seats: list[int], guest: str
 
 
 def book_group(connection: mmdb.Connection, booking: int, seats: list[int], guest: str) -> int:
-    """Books those of the seats that are free, and tells how many they are."""
+    """Books those of the seats that are free, and returns their number."""
     booked = 0
     with connection:
         for seat in seats:
@@ -67,7 +67,7 @@ def book_group(connection: mmdb.Connection, booking: int, seats: list[int], gues
 
 
 def cancel(connection: mmdb.Connection, booking: int) -> None:
-    """Takes a booking back. Its seat is free again."""
+    """Cancels a booking. Its seat is free again."""
     with connection:
         (seat,) = connection.execute("SELECT b.seat FROM booking b WHERE b.id = ?", (booking,)).fetchone()
         connection.execute("DELETE booking WHERE id = ?", (booking,))
@@ -75,7 +75,7 @@ def cancel(connection: mmdb.Connection, booking: int) -> None:
 
 
 def call_off(connection: mmdb.Connection, event: int) -> int:
-    """Deletes an event: its bookings first, then the event, and with it its seats. Tells how many bookings it had."""
+    """Deletes the bookings of an event, and then the event with its seats. Returns the number of bookings."""
     with connection:
         bookings = connection.execute(
             "SELECT b.id FROM seat s, booking b WHERE b.seat = s.id AND s.event = ?", (event,)
@@ -86,13 +86,13 @@ def call_off(connection: mmdb.Connection, event: int) -> int:
 
 
 def seats_of(connection: mmdb.Connection, guest: str) -> str:
-    """The places that a guest has booked."""
+    """Returns the seats that a guest has booked."""
     found = connection.execute("SELECT s.place FROM booking b, seat s WHERE b.guest = ? AND b.seat = s.id", (guest,))
     return " ".join(place for (place,) in found)
 
 
 def tell(connection: mmdb.Connection, step: str) -> None:
-    """Prints what was done, and the seats that are free now."""
+    """Prints a step, and the seats that are free after it."""
     free = ", ".join(f"{title} {place}" for title, place, _ in connection.show("free_seats"))
     print(f"{step}\n  free: {free}")
 

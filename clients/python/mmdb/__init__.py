@@ -62,7 +62,7 @@ def connect(autocommit: bool = False, check_same_thread: bool = True) -> Connect
 
     With autocommit each change is committed at once, unless the program begins a transaction. Only the thread that opens
     the connection may use it; with check_same_thread=False all threads may, and calls wait for each other. Raises
-    OperationalError (90) if there is not enough memory.
+    OperationalError (90) if an allocation fails.
     """
     return Connection(autocommit, check_same_thread)
 

@@ -46,7 +46,7 @@ class Database:
 
     def __init__(self, connection: _mmdb.Connection | None = None) -> None:
         try:
-            self._connection = connection or _mmdb.Connection(True)
+            self._connection = _mmdb.Connection(True) if connection is None else connection
         except _mmdb.OperationalError as error:
             raise Refused(error.number or MISUSE) from None
 

@@ -1,9 +1,9 @@
-"""The shell: a person types commands of the language and reads their replies. SHELL.md describes it.
+"""The shell for commands of the language. SHELL.md describes it.
 
     python -m mmdb [FILE ..]
 
-At a terminal it asks for lines and shows rows in tables. With files, or where it does not stand at a terminal, it runs
-scripts as the program mmdb does, and writes the replies alone.
+At a terminal it prompts for lines and shows rows in tables. With files, or without a terminal, it runs scripts as the
+program mmdb does, and writes only their replies.
 """
 
 from __future__ import annotations
@@ -23,14 +23,14 @@ ENDED, DEVICE_FAILED, INPUT_TOO_LONG, INTERRUPTED = 0, 2, 3, 130
 
 
 def opened(stream: TextIO | None) -> TextIO:
-    """A standard stream, or OSError where it is closed."""
+    """Returns a standard stream. Raises OSError if it is closed."""
     if stream is None:
         raise OSError(errno.EBADF, os.strerror(errno.EBADF))
     return stream
 
 
 def run_scripts(paths: Sequence[str]) -> None:
-    """Runs scripts on one database, one behind the other; where none is named, what comes from standard input."""
+    """Runs scripts on one database, one after another, or standard input if there are none."""
     database = Database()
     with open(opened(sys.stdout).fileno(), "wb", closefd=False) as out:
         for path in paths:
@@ -42,7 +42,7 @@ def run_scripts(paths: Sequence[str]) -> None:
 
 
 def status_of(run: Callable[[], None]) -> int:
-    """Runs the shell, and answers the status with which the program mmdb ends."""
+    """Runs the shell, and returns the exit status, which is that of the program mmdb."""
     try:
         run()
     except InputTooLong:
@@ -61,17 +61,17 @@ def status_of(run: Callable[[], None]) -> int:
 
 
 def is_terminal(stream: TextIO | None) -> bool:
-    """Whether a standard stream is a terminal. One that is closed is none."""
+    """Returns whether a standard stream is open and a terminal."""
     return stream is not None and stream.isatty()
 
 
 def main(arguments: Sequence[str] | None = None) -> int:
-    """Runs the shell, and answers its exit status."""
+    """Runs the shell, and returns its exit status."""
     parser = argparse.ArgumentParser(
         prog="mmdb-shell",
-        description="At a terminal it asks for commands. Else it runs scripts as the program mmdb does.",
+        description="Interactive at a terminal. Otherwise runs scripts as the program mmdb does.",
     )
-    parser.add_argument("files", nargs="*", metavar="FILE", help="scripts, which run on one database one after another")
+    parser.add_argument("files", nargs="*", metavar="FILE", help="scripts to run on one database, one after another")
     paths = parser.parse_args(arguments).files
     if paths or not (is_terminal(sys.stdin) and is_terminal(sys.stdout)):
         return status_of(lambda: run_scripts(paths))

@@ -17,11 +17,11 @@ STANDING_COMMAND = re.compile(rb"[ \t]*(WATCH|UNWATCH)[ \t]+(\w+)[ \t]*(.*)", re
 
 
 class Failure(Exception):
-    """What a person asked for was not done. The words say why."""
+    """A command of the shell failed. The message says why."""
 
 
 class Table(NamedTuple):
-    """A table: its columns as they stand in a TABLE, and how many rows it has."""
+    """A table: its columns, as in its TABLE command, and its number of rows."""
 
     name: str
     columns: list[str]
@@ -32,31 +32,31 @@ class Table(NamedTuple):
         return [column.split()[0] for column in self.columns]
 
     def line(self) -> str:
-        """The command that makes the table."""
+        """The command that creates the table."""
         return f"TABLE {self.name} ({', '.join(self.columns)})"
 
 
 class Index(NamedTuple):
-    """An index: its table, and its column and kind as they stand in an INDEX."""
+    """An index: its table, and its column and kind, as in its INDEX command."""
 
     name: str
     table: str
     rest: str
 
     def line(self) -> str:
-        """The command that makes the index."""
+        """The command that creates the index."""
         return f"INDEX {self.name} ON {self.table} {self.rest}"
 
 
 class Standing(NamedTuple):
-    """A standing query, and how many rows it has now."""
+    """A standing query, and its current number of rows."""
 
     name: str
     rows: int
 
 
 class Catalog(NamedTuple):
-    """All that a database has, by name, each in the order in which it was made; indexes table by table."""
+    """The catalog of a database, by name and in order of creation; indexes are grouped by table."""
 
     tables: dict[str, Table]
     indexes: dict[str, Index]
@@ -64,7 +64,7 @@ class Catalog(NamedTuple):
 
 
 def catalog_of(listing: str) -> Catalog:
-    """The catalog that a reply to TABLES lists."""
+    """Returns the catalog that a reply to TABLES lists."""
     catalog = Catalog({}, {}, {})
     for line in listing.splitlines():
         if found := TABLE_LINE.fullmatch(line):
@@ -77,14 +77,14 @@ def catalog_of(listing: str) -> Catalog:
 
 
 class Session:
-    """A database, and the SELECT of each standing query that was made through the session, by its name."""
+    """A database, and the SELECT of each standing query that the session created, by name."""
 
     def __init__(self, database: Database) -> None:
         self.database = database
         self.queries: dict[str, bytes] = {}
 
     def execute(self, line: bytes) -> int:
-        """Answers a line, as the database does."""
+        """Executes a line, and returns its status."""
         status = self.database.execute(line)
         if status < LEAST_REFUSAL and (found := STANDING_COMMAND.fullmatch(line)):
             name = found[2].decode()
@@ -95,22 +95,22 @@ class Session:
         return status
 
     def demand(self, line: bytes) -> int:
-        """Answers a line, and raises Refused where it is refused."""
+        """Executes a line. Raises Refused if it is refused."""
         status = self.execute(line)
         if status >= LEAST_REFUSAL:
             raise Refused(status)
         return status
 
     def query(self, name: str) -> bytes:
-        """The SELECT of a standing query. A Failure says why it is not known."""
+        """Returns the SELECT of a standing query. Raises Failure if it is unknown."""
         if name in self.queries:
             return self.queries[name]
         if name in self.catalog().standing:
-            raise Failure(f"the query of {name} is not known, since it was not made in this shell")
-        raise Failure(f"there is no standing query {name}")
+            raise Failure(f"the query of {name} is unknown, since it was not created in this shell")
+        raise Failure(f"no standing query {name}")
 
     def catalog(self) -> Catalog:
-        """What the database has now. Refused where there is no memory for it."""
+        """Returns the current catalog. Raises Refused if an allocation fails."""
         status = self.database.execute(b"TABLES")
         if status != TEXT:
             raise Refused(status)

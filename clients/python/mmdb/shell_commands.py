@@ -36,7 +36,7 @@ TABLES                                              EXPLAIN SELECT .."""
 
 
 class DotCommand(NamedTuple):
-    """A command of the shell itself: what is written behind it, what it does, and whether the timer tells of it."""
+    """A command of the shell itself: its arguments, its effect, and whether the timer measures it."""
 
     usage: str
     help: str
@@ -45,21 +45,21 @@ class DotCommand(NamedTuple):
 
 # The command .dump is the method do_dump of the shell, and so on.
 DOT_COMMANDS = {
-    ".dump": DotCommand("FILE", "write a script that makes the database again", True),
+    ".dump": DotCommand("FILE", "write a script that rebuilds the database", True),
     ".export": DotCommand("QUERY-or-TABLE FILE.csv [--header]", "write rows to a CSV file", True),
     ".help": DotCommand("", "list these commands"),
     ".import": DotCommand("TABLE FILE.csv [--header]", "insert the rows of a CSV file, all or none", True),
     ".mode": DotCommand("csv|lines|table", "how rows are shown; lines: as the program mmdb writes them"),
-    ".plan": DotCommand("QUERY", "show how a SELECT or a standing query reaches its rows"),
-    ".quit": DotCommand("", "end the shell; the database is gone then"),
+    ".plan": DotCommand("QUERY", "show the plan of a SELECT or a standing query"),
+    ".quit": DotCommand("", "end the shell; the database is lost"),
     ".read": DotCommand("FILE", "run a script", True),
     ".tables": DotCommand("", "list tables, indexes and standing queries"),
-    ".timer": DotCommand("on|off", "tell how long each command takes"),
+    ".timer": DotCommand("on|off", "show the time of each command"),
 }
 
 
 class Shell:
-    """Answers the lines that a person types. Replies go to a stream of text."""
+    """Executes the lines that a user types, and writes replies to a text stream."""
 
     def __init__(self, database: Database, out: TextIO, shows_progress: bool = False) -> None:
         self.session = Session(database)
@@ -70,7 +70,7 @@ class Shell:
         self._has_timer = False
 
     def answer(self, line: str) -> None:
-        """Answers a command of the language or a dot command: writes its reply, or what is wrong with it."""
+        """Executes a command of the language or a dot command, and writes its reply or its error."""
         try:
             if line.lstrip(" \t").startswith("."):
                 self._dot(line.strip())
@@ -83,9 +83,9 @@ class Shell:
         except OSError as error:
             self._say(f"{error.filename or 'a file'}: {error.strerror or error}")
         except UnicodeEncodeError:
-            self._say("the line is no text in UTF-8")
+            self._say("the line is not UTF-8")
         except MemoryError:
-            self._say("there is not enough memory")
+            self._say("out of memory")
         except KeyboardInterrupt:
             self._say("interrupted")
 
@@ -99,7 +99,7 @@ class Shell:
         self._say(f"{(end - begin) * 1000:.3f} ms")
 
     def _command(self, line: bytes) -> None:
-        """Answers a command of the language."""
+        """Executes a command of the language."""
         begin = time.perf_counter()
         status = self.session.execute(line)
         end = time.perf_counter()
@@ -108,7 +108,7 @@ class Shell:
             self._say_time(begin, end)
 
     def _reply(self, line: bytes, status: int) -> None:
-        """Shows the reply to a line, which has a status."""
+        """Shows the reply to a line with a status."""
         if status >= LEAST_REFUSAL:
             self._refusal(line, status)
         elif status == ROWS:
@@ -117,7 +117,7 @@ class Shell:
             self._out.write(decoded(self.session.database.text()))
 
     def _refusal(self, line: bytes, status: int, origin: str = "") -> None:
-        """Shows a line that was refused, with a mark under the place, if it has one, and where it came from."""
+        """Shows a refused line and its origin, with a mark under the place of the error, if there is one."""
         place = self.session.database.place(line, status)
         has_place = place > 0 or status == SYNTAX
         shown_line, mark = marked(line, place, shutil.get_terminal_size().columns)
@@ -146,11 +146,11 @@ class Shell:
         self._say(end)
 
     def _dot(self, line: str) -> None:
-        """Answers a dot command."""
+        """Executes a dot command."""
         word, rest = [*line.split(None, 1), ""][:2]
         command = DOT_COMMANDS.get(word)
         if command is None:
-            raise Failure(f"there is no command {word}; .help lists those that are")
+            raise Failure(f"unknown command {word}; .help lists all commands")
         usage = f"usage: {word} {command.usage}".rstrip()
         begin = time.perf_counter()
         getattr(self, f"do_{word[1:]}")(rest, usage)
@@ -171,26 +171,26 @@ class Shell:
         self.is_over = True
 
     def do_timer(self, rest: str, usage: str) -> None:
-        """Tells times from now on, or no more."""
+        """Turns the timer on or off."""
         if rest not in ("on", "off"):
             raise Failure(usage)
         self._has_timer = rest == "on"
 
     def do_mode(self, rest: str, usage: str) -> None:
-        """Shows rows in another form from now on."""
+        """Sets the format of rows."""
         if rest not in MODES:
             raise Failure(usage)
         self._mode = rest
 
     def do_tables(self, rest: str, usage: str) -> None:
-        """Lists what the database has."""
+        """Lists the catalog."""
         words_after(rest, usage, 0)
         catalog = self.session.catalog()
         names, types = ("kind", "name", "rows", "definition"), (str, str, int, str)
         self._table(names, types, self._listing(catalog), count_of(len(catalog.tables), "table"))
 
     def _listing(self, catalog: Catalog) -> list[Row]:
-        """A row for each table, each followed by its indexes, and then one for each standing query."""
+        """Yields a row for each table, followed by rows for its indexes, and then a row for each standing query."""
         rows: list[Row] = []
         for table in catalog.tables.values():
             rows.append(("table", table.name, table.rows, ", ".join(table.columns)))
@@ -215,7 +215,7 @@ class Shell:
         self._table(("step", "alias", "rows are reached by"), (int, str, str), rows, count_of(len(rows), "step"))
 
     def do_read(self, rest: str, usage: str) -> None:
-        """Runs a script: shows rows and refusals, and at the end how many lines were refused."""
+        """Runs a script: shows rows and refusals, and at the end the number of refused lines."""
         path = os.path.expanduser(words_after(rest, usage, 1)[0])
         lines = refused = 0
         with open(path, "rb") as file:
@@ -248,7 +248,7 @@ class Shell:
         self._say(f"rows {rows}")
 
     def _query_of(self, words: str) -> bytes:
-        """The query that is meant by a query, or by the name of a table or a standing query."""
+        """Returns a query for a query, or for the name of a table or a standing query."""
         if QUERY.fullmatch(words):
             return encoded(words)
         catalog = self.session.catalog()
@@ -256,10 +256,10 @@ class Shell:
             return b"SCAN " + encoded(words)
         if words in catalog.standing:
             return b"SHOW " + encoded(words)
-        raise Failure(f"there is no table and no standing query {words}")
+        raise Failure(f"no table or standing query {words}")
 
     def do_dump(self, rest: str, usage: str) -> None:
-        """Writes a script that makes the database again."""
+        """Writes a script that rebuilds the database."""
         catalog = dump(self.session, os.path.expanduser(words_after(rest, usage, 1)[0]))
         told = (
             count_of(len(catalog.tables), "table"),
@@ -271,7 +271,7 @@ class Shell:
 
 
 def words_after(rest: str, usage: str, count: int) -> list[str]:
-    """The words behind a dot command; one with blanks is in quotes. A Failure tells the usage for any other count."""
+    """Returns the arguments of a dot command; quotes enclose blanks. Raises Failure (the usage) for another count."""
     try:
         words = shlex.split(rest)
     except ValueError:
@@ -282,6 +282,6 @@ def words_after(rest: str, usage: str, count: int) -> list[str]:
 
 
 def without_header(rest: str) -> tuple[str, bool]:
-    """What is written behind a dot command without the option for a header, and whether that was there."""
+    """Returns the arguments of a dot command without the option for a header, and whether the option was there."""
     left = rest.removesuffix(HEADER)
     return (left.rstrip(), True) if left.endswith((" ", "\t")) else (rest, False)

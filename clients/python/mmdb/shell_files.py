@@ -1,4 +1,4 @@
-"""Files of the shell: CSV files with the rows of a table or a query, and scripts that make a database again."""
+"""Files of the shell: CSV files with the rows of a table or a query, and scripts that rebuild a database."""
 
 from __future__ import annotations
 
@@ -27,7 +27,7 @@ NUMBER = re.compile(r"[ \t]*([+-]?)0*([0-9]+)[ \t]*")
 
 @contextlib.contextmanager
 def written(path: str) -> Iterator[BinaryIO]:
-    """A file that is written anew. One that is there keeps what it has until all is written."""
+    """Writes a file. An existing file is replaced only when everything is on its device, and has its mode from the start."""
     path = os.path.realpath(path)
     if os.path.exists(path) and not os.path.isfile(path):
         with open(path, "wb") as device:
@@ -36,9 +36,11 @@ def written(path: str) -> Iterator[BinaryIO]:
     part = f"{path}.part-{os.getpid()}"
     try:
         with open(part, "wb") as file:
+            if os.path.exists(path):
+                shutil.copymode(path, part)
             yield file
-        if os.path.exists(path):
-            shutil.copymode(path, part)
+            file.flush()
+            os.fsync(file.fileno())
         os.replace(part, path)
     except BaseException as error:
         with contextlib.suppress(OSError):
@@ -49,7 +51,7 @@ def written(path: str) -> Iterator[BinaryIO]:
 
 
 class Progress:
-    """Tells on a terminal how far a long import is."""
+    """Shows the progress of a long import on a terminal."""
 
     def __init__(self, out: TextIO | None) -> None:
         self._out = out
@@ -57,7 +59,7 @@ class Progress:
         self._width = 0
 
     def tell(self, rows: int, file: TextIO) -> None:
-        """Tells how many rows were read of a file so far."""
+        """Shows the number of rows read so far."""
         if self._out is None or time.monotonic() < self._due:
             return
         words = count_of(rows, "row")
@@ -68,7 +70,7 @@ class Progress:
         self._due = time.monotonic() + SECONDS_BETWEEN_REPORTS
 
     def clear(self) -> None:
-        """Takes away what was told."""
+        """Clears the progress."""
         if self._width:
             self._write("")
 
@@ -85,7 +87,7 @@ class Record(NamedTuple):
 
 
 def records_of(file: TextIO, path: str) -> Iterator[Record]:
-    """The records of a CSV file. Empty lines are none."""
+    """Yields the records of a CSV file, without empty lines."""
     reader = csv.reader(file, strict=True)
     line = 1
     try:
@@ -98,10 +100,10 @@ def records_of(file: TextIO, path: str) -> Iterator[Record]:
 
 
 def number_of(field: str) -> int:
-    """The number that a field is. A Failure says why it is none."""
+    """Returns a field as a number. Raises Failure if it is not one."""
     found = NUMBER.fullmatch(field)
     if found is None:
-        raise Failure(f"{field!r} is no number")
+        raise Failure(f"{field!r} is not a number")
     sign, digits = found.groups()
     if len(digits) > MOST_DIGITS or not LEAST_NUMBER <= int(sign + digits) <= GREATEST_NUMBER:
         raise Failure(f"{sign}{digits} does not fit 64 bits")
@@ -109,21 +111,21 @@ def number_of(field: str) -> int:
 
 
 def text_of(field: str) -> str:
-    """The text that a field is. A Failure says why a table cannot have it."""
+    """Returns a field as a text. Raises Failure if a table cannot store it."""
     if "\n" in field:
-        raise Failure(f"the text {field!r} has a line feed")
+        raise Failure(f"the text {field!r} contains a line feed")
     if (length := len(encoded(field))) > TEXT_BYTES:
-        raise Failure(f"the text {field!r} has {length} bytes, and {TEXT_BYTES} are the most")
+        raise Failure(f"the text {field!r} has {length} bytes; the limit is {TEXT_BYTES}")
     return field
 
 
 def value_of(field: str, its_type: type) -> Value:
-    """The value that a field stands for in a column of a type."""
+    """Returns a field as a value of a column's type."""
     return number_of(field) if its_type is int else text_of(field)
 
 
 class Importer:
-    """Reads a CSV file into a table. Refused where there is no such table."""
+    """Reads a CSV file into a table. Raises Refused if the table does not exist."""
 
     def __init__(self, session: Session, table: str, path: str, progress: Progress) -> None:
         self._database = session.database
@@ -136,18 +138,18 @@ class Importer:
         self._insert = f"INSERT {table} ({holes})".encode()
 
     def order_of(self, header: Record) -> list[int]:
-        """For each column the place of its field, as a header tells it."""
+        """Returns for each column the position of its field in the header."""
         names = [name for name, _ in self._columns]
         given = [field.strip() for field in header.fields]
         if sorted(given) != sorted(names):
-            told = f"the header names {', '.join(given) or 'nothing'}, and the columns are {', '.join(names)}"
+            told = f"the header names {', '.join(given) or 'nothing'}, but the columns are {', '.join(names)}"
             raise Failure(f"{self._path}:{header.line}: {told}")
         return [given.index(name) for name in names]
 
     def row_of(self, record: Record, order: list[int]) -> Row:
-        """The row that a record stands for."""
+        """Returns the row of a record."""
         if len(record.fields) != len(order):
-            told = f"{count_of(len(record.fields), 'field')}, and {count_of(len(order), 'column')} in the table"
+            told = f"{count_of(len(record.fields), 'field')}, but {count_of(len(order), 'column')} in the table"
             raise Failure(f"{self._path}:{record.line}: {told}")
         try:
             return tuple(value_of(record.fields[place], its_type) for place, (_, its_type) in zip(order, self._columns))
@@ -155,7 +157,7 @@ class Importer:
             raise Failure(f"{self._path}:{record.line}: {failure}") from None
 
     def batches(self, records: Iterable[Record], order: list[int]) -> Iterator[list[tuple[int, Row]]]:
-        """Some rows at a time, with their lines. Those before a record that is no row come before its Failure."""
+        """Yields some rows at a time, with their lines. Raises Failure for a bad record, after the rows before it."""
         batch: list[tuple[int, Row]] = []
         try:
             for record in records:
@@ -169,7 +171,7 @@ class Importer:
         yield batch
 
     def insert(self, file: TextIO, has_header: bool) -> int:
-        """Inserts a row for each record, and answers how many. A Failure tells the line of one that is refused."""
+        """Inserts a row for each record, and returns their number. Raises Failure with the line of a refused row."""
         records = records_of(file, self._path)
         order = list(range(len(self._columns)))
         if has_header:
@@ -189,7 +191,7 @@ class Importer:
 
 
 def import_csv(session: Session, table: str, path: str, has_header: bool, progress: Progress) -> int:
-    """Reads a CSV file into a table, all rows or none, and answers how many rows it has."""
+    """Reads a CSV file into a table, all rows or none, and returns the number of rows."""
     importer = Importer(session, table, path, progress)
     with open(path, encoding="utf-8-sig", errors="surrogateescape", newline="") as file:
         with session.database.all_or_none(SAVEPOINT):
@@ -197,7 +199,7 @@ def import_csv(session: Session, table: str, path: str, has_header: bool, progre
 
 
 def export_csv(session: Session, query: bytes, path: str, has_header: bool) -> int:
-    """Writes the rows of a query to a CSV file, and answers how many they are."""
+    """Writes the rows of a query to a CSV file, and returns their number."""
     session.demand(query)
     columns = session.database.columns(query)
     rows = session.database.read(query)
@@ -211,7 +213,7 @@ def export_csv(session: Session, query: bytes, path: str, has_header: bool) -> i
 
 
 def packed(command: bytes, rows: Iterable[bytes]) -> Iterator[bytes]:
-    """Lines of a command with as many rows as they have room for."""
+    """Yields lines of a command, each with as many rows as fit."""
     line = b""
     for row in rows:
         if line and len(line) + len(b", ") + len(row) <= MOST_LINE_BYTES:
@@ -225,13 +227,13 @@ def packed(command: bytes, rows: Iterable[bytes]) -> Iterator[bytes]:
 
 
 def rows_of(session: Session, table: str) -> list[bytes]:
-    """The rows of a table as SCAN prints them, which is as an INSERT takes them."""
+    """Returns the rows of a table as SCAN prints them, which is also their form in an INSERT."""
     session.demand(b"SCAN " + table.encode())
     return session.database.text().split(b"\n")[:-2]
 
 
 def dump_lines(session: Session, catalog: Catalog) -> Iterator[bytes]:
-    """Yields the lines of a script that makes tables, rows and indexes again.
+    """Yields the lines of a script that rebuilds tables, rows and indexes.
 
     Tables come in the order in which they were created. So each one comes after those that it refers to.
     """
@@ -245,7 +247,7 @@ def dump_lines(session: Session, catalog: Catalog) -> Iterator[bytes]:
 
 
 def dump(session: Session, path: str) -> Catalog:
-    """Writes a script that makes the database again, and answers what it has."""
+    """Writes a script that rebuilds the database, and returns the catalog."""
     catalog = session.catalog()
     watches = [b"WATCH " + name.encode() + b" " + session.query(name) for name in catalog.standing]
     with written(path) as file:

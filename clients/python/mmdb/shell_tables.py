@@ -1,4 +1,4 @@
-"""What people read: aligned tables, values of a CSV file, and the line of an error with a mark under the place."""
+"""Output for people: aligned tables, lines of CSV, and a line with a mark under the place of an error."""
 
 from __future__ import annotations
 
@@ -15,7 +15,7 @@ LEAST_COLUMNS = 20
 
 
 def shown_character(character: str) -> str:
-    """A character, or what stands for it where a terminal would not show it as such."""
+    """Returns a character, or an escape if a terminal cannot show it."""
     if character.isprintable() or unicodedata.category(character) == "Zs":
         return character
     code = ord(character)
@@ -25,13 +25,13 @@ def shown_character(character: str) -> str:
 
 
 def shown(value: Value) -> str:
-    """A value as a table shows it: a text without quotes, and escapes for its control characters and broken UTF-8."""
+    """Returns a value as a table shows it: texts without quotes, control characters and broken UTF-8 escaped."""
     text = str(value)
     return text if text.isprintable() else "".join(map(shown_character, text))
 
 
 def width_of(text: str) -> int:
-    """How many columns of a terminal a text takes."""
+    """Returns the number of terminal columns of a text."""
     if text.isascii():
         return len(text)
     return sum(
@@ -41,18 +41,18 @@ def width_of(text: str) -> int:
 
 
 def padded(text: str, width: int, to_the_right: bool) -> str:
-    """A text with blanks up to a width; numbers stand to the right."""
+    """Pads a text to a width; numbers are aligned to the right."""
     blanks = " " * (width - width_of(text))
     return blanks + text if to_the_right else text + blanks
 
 
 def count_of(number: int, one: str, many: str = "") -> str:
-    """A number of things, and what one of them or many are called."""
+    """Returns a number with a noun in the singular or plural."""
     return f"{number:,} {one if number == 1 else many or one + 's'}"
 
 
 def aligned(names: Sequence[str], types: Sequence[type], rows: Sequence[Row]) -> Iterator[str]:
-    """The lines of a table: the names of its columns, a rule, and a line for each row."""
+    """Yields the lines of a table: the names of its columns, a rule, and a line for each row."""
     cells = [[shown(value) for value in row] for row in rows]
     columns = list(zip(*cells)) or [()] * len(names)
     widths = [max([width_of(name), *map(width_of, column)]) for name, column in zip(names, columns)]
@@ -64,17 +64,17 @@ def aligned(names: Sequence[str], types: Sequence[type], rows: Sequence[Row]) ->
 
 
 def literal_row(row: Row) -> str:
-    """A row as an INSERT takes it."""
+    """Returns a row in the form of an INSERT."""
     return "(" + ", ".join(str(value) if isinstance(value, int) else literal_text(value) for value in row) + ")"
 
 
 def literal_text(text: str) -> str:
-    """A text as a line has it: in quotes, with each quote in it doubled."""
+    """Returns a text as a literal: in quotes, with each quote in it doubled."""
     return "'" + text.replace("'", "''") + "'"
 
 
 def csv_lines(rows: Sequence[Sequence[Value]]) -> Iterator[str]:
-    """The lines of a CSV file (RFC 4180), each with its end."""
+    """Yields the lines of a CSV file (RFC 4180), each with its line end."""
     line = io.StringIO(newline="")
     writer = csv.writer(line)
     for row in rows:
@@ -85,7 +85,7 @@ def csv_lines(rows: Sequence[Sequence[Value]]) -> Iterator[str]:
 
 
 def marked(line: bytes, place: int, columns: int) -> tuple[str, str]:
-    """A line, and a line with a mark under its byte at a place. Both are cut to fewer than so many columns."""
+    """Returns a line, and a line with a mark under the byte at a place. Both are cut to fewer columns than a width."""
     before, after = (shown(decoded(part).replace("\t", " ")) for part in (line[:place], line[place:]))
     room = max(columns, LEAST_COLUMNS) - 1
     if width_of(before) + width_of(after) > room:
@@ -95,7 +95,7 @@ def marked(line: bytes, place: int, columns: int) -> tuple[str, str]:
 
 
 def head(text: str, columns: int) -> str:
-    """A text, or its beginning where it takes more than so many columns."""
+    """Returns a text, or its beginning if it is wider than a number of columns."""
     if width_of(text) <= columns:
         return text
     left = text[: columns - len(CUT)]
@@ -105,7 +105,7 @@ def head(text: str, columns: int) -> str:
 
 
 def tail(text: str, columns: int) -> str:
-    """A text, or its end where it takes more than so many columns."""
+    """Returns a text, or its end if it is wider than a number of columns."""
     if width_of(text) <= columns:
         return text
     left = text[len(text) - columns + len(CUT) :]

@@ -29,22 +29,22 @@ BEFORE_A_NEW_NAME = ("INDEX", "SAVEPOINT", "TABLE", "WATCH")
 
 
 def starting(word: str, found: list[str]) -> list[str]:
-    """Those that begin with a word, in order, each once."""
+    """Returns the words that begin with a word, sorted, each once."""
     return sorted({one for one in found if one.startswith(word)})
 
 
 def files_starting(word: str) -> list[str]:
-    """The files whose paths begin with a word; a folder ends in a slash."""
+    """Returns the paths that begin with a word; a folder ends in a slash."""
     return sorted(path + "/" * os.path.isdir(path) for path in glob.glob(glob.escape(os.path.expanduser(word)) + "*"))
 
 
 def keywords_starting(word: str, keywords: list[str]) -> list[str]:
-    """The keywords that begin with a word, each with a blank behind it."""
+    """Returns the keywords that begin with a word, each with a blank after it."""
     return [keyword + " " for keyword in starting(word, keywords)]
 
 
 def completions(catalog: Catalog, line: str, begin: int, word: str) -> list[str]:
-    """What a word may become that begins at a place of a line."""
+    """Returns the completions of a word that begins at a place of a line."""
     before = line[:begin]
     if not before.strip():
         return keywords_starting(word, list(DOT_COMMANDS) if word.startswith(".") else FIRST_KEYWORDS)
@@ -58,7 +58,7 @@ def completions(catalog: Catalog, line: str, begin: int, word: str) -> list[str]
 
 
 def completions_of_dot_command(catalog: Catalog, line: str, begin: int, word: str) -> list[str]:
-    """What may stand behind a dot command."""
+    """Returns the possible arguments of a dot command."""
     command, *given = line[:begin].split()
     tables, standing = list(catalog.tables), list(catalog.standing)
     if command in (".mode", ".timer"):
@@ -79,7 +79,7 @@ def completions_of_dot_command(catalog: Catalog, line: str, begin: int, word: st
 
 
 def completions_of_field(catalog: Catalog, line: str, word: str) -> list[str]:
-    """What an alias, a dot and the beginning of a column may become. FROM, which tells the table, may come later."""
+    """Completes an alias, a dot and the beginning of a column. FROM, which gives the table, may follow later."""
     alias, _, column = word.partition(".")
     names = re.findall(rf"\b(\w+) +{re.escape(alias)}\b", line)
     tables = [catalog.tables[name] for name in names if name in catalog.tables] or list(catalog.tables.values())
@@ -88,7 +88,7 @@ def completions_of_field(catalog: Catalog, line: str, word: str) -> list[str]:
 
 
 def completions_in_command(catalog: Catalog, before: str, word: str) -> list[str]:
-    """What may stand behind the first words of a command."""
+    """Returns what may follow the first words of a command."""
     words = before.split()
     last, last_two = words[-1], " ".join(words[-2:])
     tables = list(catalog.tables)
@@ -108,7 +108,7 @@ def completions_in_command(catalog: Catalog, before: str, word: str) -> list[str
 
 
 class Completer:
-    """Completes words for readline, which asks for one after the other."""
+    """Completes words for readline, which requests one completion after another."""
 
     def __init__(self, readline: ModuleType, session: Session) -> None:
         self._readline = readline
@@ -129,7 +129,7 @@ class Completer:
 
 
 def history_path() -> str:
-    """The file of the history: MMDB_HISTORY, or mmdb/history where programs keep their state. Empty for no history."""
+    """Returns the history file: MMDB_HISTORY, or mmdb/history in the state folder. Empty for no history."""
     named = os.environ.get("MMDB_HISTORY")
     if named is not None:
         return os.path.expanduser(named)
@@ -138,7 +138,7 @@ def history_path() -> str:
 
 
 class History:
-    """The lines that were typed, in this run and in earlier ones."""
+    """The lines typed in this run and in earlier ones."""
 
     def __init__(self, readline: ModuleType, path: str) -> None:
         self._readline = readline
@@ -150,14 +150,14 @@ class History:
                 readline.read_history_file(path)
 
     def add(self, line: str) -> None:
-        """Adds a line, unless it is empty or the last one once more."""
+        """Adds a line, unless it is empty or equal to the last one."""
         last = self._readline.get_history_item(self._readline.get_current_history_length())
         if line.strip() and line != last:
             self._readline.add_history(line)
             self._new += 1
 
     def save(self) -> None:
-        """Adds the lines of this run to the file. Where that cannot be written the lines are lost."""
+        """Appends the lines of this run to the file. They are lost if it cannot be written."""
         if not self._path or not self._new:
             return
         with contextlib.suppress(OSError):
@@ -168,7 +168,7 @@ class History:
 
 
 def readline_for(session: Session) -> ModuleType | None:
-    """The module readline, set up to complete words; None where Python has none."""
+    """Returns the module readline, set up to complete words, or None if Python lacks it."""
     try:
         import readline
     except ImportError:
@@ -181,7 +181,7 @@ def readline_for(session: Session) -> ModuleType | None:
 
 
 def ask(shell: Shell, history: History | None) -> None:
-    """Asks for lines and answers them until the input or the shell ends. What is pasted may have several lines."""
+    """Prompts for lines and executes them until the input or the shell ends. Pasted text may have several lines."""
     while not shell.is_over:
         is_open = shell.session.database.in_transaction()
         try:
@@ -201,14 +201,14 @@ def ask(shell: Shell, history: History | None) -> None:
 
 
 def run_at_terminal() -> None:
-    """Runs the shell at a terminal, on a new database. Refused where there is no memory for it."""
+    """Runs the shell at a terminal, on a new database. Raises Refused if the database cannot be allocated."""
     database = Database()
     if isinstance(sys.stdout, io.TextIOWrapper):
         sys.stdout.reconfigure(errors="backslashreplace")
     shell = Shell(database, sys.stdout, shows_progress=True)
     readline = readline_for(shell.session)
     history = History(readline, history_path()) if readline else None
-    print("The database is empty, and is gone when the shell ends. .help lists commands, .quit ends.")
+    print("The database is empty, and is lost when the shell ends. .help lists commands, .quit ends.")
     try:
         ask(shell, history)
     finally:

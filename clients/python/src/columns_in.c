@@ -34,11 +34,17 @@ static bool buffer_open(PyObject *object, Py_buffer *view, Py_ssize_t item_size,
     return false;
 }
 
+/* Returns an offset of a column of texts. A buffer may begin at any byte. */
+static int64_t offset_at(const Source *source, size_t place) {
+    int32_t offset;
+    memcpy(&offset, (const char *)source->numbers.buf + place * sizeof offset, sizeof offset);
+    return offset;
+}
+
 /* Returns whether each text is inside the bytes. If not, raises ValueError. */
 static bool check_offsets(const Source *source) {
-    const int32_t *offsets = source->numbers.buf;
-    bool is_ordered = offsets[0] >= 0 && (Py_ssize_t)offsets[source->rows] <= source->bytes.len;
-    for (size_t i = 0; is_ordered && i < source->rows; i++) is_ordered = offsets[i] <= offsets[i + 1];
+    bool is_ordered = offset_at(source, 0) >= 0 && offset_at(source, source->rows) <= source->bytes.len;
+    for (size_t i = 0; is_ordered && i < source->rows; i++) is_ordered = offset_at(source, i) <= offset_at(source, i + 1);
     if (!is_ordered) PyErr_SetString(PyExc_ValueError, "the offsets of a column are not those of texts in its bytes");
     return is_ordered;
 }
@@ -97,8 +103,7 @@ static bool sources_open(const State *state, Sources *sources, PyObject *columns
 
 /* Writes a text into a cell. The program may write into its buffers at any time, so the offsets are checked where they are used. */
 static Conversion cell_from_text(const State *state, const Source *source, size_t row, mmdb_cell *cell) {
-    const int32_t *offsets = source->numbers.buf;
-    int64_t begin = offsets[row], end = offsets[row + 1];
+    int64_t begin = offset_at(source, row), end = offset_at(source, row + 1);
     if (begin < 0 || begin > end || end > source->bytes.len) {
         PyErr_SetString(PyExc_ValueError, "the offsets of a column have changed");
         return RAISED;

@@ -163,7 +163,9 @@ static void savepoint_dealloc(PyObject *object) {
 
 static PyMethodDef savepoint_methods[] = {
     {"rollback", savepoint_rollback, METH_NOARGS,
-     "rollback($self, /)\n--\n\nRolls back to the savepoint. The transaction stays open, and so does the savepoint."},
+     "rollback($self, /)\n--\n\n"
+     "Rolls back to the last savepoint with this name. The transaction stays open, and so does the savepoint.\n\n"
+     "So inside an inner block with the same name, it goes back to the savepoint of that block."},
     {"__enter__", savepoint_enter, METH_NOARGS, "__enter__($self, /)\n--\n\nSets the savepoint and returns it."},
     {"__exit__", FAST_CALL(savepoint_exit), METH_FASTCALL,
      "__exit__($self, /, *exception)\n--\n\nReleases the savepoint, and rolls back to it first after an exception."},

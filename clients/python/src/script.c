@@ -79,6 +79,8 @@ static bool join(Script *script, Command *command, Command *next, bool *is_joine
     *is_joined = false;
     if (is_empty(command) || is_empty(next)) return true;
     if (command->status != MMDB_SYNTAX && next->status != MMDB_SYNTAX) return true;
+    /* No further line makes it shorter, and each one would copy it again. */
+    if (command->status == MMDB_LINE_TOO_LONG) return true;
     Command both = {.begin = command->begin, .end = next->end, .line = command->line};
     /* A byte that begins no token is found before any word is read, so the second line is cut where it stops by itself. */
     if (next->status == MMDB_SYNTAX && next->place > leading_blanks(next)) both.end = next->begin + next->place;

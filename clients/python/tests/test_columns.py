@@ -121,6 +121,9 @@ def test_columns_of_each_kind(connection: mmdb.Connection) -> None:
     assert connection.executecolumns("UPDATE t SET s = ? WHERE id = ?", (["x", b"y", "z"], [3, 2, True])).rowcount == 3
     assert connection.execute("SELECT a.s FROM t a ORDER 1").fetchall() == [("x",), ("y",), ("z",)]
     assert connection.executecolumns("DELETE t WHERE id = ?", iter([[]])).rowcount == 0
+    at_any_byte = memoryview(b"?" + offsets.tobytes())[1:].cast("i")
+    assert connection.executecolumns("UPDATE t SET s = ? WHERE id = ?", ((at_any_byte, data), [3, 2, 1])).rowcount == 3
+    assert connection.execute("SELECT a.s FROM t a ORDER 1").fetchall() == [("",), ("a",), ("bc",)]
 
 
 def test_columns_that_are_refused(connection: mmdb.Connection) -> None:

@@ -128,7 +128,7 @@ def test_iterdump(papers: mmdb.Connection) -> None:
         "INSERT author (-3, 'it''s é'), (1, 'Carey'), (2, 'Lehman')",
         "INSERT paper (10, 2, 'T-trees'), (11, 1, 'Views'), (12, 2, 'Recovery')",
         "INDEX by_name ON author (name) TREE",
-        "-- WATCH w: its query is not known",
+        "-- WATCH w: its query is unknown",
     ]
     again = mmdb.connect()
     again.executescript("\n".join(lines))
@@ -136,6 +136,27 @@ def test_iterdump(papers: mmdb.Connection) -> None:
     assert again.row_factory is None
     for line in ("SCAN author", "SCAN paper", "SCAN INDEX by_name"):
         assert again.execute(line).fetchall() == papers.execute(line).fetchall()
+
+
+def test_iterdump_of_a_table_that_is_dropped_meanwhile(papers: mmdb.Connection) -> None:
+    papers.execute("TABLE other (id INT KEY)")
+    lines = papers.iterdump()
+    assert next(lines).startswith("TABLE author")
+    papers.commit()
+    papers.execute("DROP TABLE other")
+    with pytest.raises(mmdb.ProgrammingError, match="^no such table$") as raised:
+        list(lines)
+    assert raised.value.number == 20
+
+
+def test_iterdump_of_a_connection_that_counts_as_false() -> None:
+    class Counted(mmdb.Connection):
+        def __len__(self) -> int:
+            return 0
+
+    connection = Counted()
+    connection.execute("TABLE t (id INT KEY)")
+    assert list(connection.iterdump()) == ["TABLE t (id INT KEY)"]
 
 
 def test_there_is_no_interrupt(connection: mmdb.Connection) -> None:

@@ -1,5 +1,7 @@
 """executescript: commands over one line or more."""
 
+import time
+
 import mmdb
 import pytest
 
@@ -92,3 +94,11 @@ def test_a_trace_function_that_closes_the_connection() -> None:
     connection.set_trace_callback(lambda line: connection.close())
     with pytest.raises(mmdb.ProgrammingError, match="the connection is closed"):
         connection.executescript("TABLE t (id INT KEY)\nTABLE u (id INT KEY)")
+
+
+def test_a_command_over_very_many_lines_is_refused_at_once(connection: mmdb.Connection) -> None:
+    connection.execute("TABLE t (id INT KEY, s TEXT)")
+    begin = time.monotonic()
+    with pytest.raises(mmdb.DataError, match="^line 1: line too long") as raised:
+        connection.executescript("INSERT t\n" + 100_000 * "(1, 'a'),\n")
+    assert raised.value.number == 10 and time.monotonic() - begin < 10

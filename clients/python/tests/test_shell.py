@@ -187,7 +187,7 @@ def test_plan(typist: Typist) -> None:
         "    2 | p     | built hash by",
         "2 steps",
     ]
-    assert typist.types(".plan nope") == "there is no standing query nope\n"
+    assert typist.types(".plan nope") == "no standing query nope\n"
     assert typist.types(".plan SELECT a.id FROM nope a").splitlines()[-1] == "error 20 no such table"
     assert typist.types(".plan") == "usage: .plan QUERY\n"
 
@@ -203,7 +203,7 @@ def test_each_usage(typist: Typist) -> None:
         words = "" if name in (".export", ".plan") else "a b c d --e"
         assert typist.types(f"{name} {words}") == f"usage: {name} {command.usage}".rstrip() + "\n"
     assert typist.types(".import t 'half") == "usage: .import TABLE FILE.csv [--header]\n"
-    assert typist.types(".nope x") == "there is no command .nope; .help lists those that are\n"
+    assert typist.types(".nope x") == "unknown command .nope; .help lists all commands\n"
     assert not typist.shell.is_over
 
 
@@ -242,7 +242,7 @@ def test_standing_queries_are_remembered(typist: Typist) -> None:
     typist.types("BEGIN", "UNWATCH w", "ROLLBACK", "WATCH v SELECT a.id FROM nope a")
     assert list(session.queries) == ["w"]
     session.database.execute(b"WATCH hidden SELECT a.id FROM author a")
-    assert typist.types(".plan hidden") == "the query of hidden is not known, since it was not made in this shell\n"
+    assert typist.types(".plan hidden") == "the query of hidden is unknown, since it was not created in this shell\n"
 
 
 def test_a_catalog_is_read_from_its_listing() -> None:

@@ -1,5 +1,6 @@
 """Files of the shell: what is dumped makes the database again, and what is exported can be imported."""
 
+import errno
 import glob
 import io
 import os
@@ -175,7 +176,7 @@ def test_a_dump_that_cannot_be_made_leaves_the_file(tmp_path: "os.PathLike[str]"
         file.write("-- kept\n")
     session = session_of("TABLE t (id INT KEY)")
     session.database.execute(b"WATCH hidden SELECT a.id FROM t a")
-    with pytest.raises(Failure, match="the query of hidden is not known"):
+    with pytest.raises(Failure, match="the query of hidden is unknown"):
         dump(session, path)
     assert read(path) == b"-- kept\n"
     assert os.listdir(tmp_path) == ["kept.mmdb"]
@@ -189,10 +190,24 @@ def test_files_are_written_anew(tmp_path: "os.PathLike[str]") -> None:
     os.symlink(path, link)
     with written(link) as file:
         file.write(b"new")
+        assert os.stat(file.name).st_mode & 0o777 == 0o640
     assert read(path) == b"new" and os.path.islink(link)
     assert os.stat(path).st_mode & 0o777 == 0o640
     with written("/dev/null") as file:
         file.write(b"new")
+
+
+def test_a_device_that_fails_leaves_the_file(tmp_path: "os.PathLike[str]", monkeypatch: pytest.MonkeyPatch) -> None:
+    def fail(_: int) -> None:
+        raise OSError(errno.EIO, "Input/output error")
+
+    path = os.path.join(tmp_path, "kept")
+    with open(path, "w") as old:
+        old.write("old")
+    monkeypatch.setattr(os, "fsync", fail)
+    with pytest.raises(OSError) as raised, written(path) as file:
+        file.write(b"new")
+    assert raised.value.filename == path and read(path) == b"old" and os.listdir(tmp_path) == ["kept"]
 
 
 def test_rows_are_packed_into_lines() -> None:
@@ -247,9 +262,9 @@ def test_import(files: Files) -> None:
 def test_import_with_a_header(files: Files) -> None:
     assert files.imports("t", b"\xef\xbb\xbfr, id ,s\n7,2,two\n", has_header=True) == 1
     assert b"(2, 'two', 7)" in reply(files.session, "SCAN t")
-    files.refuses(b"r,id\n7,2\n", "1: the header names r, id, and the columns are id, s, r", has_header=True)
-    files.refuses(b"\nr,id,s,s\n", "2: the header names r, id, s, s, and the columns are id, s, r", has_header=True)
-    files.refuses(b"", "1: the header names nothing, and the columns are id, s, r", has_header=True)
+    files.refuses(b"r,id\n7,2\n", "1: the header names r, id, but the columns are id, s, r", has_header=True)
+    files.refuses(b"\nr,id,s,s\n", "2: the header names r, id, s, s, but the columns are id, s, r", has_header=True)
+    files.refuses(b"", "1: the header names nothing, but the columns are id, s, r", has_header=True)
 
 
 @pytest.mark.parametrize(
@@ -257,21 +272,21 @@ def test_import_with_a_header(files: Files) -> None:
     [
         (b"2,two,7\n1,again,7\n", "2: error 40 duplicate key: (1, 'again', 7)"),
         (b"2,two,7\n3,it's,8\n", "2: error 41 no target row: (3, 'it''s', 8)"),
-        (b"2,two,7\n3,three\n", "2: 2 fields, and 3 columns in the table"),
-        (b"2,two,7,\n", "1: 4 fields, and 3 columns in the table"),
-        (b"x,two,7\n", "1: 'x' is no number"),
-        (b"1_0,two,7\n", "1: '1_0' is no number"),
-        (b",two,7\n", "1: '' is no number"),
-        (b"+-2,two,7\n", "1: '+-2' is no number"),
-        ("²,two,7\n".encode(), "1: '²' is no number"),
-        (b"1.5,two,7\n", "1: '1.5' is no number"),
+        (b"2,two,7\n3,three\n", "2: 2 fields, but 3 columns in the table"),
+        (b"2,two,7,\n", "1: 4 fields, but 3 columns in the table"),
+        (b"x,two,7\n", "1: 'x' is not a number"),
+        (b"1_0,two,7\n", "1: '1_0' is not a number"),
+        (b",two,7\n", "1: '' is not a number"),
+        (b"+-2,two,7\n", "1: '+-2' is not a number"),
+        ("²,two,7\n".encode(), "1: '²' is not a number"),
+        (b"1.5,two,7\n", "1: '1.5' is not a number"),
         (b"9223372036854775808,two,7\n", "1: 9223372036854775808 does not fit 64 bits"),
         (b"-9223372036854775809,two,7\n", "1: -9223372036854775809 does not fit 64 bits"),
         (b"1" * 5000 + b",two,7\n", "1: " + "1" * 5000 + " does not fit 64 bits"),
-        (b"2," + b"x" * 65 + b",7\n", f"1: the text '{'x' * 65}' has 65 bytes, and 64 are the most"),
-        (b"2,two,7\n\n\n3," + "é".encode() * 33 + b",7\n", f"4: the text '{'é' * 33}' has 66 bytes, and 64 are the most"),
-        (b'2,"a\nb",7\n', "1: the text 'a\\nb' has a line feed"),
-        (b'2,two,7\n3,"a\nb\nc"\n', "2: 2 fields, and 3 columns in the table"),
+        (b"2," + b"x" * 65 + b",7\n", f"1: the text '{'x' * 65}' has 65 bytes; the limit is 64"),
+        (b"2,two,7\n\n\n3," + "é".encode() * 33 + b",7\n", f"4: the text '{'é' * 33}' has 66 bytes; the limit is 64"),
+        (b'2,"a\nb",7\n', "1: the text 'a\\nb' contains a line feed"),
+        (b'2,two,7\n3,"a\nb\nc"\n', "2: 2 fields, but 3 columns in the table"),
         (b"1,again,7\n2\n", "1: error 40 duplicate key: (1, 'again', 7)"),
     ],
 )
@@ -296,7 +311,7 @@ def test_import_of_the_least_and_the_greatest_number(files: Files) -> None:
 def test_long_imports(files: Files) -> None:
     rows = b"".join(b"%d,x,7\n" % number for number in range(10, 4010))
     files.refuses(rows + b"10,x,7\n", "4001: error 40 duplicate key: (10, 'x', 7)")
-    files.refuses(rows + b"10,x\n", "4001: 2 fields, and 3 columns in the table")
+    files.refuses(rows + b"10,x\n", "4001: 2 fields, but 3 columns in the table")
     assert files.imports("t", rows) == 4000
     assert files.session.catalog().tables["t"].rows == 4001
 
@@ -389,14 +404,14 @@ def test_commands_of_files(tmp_path: "os.PathLike[str]") -> None:
         "INSERT t (1, 'a b'), (2, 'c')": "ok 2",
         "WATCH w SELECT a.s FROM t a": "ok",
         f'.export t "{path}" --header': "rows 2",
-        f'.import t "{path}"': f"{path}:1: 'id' is no number",
+        f'.import t "{path}"': f"{path}:1: 'id' is not a number",
         f'.import t "{path}" --header': f"{path}:2: error 40 duplicate key: (1, 'a b')",
         "DELETE t": "ok 2",
         f"  .import  t '{path}'  --header ": "ok 2",
         f".dump {script}": "1 table, 2 rows, 0 indexes, 1 standing query",
         f".export SELECT a.id FROM t a WHERE a.s = 'a b' \"{path}\"": "rows 1",
         f".export SELECT a.id FROM t a WHERE a.s = 'a b'": "usage: .export QUERY-or-TABLE FILE.csv [--header]",
-        f".export nope {tmp_path}/x.csv": "there is no table and no standing query nope",
+        f".export nope {tmp_path}/x.csv": "no table or standing query nope",
         f".export SCAN nope {tmp_path}/x.csv": "error 20 no such table",
         f".export w {tmp_path}/nope/x.csv": f"{tmp_path}/nope/x.csv: No such file or directory",
         f".import t {tmp_path}/x.csv": f"{tmp_path}/x.csv: No such file or directory",

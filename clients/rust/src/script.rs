@@ -81,7 +81,9 @@ impl<'c, 's> Script<'c, 's> {
     fn joined(&self, command: &Command<'c, 's>, next: &Command<'c, 's>) -> Option<Command<'c, 's>> {
         // A command that can be read does not go on with another one.
         let are_two = command.statement.is_ok() && next.statement.is_ok();
-        if are_two || command.is_empty() || next.is_empty() {
+        // No further line makes it shorter, and each one would copy it again.
+        let is_too_long = matches!(&command.statement, Err(Error::Refused(Refusal::LineTooLong)));
+        if are_two || is_too_long || command.is_empty() || next.is_empty() {
             return None;
         }
         let joined = self.command(command.begin, next.begin + next.text.len(), command.line);

@@ -2,6 +2,7 @@
 
 use mmdb::{params, Connection, Error, OptionalExtension, Refusal, Result, Type, Value};
 use std::error::Error as _;
+use std::time::{Duration, Instant};
 
 fn people() -> Result<Connection> {
     let db = Connection::open()?;
@@ -241,6 +242,21 @@ fn commands_of_a_script_extend_over_several_lines() -> Result<()> {
         assert!(matches!(error, Error::InLine { line: found, .. } if found == line), "{script:?}: {error}");
     }
     assert_eq!(db.prepare("SCAN pet")?.query(())?.len(), 1);
+    Ok(())
+}
+
+#[test]
+fn a_command_that_is_too_long_ends_a_script_at_once() -> Result<()> {
+    let db = people()?;
+    let begin = Instant::now();
+    for script in [
+        format!("INSERT person\n{}", "(1, 'a'),\n".repeat(100_000)),
+        format!("SCAN {}\n{}", "x".repeat(5000), "SCAN person\n".repeat(100_000)),
+    ] {
+        let error = db.execute_batch(&script).unwrap_err();
+        assert_eq!(error.to_string(), "line 1: line too long");
+    }
+    assert!(begin.elapsed() < Duration::from_secs(10));
     Ok(())
 }
 
