@@ -137,17 +137,14 @@ natsStatus answers_subscribe_group(struct answers *answers, natsSubscription **s
   return natsConnection_QueueSubscribe(subscription, answers->connection, subject, "replicas", on_request, intake);
 }
 
-void unsubscribe_from(natsSubscription **subscription) {
-  if (*subscription) natsSubscription_Unsubscribe(*subscription);
-  natsSubscription_Destroy(*subscription);
-  *subscription = NULL;
-}
-
 void answers_close(struct answers *answers) {
   natsSubscription **each[] = {&answers->named, &answers->status, &answers->backup, &answers->snapshot, &answers->sums};
-  for (size_t i = 0; i < sizeof each / sizeof *each; i++) unsubscribe_from(each[i]);
-  natsConnection_Destroy(answers->connection);
+  destroy_connection(answers->connection, &answers->ended);
   answers->connection = NULL;
+  for (size_t i = 0; i < sizeof each / sizeof *each; i++) {
+    natsSubscription_Destroy(*each[i]);
+    *each[i] = NULL;
+  }
 }
 
 size_t answers_payload(const struct answers *answers) {

@@ -25,24 +25,35 @@ static void judge(struct replica *replica, const struct sum *sum) {
   if (agreement == SUMS_WRONG && replica->has_rows) {
     replica->distrust_after = replica->agreed;
     replica->sums.own_count = 0;
-    drop_rows(replica, "most replicas have other rows");
+    drop_contradicted(replica, sum->number);
   }
+}
+
+bool make_sum(const struct summing *summing, struct digest *sum) {
+  return database_sum_part(summing->database, summing->table, summing->after, sum);
 }
 
 void publish_sum(struct replica *replica) {
   uint64_t every = replica->options.sum_every, applied = replica->database.applied;
-  char subject[MOST_SUBJECT_BYTES], text[MOST_SUM_BYTES];
-  struct sum sum = {.number = applied};
+  struct digest sum;
   if (!every || applied % every) return;
-  if (!database_sum_part(&replica->database, (size_t)(applied / every), applied - every, &sum.sum)) {
-    tell(replica, "no sum at number %" PRIu64 ": an allocation failed", applied);
-    return;
-  }
+  struct summing summing = {&replica->database, (size_t)(applied / every), applied - every};
+  bool is_small = database_largest(&replica->database) <= MOST_READS;
+  if (is_small && make_sum(&summing, &sum)) publish_own_sum(replica, applied, &sum);
+  else if (is_small) tell(replica, "no sum at number %" PRIu64 ": an allocation failed", applied);
+  else if (!start_sum(replica, &summing))
+    tell(replica, "no sum at number %" PRIu64 ": no child could be made, or the last one runs", applied);
+}
+
+void publish_own_sum(struct replica *replica, uint64_t number, const struct digest *digest) {
+  char subject[MOST_SUBJECT_BYTES], text[MOST_SUM_BYTES];
+  struct sum sum = {.number = number, .sum = *digest};
   memcpy(sum.replica, replica->options.replica, strlen(replica->options.replica) + 1);
   memcpy(sum.identity, replica->log.identity, sizeof sum.identity);
   write_sum(text, &sum);
   write_subject(subject, replica->options.name, "sum", NULL);
   if (is_connected(replica->answers.connection)) natsConnection_PublishString(replica->answers.connection, subject, text);
+  replica->summed = number;
   sums_add(&replica->sums, &sum, true);
   judge(replica, &sum);
 }

@@ -6,7 +6,7 @@
 #include <sys/stat.h>
 
 /* Milliseconds, except the last. */
-enum { CONNECT_WAIT = 2000, RECONNECT_WAIT = 200, PING_EVERY = 2000, WRITE_DEADLINE = 2000, MOST_PINGS_OUT = 2 };
+enum { CONNECT_WAIT = 2000, RECONNECT_WAIT = 200, PING_EVERY = 2000, WRITE_DEADLINE = 2000, FLUSH_WAIT = 1000, MOST_PINGS_OUT = 2 };
 
 enum { MOST_SERVERS = 16, MOST_SERVERS_BYTES = 1024 };
 
@@ -139,6 +139,27 @@ natsStatus connect_to(natsConnection **connection, const struct connecting *conn
 
 bool is_connected(natsConnection *connection) { return natsConnection_Status(connection) == NATS_CONN_STATUS_CONNECTED; }
 
+/* Subscriptions that ended. */
+
+static void free_ended(struct ended *ended) {
+  while (ended->count) natsSubscription_Destroy(ended->at[--ended->count]);
+}
+
+void end_subscription(natsConnection *connection, struct ended *ended, natsSubscription **subscription) {
+  if (!*subscription) return;
+  natsSubscription_Unsubscribe(*subscription);
+  /* The answer of the server to a flush comes after all messages that were looked up before. */
+  if (ended->count == MOST_ENDED && natsConnection_FlushTimeout(connection, FLUSH_WAIT) == NATS_OK) free_ended(ended);
+  /* Without a server there are no more of them. One that has no place is never freed, rather than too early. */
+  if (ended->count < MOST_ENDED) ended->at[ended->count++] = *subscription;
+  *subscription = NULL;
+}
+
+void destroy_connection(natsConnection *connection, struct ended *ended) {
+  natsConnection_Destroy(connection);
+  free_ended(ended);
+}
+
 /* Subjects and headers. */
 
 void write_subject(char subject[MOST_SUBJECT_BYTES], const char *name, const char *word, const char *last) {
@@ -172,7 +193,7 @@ bool is_plain_name(const char *name) {
 
 void hide_passwords(char *servers) {
   for (char *server = servers; *server; server += strcspn(server, ","), server += *server == ',') {
-    char *slashes = strstr(server, "://"), *start = slashes ? slashes + 3 : server;
+    char *slashes = strstr(server, "://"), *end = server + strcspn(server, ","), *start = slashes && slashes < end ? slashes + 3 : server;
     size_t length = strcspn(start, ",@");
     if (start[length] == '@') memset(start, 'x', length);
   }

@@ -63,6 +63,23 @@ natsStatus connect_to(natsConnection **connection, const struct connecting *conn
 /* Whether a connection has a server now. While it has none, libnats would keep what is published, and send it much later. */
 bool is_connected(natsConnection *connection);
 
+/*
+ * Subscriptions that ended. libnats 3.4 looks a subscription up for a message, and locks it later without holding it, so it may be freed
+ * only after the thread that reads the connection has come to something else.
+ */
+enum { MOST_ENDED = 32 };
+
+struct ended {
+  natsSubscription *at[MOST_ENDED];
+  size_t count;
+};
+
+/* Ends a subscription of a connection, unless it is NULL, and sets it to NULL. */
+void end_subscription(natsConnection *connection, struct ended *ended, natsSubscription **subscription);
+
+/* Destroys a connection, and then the subscriptions of it that ended. */
+void destroy_connection(natsConnection *connection, struct ended *ended);
+
 /* Writes NAME.WORD, or NAME.WORD.LAST. */
 void write_subject(char subject[MOST_SUBJECT_BYTES], const char *name, const char *word, const char *last);
 

@@ -11,6 +11,9 @@ enum { MOST_REPLY_BYTES = 128 };
 
 enum { MOST_COLUMNS = 64 };
 
+/* How many rows of a large table an index is expected to find for a value, and for a range. */
+enum { EQUAL_ROWS = 1000, RANGE_ROWS = 100000 };
+
 static const uint8_t rollback_line[] = "ROLLBACK";
 
 /* The place in the log. */
@@ -280,7 +283,79 @@ static enum answer refuse_line(struct database *database, uint8_t status) {
   return add_refusal(&database->replies, status) ? ANSWER_REFUSED : ANSWER_MEMORY;
 }
 
-enum answer database_ask(struct database *database, struct text line, size_t most_bytes, char columns[COLUMNS_BYTES]) {
+/* Reads the number of rows in a line of TABLES: 0 in one of an index. */
+static uint64_t rows_of_line(struct text line) {
+  static const char word[] = " rows ";
+  size_t start = line.length;
+  uint64_t rows;
+  while (start && line.at[start - 1] >= '0' && line.at[start - 1] <= '9') start--;
+  struct text digits = {line.at + start, line.length - start};
+  bool is_count = start >= sizeof word - 1 && !memcmp(line.at + start - (sizeof word - 1), word, sizeof word - 1);
+  return is_count && take_number(&digits, &rows) ? rows : 0;
+}
+
+uint64_t database_largest(struct database *database) {
+  struct bytes tables = {NULL, 0, 0};
+  struct text line;
+  if (database->has_largest && database->largest_at == database->applied) return database->largest;
+  database->has_largest = database_text(database, "TABLES", &tables);
+  database->largest_at = database->applied;
+  database->largest = 0;
+  for (struct text rest = {tables.at, tables.length}; next_line(&rest, &line);) {
+    uint64_t rows = rows_of_line(line);
+    if (rows > database->largest) database->largest = rows;
+  }
+  bytes_free(&tables);
+  return database->has_largest ? database->largest : UINT64_MAX;
+}
+
+static bool has_end(struct text line, const char *end) {
+  size_t length = strlen(end);
+  return line.length >= length && !memcmp(line.at + line.length - length, end, length);
+}
+
+static uint64_t add(uint64_t left, uint64_t right) { return left > UINT64_MAX - right ? UINT64_MAX : left + right; }
+
+static uint64_t multiply(uint64_t left, uint64_t right) { return right && left > UINT64_MAX / right ? UINT64_MAX : left * right; }
+
+static uint64_t lesser(uint64_t left, uint64_t right) { return left < right ? left : right; }
+
+/* Returns how many rows a step of a plan reads for each combination of rows before it. */
+static uint64_t rows_of_step(struct text line, uint64_t largest) {
+  struct text method = word_of_line(line, 1), how = word_of_line(line, 2);
+  if (is_word(method, "precomputed") || has_end(line, " #key =") || has_end(line, " #key")) return 1;
+  if (has_end(line, " range")) return lesser(largest, RANGE_ROWS);
+  bool is_equality = is_word(method, "hash") || is_word(method, "tree") || is_word(how, "hash");
+  return is_equality ? lesser(largest, EQUAL_ROWS) : largest;
+}
+
+uint64_t reads_of_plan(struct text plan, uint64_t largest) {
+  uint64_t combinations = 1, reads = 0;
+  struct text line;
+  while (next_line(&plan, &line) && !is_word(word_of_line(line, 0), "steps")) {
+    bool reads_all = is_word(word_of_line(line, 2), "merge") || is_word(word_of_line(line, 1), "built");
+    combinations = multiply(combinations, rows_of_step(line, largest));
+    reads = add(reads, add(combinations, reads_all ? largest : 0));
+  }
+  return reads;
+}
+
+/* Returns about how many rows a question will read. */
+static uint64_t expected_reads(struct database *database, size_t statement) {
+  struct bytes *plan = &database->replies;
+  uint8_t kind;
+  if (mmdb_statement_kind(&database->db, statement, &kind) != MMDB_DONE || kind == MMDB_KIND_EXPLAIN || kind == MMDB_KIND_TABLES) return 0;
+  if (kind != MMDB_KIND_SELECT) return database_largest(database);
+  uint64_t largest = database_largest(database);
+  uint8_t status = mmdb_explain(&database->db, statement, NULL, 0);
+  bool has_plan = status == MMDB_TEXT && add_text(&database->db, plan, SIZE_MAX);
+  uint64_t reads = has_plan ? reads_of_plan((struct text){plan->at, plan->length}, largest) : 0;
+  plan->length = 0;
+  /* A question that EXPLAIN refuses is refused when it runs, before it reads. */
+  return status == MMDB_TEXT && !has_plan ? UINT64_MAX : reads;
+}
+
+enum answer database_ask(struct database *database, struct text line, const struct limits *limits, char columns[COLUMNS_BYTES]) {
   struct bytes *reply = &database->replies;
   mmdb *db = &database->db;
   size_t statement, holes;
@@ -291,10 +366,12 @@ enum answer database_ask(struct database *database, struct text line, size_t mos
   if (status != MMDB_DONE) return refuse_line(database, status);
   write_columns(db, statement, columns);
   bool has_holes = mmdb_parameters(db, statement, &holes) != MMDB_DONE || holes;
-  status = has_holes ? MMDB_SYNTAX : mmdb_run(db, statement, NULL, 0);
+  bool is_long = !has_holes && limits->reads != ANY_READS && expected_reads(database, statement) > limits->reads;
+  status = has_holes || is_long ? MMDB_SYNTAX : mmdb_run(db, statement, NULL, 0);
   mmdb_finalize(db, statement);
+  if (is_long) return ANSWER_LONG;
   if (has_holes) return refuse_line(database, status);
-  if (status == MMDB_MEMORY || status == MMDB_MISUSE || !add_text(db, reply, most_bytes)) return ANSWER_MEMORY;
+  if (status == MMDB_MEMORY || status == MMDB_MISUSE || !add_text(db, reply, limits->bytes)) return ANSWER_MEMORY;
   if (!reply->length) return ANSWER_TOO_LARGE;
   return status < MMDB_LINE_TOO_LONG ? ANSWER_DONE : ANSWER_REFUSED;
 }

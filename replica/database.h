@@ -46,6 +46,8 @@ struct database {
   struct bytes replies; /* of the script or question at hand */
   struct digester digester;
   struct progress progress;
+  uint64_t largest, largest_at; /* the rows of the largest table or standing query, and applied when they were counted */
+  bool has_largest;
 };
 
 /* What became of a message. */
@@ -61,8 +63,18 @@ enum answer {
   ANSWER_DONE,
   ANSWER_REFUSED,   /* the reply is an error of the language */
   ANSWER_TOO_LARGE, /* the reply exceeds the bytes that it may have */
+  ANSWER_LONG,      /* it is expected to read more rows than it may. It was not run */
   ANSWER_MEMORY     /* an allocation failed */
 };
+
+/* What a question may take: bytes of its reply, and rows that it is expected to read. */
+struct limits {
+  size_t bytes;
+  uint64_t reads;
+};
+
+/* No limit of the rows that a question reads. */
+#define ANY_READS UINT64_MAX
 
 /* Opens an empty database, at number 0 of a log. Returns false if an allocation fails, and then it is closed. */
 bool database_open(struct database *database, const char *identity);
@@ -87,10 +99,19 @@ const struct digest *database_chain_at(const struct database *database, uint64_t
 bool database_digest(struct database *database, struct text script, unsigned flags, struct digest *digest);
 
 /*
- * Answers a line that asks. The reply is in replies, except in the last two cases. columns gets the columns of its rows, as
+ * Answers a line that asks. The reply is in replies, except in the last three cases. columns gets the columns of its rows, as
  * "name INT, name TEXT", or nothing. Nothing else changes.
  */
-enum answer database_ask(struct database *database, struct text line, size_t most_bytes, char columns[COLUMNS_BYTES]);
+enum answer database_ask(struct database *database, struct text line, const struct limits *limits, char columns[COLUMNS_BYTES]);
+
+/* Returns the number of rows of the largest table or standing query; UINT64_MAX if an allocation fails. */
+uint64_t database_largest(struct database *database);
+
+/*
+ * Returns about how many rows a plan, as EXPLAIN returns it, reads, if no table has more than largest rows. An index is expected to find
+ * few rows, so a plan that reads one table by an index may read more than that: all rows of the table, once.
+ */
+uint64_t reads_of_plan(struct text plan, uint64_t largest);
 
 /* Runs a line of a snapshot. Returns false unless it is done. */
 bool database_restore(struct database *database, struct text line);

@@ -55,6 +55,13 @@ bool is_body(struct text body) {
   return !body.length;
 }
 
+size_t count_entries(struct text body) {
+  struct entry entry;
+  size_t count = 0;
+  while (next_entry(&body, &entry)) count++;
+  return count;
+}
+
 bool add_entry(struct bytes *body, const struct entry *entry) {
   if (!bytes_reserve(body, entry->script.length + MOST_HEAD_BYTES)) return false;
   bool is_done = bytes_print(body, "%s %" PRIu64 " %u %zu\n", entry->id, entry->since, entry->flags, entry->script.length);

@@ -8,6 +8,9 @@
 /* The flags of an entry. */
 enum { FLAG_ROWS = 1, ALL_FLAGS = FLAG_ROWS };
 
+/* The most entries of a request. */
+enum { MOST_ENTRIES = 4096 };
+
 /* A script with its id. since is a number of the log before which the id was not sent. */
 struct entry {
   char id[MOST_ID_BYTES + 1];
@@ -21,6 +24,9 @@ bool next_entry(struct text *body, struct entry *entry);
 
 /* Returns whether a body is one or more entries, and nothing else. */
 bool is_body(struct text body);
+
+/* Returns the number of entries at the start of a body. */
+size_t count_entries(struct text body);
 
 /* Appends an entry to a body. Returns false if an allocation fails, and then nothing changed. */
 bool add_entry(struct bytes *body, const struct entry *entry);

@@ -18,10 +18,7 @@ struct follower {
 };
 
 static void unsubscribe(struct follower *follower) {
-  if (!follower->subscription) return;
-  natsSubscription_Unsubscribe(follower->subscription);
-  natsSubscription_Destroy(follower->subscription);
-  follower->subscription = NULL;
+  end_subscription(follower->log->connection, &follower->log->ended, &follower->subscription);
 }
 
 static void subscribe(struct follower *follower) {
@@ -144,7 +141,11 @@ static void *follow(void *closure) {
   while (!is_ending(&follower)) {
     natsMsg *message = NULL;
     if (clock_now() - follower.looked >= look_every) look(&follower);
-    if (!follower.subscription && !is_ending(&follower)) subscribe(&follower);
+    if (!follower.subscription && !is_ending(&follower)) {
+      subscribe(&follower);
+      /* If the log was made again before that, no message of the new one is passed on. */
+      if (follower.subscription) look(&follower);
+    }
     if (!follower.subscription) {
       nats_Sleep(NEXT_WAIT); /* it may have failed at once, and nothing says when it would not */
       continue;

@@ -102,24 +102,39 @@ static bool keep_lost(struct replica *replica) {
 
 static void close_rows(struct replica *replica) {
   leave_group(replica, STATE_LOADING);
+  stop_tasks(replica);
   log_unfollow(&replica->log);
   free_pending(replica);
   if (replica->has_rows) database_close(&replica->database);
   replica->has_rows = false;
 }
 
-void drop_rows(struct replica *replica, const char *why) {
+/* Drops rows that are wrong. */
+static void drop_rows(struct replica *replica, const char *why) {
   alarm_all(replica, "%s at number %" PRIu64 ": it drops its rows and begins again", why, replica->database.applied);
   keep_lost(replica);
   close_rows(replica);
   again_later(replica);
 }
 
-/* The rows are whole, and not those of the log: they are written to a file first, and stay where that fails. */
+/* Keeps rows that are not those of the log, and that no folder takes, until the replica is ended. They can be backed up. */
+static void keep_apart(struct replica *replica, const char *why) {
+  replica->next_try = INT64_MAX;
+  replica->is_apart = true;
+  alarm_all(replica, "%s at number %" PRIu64 ": it keeps its rows outside the group until it is ended, as it has no folder for them", why,
+            replica->database.applied);
+}
+
+/* The rows are whole, and not those of the log: they are written to a file first, and stay where that fails or where there is no folder. */
 static void lose_rows(struct replica *replica, const char *why) {
   leave_group(replica, STATE_HALTED);
   log_unfollow(&replica->log);
   replica->why_halted = MISSING_HISTORY;
+  replica->sums = (struct sums){.own_count = 0}; /* those of the lost history say nothing of the new one */
+  if (replica->database.applied && !replica->snapshots.folder) {
+    keep_apart(replica, why);
+    return;
+  }
   if (!keep_lost(replica)) {
     tell_once(replica, "%s, and its rows cannot be written: it keeps them and tries again", why);
     again_later(replica);
@@ -135,6 +150,9 @@ static void become_orphan(struct replica *replica) {
   replica->next_try = clock_now() + LONGEST_PAUSE;
   alarm_all(replica, "log %s is gone: it keeps its rows at number %" PRIu64 " until it is ended, and answers questions as orphaned",
             replica->log.identity, replica->database.applied);
+  if (replica->cut_below)
+    alarm_all(replica, "another log was made while it cut this one off: the new one may lack messages below number %" PRIu64,
+              replica->cut_below);
   keep_lost(replica);
   if (!member_join(&replica->member, false)) tell(replica, "cannot listen to questions");
 }
@@ -196,11 +214,12 @@ static bool begin(struct replica *replica, uint64_t least) {
   return true;
 }
 
-/* The log was cut off after the rows, or has a hole there: a newer snapshot leads on. */
-static bool begin_past(struct replica *replica) {
+/* The log was cut off after the rows, or has a hole there: a newer snapshot leads on to the first message of the log. */
+static bool begin_past(struct replica *replica, uint64_t first) {
   struct head head;
   uint64_t applied = replica->database.applied;
-  if (!snapshots_newest_past(&replica->snapshots, replica->log.identity, applied, &head) || !agrees_with(replica, &head)) return false;
+  if (!snapshots_newest_past(&replica->snapshots, replica->log.identity, applied, &head)) return false;
+  if (head.number + 1 < first || !agrees_with(replica, &head)) return false;
   tell(replica, "a snapshot leads on from number %" PRIu64, applied);
   close_rows(replica);
   return begin(replica, applied + 1);
@@ -210,6 +229,10 @@ static bool begin_past(struct replica *replica) {
 static void resume(struct replica *replica) {
   struct database *database = &replica->database;
   struct extent extent;
+  if (replica->is_apart) {
+    replica->next_try = INT64_MAX;
+    return;
+  }
   natsStatus status = log_look(&replica->log, &extent);
   if (status != NATS_OK) {
     tell_once(replica, "keeps its rows and waits: %s", status == NATS_NOT_FOUND ? "there is no such log" : "the log does not answer");
@@ -229,7 +252,7 @@ static void resume(struct replica *replica) {
     return;
   }
   bool is_cut = extent.first > database->applied + 1;
-  if ((is_cut || replica->why_halted == MISSING_HOLE) && begin_past(replica)) return;
+  if ((is_cut || replica->why_halted == MISSING_HOLE) && begin_past(replica, extent.first)) return;
   if (is_cut) {
     tell_once(replica, "the log begins at %" PRIu64 ", and no snapshot leads on from number %" PRIu64, extent.first, database->applied);
     again_later(replica);
@@ -252,14 +275,13 @@ void on_missing(struct replica *replica, enum missing why) {
   replica->why_halted = why;
   bool is_new = !replica->trouble[0];
   tell_once(replica, "%s (number %" PRIu64 ")", words[why], replica->database.applied);
-  if (why == MISSING_HISTORY) {
-    lose_rows(replica, words[why]);
-  } else if (why == MISSING_OTHER_LOG && replica->database.applied) {
+  if (why == MISSING_OTHER_LOG && replica->database.applied) {
     become_orphan(replica);
   } else if (why == MISSING_OTHER_LOG) {
     close_rows(replica);
     again_later(replica);
-  } else if (is_new) {
+  } else if (is_new || why == MISSING_HISTORY) {
+    /* Another history may be that of another log, which a later look tells. */
     at_once(replica);
   } else {
     again_later(replica);
@@ -303,11 +325,14 @@ static void cut_log(struct replica *replica) {
   struct head older;
   if (!keep || applied <= keep || !snapshots_older_of_two(&replica->snapshots, log->identity, &older)) return;
   uint64_t last = older.number < applied - keep ? older.number : applied - keep;
-  if (log_look(log, &extent) != NATS_OK || strcmp(extent.identity, log->identity) || extent.last < applied || extent.first > last) return;
   /* The older one has to be of the log as it is now. The newer one was written or followed by this replica. */
   if (log_leads_to(log, &replica->database.digester, older.number, &older.before, &older.chain) != SAID_YES) return;
+  if (log_look(log, &extent) != NATS_OK || strcmp(extent.identity, log->identity) || extent.last < applied || extent.first > last) return;
+  /* JetStream drops messages of the log that has the name when the request arrives, which may be another one by then. */
+  replica->cut_below = last + 1;
   natsStatus status = log_drop(log, last + 1);
   if (status != NATS_OK) tell(replica, "old messages were not dropped: %s", natsStatus_GetText(status));
+  else if (log_look(log, &extent) == NATS_OK && !strcmp(extent.identity, log->identity)) replica->cut_below = 0;
 }
 
 void step_aside(struct replica *replica) {
@@ -317,10 +342,16 @@ void step_aside(struct replica *replica) {
   replica->is_away = true;
 }
 
+/* Whether the log is known to have another history than the rows, which are still there because no folder has taken them. */
+static bool has_lost_history(const struct replica *replica) {
+  return replica->state == STATE_HALTED && replica->why_halted == MISSING_HISTORY;
+}
+
 /* Writes a snapshot. The replica leaves the group for that, so that nobody waits for it. */
 static bool write_snapshot(struct replica *replica) {
   const char *identity = replica->log.identity;
   if (!replica->snapshots.folder || replica->is_doubted || database_is_between(&replica->database)) return false;
+  if (has_lost_history(replica)) return false;
   step_aside(replica);
   replica->snapshot_at = replica->database.applied;
   if (!snapshot_write(&replica->snapshots, &replica->database, identity, false)) return false;
@@ -358,10 +389,13 @@ void on_snapshot(struct replica *replica, natsMsg *request) {
 
 void end_life(struct replica *replica) {
   bool has_news = replica->has_rows && replica->database.applied > replica->snapshot_at && replica->state != STATE_ORPHANED;
+  end_tasks(replica);
   if (has_news && replica->options.snapshot_every) write_snapshot(replica);
+  if (replica->has_rows && has_lost_history(replica)) keep_lost(replica);
   close_connections(replica);
   if (replica->has_rows) database_close(&replica->database);
   replica->has_rows = false;
+  bytes_free(&replica->entries);
 }
 
 /* Messages. */
@@ -386,13 +420,19 @@ static bool contradicts_log(struct replica *replica, uint64_t number) {
   return said == SAID_NO;
 }
 
+void drop_contradicted(struct replica *replica, uint64_t number) {
+  if (replica->is_apart || replica->state == STATE_ORPHANED) return;
+  if (contradicts_log(replica, number)) on_missing(replica, MISSING_HISTORY);
+  else drop_rows(replica, "most replicas have other rows");
+}
+
 /* Another replica had another history at a number. Either this one is wrong, or the other. It is looked into once a second. */
 static void on_other_history(struct replica *replica, const char *publisher, uint64_t number) {
   if (clock_now() - replica->asked_log < PAUSE) return;
   replica->asked_log = clock_now();
   alarm_all(replica, "OTHER HISTORY: replica %s has another one at number %" PRIu64, publisher, number);
   if (contradicts_log(replica, number)) {
-    lose_rows(replica, "the log has another history than its rows");
+    on_missing(replica, MISSING_HISTORY);
   } else if (!replica->is_grounded && !replica->is_doubted) {
     replica->has_distrusted = true;
     replica->distrusted = replica->began_with;

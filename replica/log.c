@@ -32,7 +32,7 @@ natsStatus log_open(struct log *log, const struct connecting *connecting, const 
 
 void log_close(struct log *log) {
   jsCtx_Destroy(log->jetstream);
-  natsConnection_Destroy(log->connection);
+  destroy_connection(log->connection, &log->ended);
   log->jetstream = NULL;
   log->connection = NULL;
 }

@@ -17,6 +17,7 @@ enum { CALL_WAIT = 1000, LEAST_LOOK_EVERY = 10, LOOK_EVERY = 1000, LONGEST_QUIET
 struct log {
   natsConnection *connection;
   jsCtx *jetstream;
+  struct ended ended; /* subscriptions of its followers */
   const char *name, *replica;
   struct queue *queue;
   int64_t look_every;

@@ -29,9 +29,11 @@ void member_close(struct member *member) {
   pthread_mutex_destroy(&member->mutex);
 }
 
+/* Without a subscription, main may be changing the connection. */
 static void leave(struct member *member) {
-  unsubscribe_from(&member->questions);
-  unsubscribe_from(&member->changes);
+  struct answers *answers = member->answers;
+  if (member->questions) end_subscription(answers->connection, &answers->ended, &member->questions);
+  if (member->changes) end_subscription(answers->connection, &answers->ended, &member->changes);
 }
 
 bool member_join(struct member *member, bool takes_changes) {

@@ -8,6 +8,7 @@
 #include "bytes.h"
 #include "connect.h"
 #include "database.h"
+#include "entry.h"
 #include "script.h"
 #include <errno.h>
 #include <getopt.h>
@@ -23,14 +24,18 @@
  * replicas to report their status; for which the number of the last answer serves as the one before which an id was not sent. */
 enum { TRY_WAIT = 2500, MOST_TRY_WAIT = 20000, PAUSE = 100, STATUS_WAIT = 1000, NUMBER_LIFE = 1000 };
 
+/* Milliseconds that --wait may be, so that a time after them is a number of 64 bits. */
+#define LONGEST_WAIT (INT64_MAX / 2)
+
 enum { RANDOM_BYTES = 12, MOST_PREFIX_BYTES = MOST_ID_BYTES - 21, DIGITS_BYTES = 24 };
 
-/* With --load, lines of INSERT are sent in scripts of at most this many bytes. */
+/* With --load, lines of INSERT are sent in scripts of at most this many bytes; with --together, changes in requests of about as many. */
 enum { LOAD_BYTES = 256 * 1024 };
 
 static const char usage[] =
     "usage: mmdb-ask [--servers URL,..] [--name LOG] [--login FILE] [--inbox PREFIX] [--wait MILLISECONDS] ACTION\n"
-    "       [--replica NAME] [--id PREFIX [--since N]] [--at-least N] [--linearizable] [--rows] [--load] [--numbers] < SCRIPT\n"
+    "       [--replica NAME] [--id PREFIX [--since N]] [--at-least N] [--linearizable] [--rows] [--load] [--together N]\n"
+    "       [--numbers] < SCRIPT\n"
     "       --make-log COPIES | --status | --backup REPLICA > FILE | --snapshot REPLICA\n";
 
 enum action { ACTION_SCRIPT, ACTION_MAKE_LOG, ACTION_STATUS, ACTION_BACKUP, ACTION_SNAPSHOT };
@@ -45,7 +50,10 @@ struct asker {
   mmdb reader;                      /* a database that only reads lines */
   bool is_inside;                   /* the script that is gathered began with BEGIN */
   uint64_t number, changes, copies; /* the number to demand; how many changes there were; the copies of a log to make */
-  uint64_t since;
+  uint64_t since, together;         /* how many changes to send in one request */
+  uint64_t ends;                    /* how many empty changes there were for --linearizable */
+  struct bytes gathered;            /* the entries of changes that are not sent yet */
+  uint64_t gathered_count;
   int64_t wait, seen;       /* for how long to try; when the last answer came */
   atomic_bool is_forbidden; /* the servers do not permit what was sent */
   bool shows_numbers, was_refused, has_since, is_linearizable, demands_rows, loads;
@@ -54,8 +62,8 @@ struct asker {
 /* What a request says beside its body. id is NULL for a question. */
 struct demand {
   const char *id;
-  uint64_t number; /* the least number of the answer, or the number before which the id was not sent */
-  bool has_number;
+  uint64_t number;              /* the least number of the answer, or the number before which the id was not sent */
+  bool has_number, has_entries; /* whether the body is entries, which have ids of their own */
 };
 
 static int64_t now(void) {
@@ -74,8 +82,11 @@ static void print_words(FILE *file, const char *words) {
 static natsStatus set_headers(natsMsg *message, const struct asker *asker, const struct demand *demand, int64_t wait) {
   char digits[DIGITS_BYTES];
   natsStatus status = NATS_OK;
-  if (demand->id) status = natsMsgHeader_Set(message, ID_HEADER, demand->id);
-  if (status == NATS_OK && demand->id && asker->demands_rows) status = natsMsgHeader_Set(message, CONDITION_HEADER, "rows");
+  snprintf(digits, sizeof digits, "%d", LOG_FORMAT);
+  if (demand->has_entries) status = natsMsgHeader_Set(message, FORMAT_HEADER, digits);
+  else if (demand->id) status = natsMsgHeader_Set(message, ID_HEADER, demand->id);
+  if (status == NATS_OK && demand->id && !demand->has_entries && asker->demands_rows)
+    status = natsMsgHeader_Set(message, CONDITION_HEADER, "rows");
   if (status == NATS_OK && demand->has_number) {
     snprintf(digits, sizeof digits, "%" PRIu64, demand->number);
     status = natsMsgHeader_Set(message, demand->id ? SINCE_HEADER : AT_LEAST_HEADER, digits);
@@ -133,27 +144,28 @@ static void tell_unanswered(const struct demand *demand, const char *said) {
 
 /*
  * Sends a request until it is answered, or the time is over; that is reported on standard error, and NULL returned. An answer of a replica
- * whose log is gone is returned if there is no better one. A question that gets no answer may keep a replica busy, so it waits longer at
- * each try.
+ * whose log is gone is returned if there is no better one. A question that takes longer than this program waits is given twice the time at
+ * the next try; one that takes longer than a replica allows is not tried again.
  */
 static natsMsg *answer_to(struct asker *asker, const struct demand *demand, struct text body) {
   int64_t until = now() + asker->wait, wait = TRY_WAIT;
   for (;;) {
     natsMsg *answer = NULL;
-    int64_t left = until - now(), most = left > PAUSE ? left : PAUSE;
+    int64_t sent = now(), left = until - sent, most = left > PAUSE ? left : PAUSE;
     natsStatus status = request(asker, demand, body, wait < most ? wait : most, &answer);
     const char *said = status == NATS_OK ? header_of(answer, STATUS_HEADER) : natsStatus_GetText(status), *end = hopeless(asker, status);
     if (!said) said = "the answer has no status";
     bool is_answer = status == NATS_OK && header_of(answer, STATUS_HEADER);
-    if (is_answer && !is_passing(said)) return answer;
+    bool was_longer = is_answer && !strcmp(said, "too-long") && now() - sent > wait / 2 && wait < MOST_TRY_WAIT;
+    if (is_answer && !is_passing(said) && !was_longer) return answer;
     if (end || now() >= until) {
-      if (is_answer && !strcmp(said, "orphaned")) return answer;
+      if (is_answer && (was_longer || !strcmp(said, "orphaned"))) return answer;
       tell_unanswered(demand, end ? end : said);
       natsMsg_Destroy(answer);
       return NULL;
     }
     natsMsg_Destroy(answer);
-    if (status != NATS_TIMEOUT) nats_Sleep(PAUSE);
+    if (status != NATS_TIMEOUT && !was_longer) nats_Sleep(PAUSE);
     else if (!demand->id && wait < MOST_TRY_WAIT) wait *= 2;
   }
 }
@@ -168,15 +180,9 @@ static void take_place(struct asker *asker, natsMsg *answer) {
   asker->seen = now();
 }
 
-/* Prints an answer, and frees it. Returns false if there is none, or if it cannot be printed. */
-static bool print_answer(struct asker *asker, natsMsg *answer) {
-  if (!answer) return false;
-  const char *status = header_of(answer, STATUS_HEADER), *replica = header_of(answer, REPLICA_HEADER);
-  struct text body = body_of(answer);
-  uint64_t number = 0;
+/* Prints what became of a change or a question. Returns false if it cannot be printed. */
+static bool print_outcome(struct asker *asker, const char *status, uint64_t number, const char *replica, struct text body) {
   bool has = has_replies(status);
-  number_in_header(answer, SEQUENCE_HEADER, &number);
-  if (has) take_place(asker, answer);
   if (asker->shows_numbers || !has) {
     printf("-- ");
     print_words(stdout, status);
@@ -185,10 +191,20 @@ static bool print_answer(struct asker *asker, natsMsg *answer) {
     printf("\n");
   }
   if (!has && strcmp(status, "orphaned") && body.length) printf("-- ");
-  bool is_done = fwrite(body.at, 1, body.length, stdout) == body.length && fflush(stdout) == 0;
   if (!has || !strcmp(status, "unmet")) asker->was_refused = true;
+  return fwrite(body.at, 1, body.length, stdout) == body.length;
+}
+
+/* Prints an answer, and frees it. Returns false if there is none, or if it cannot be printed. */
+static bool print_answer(struct asker *asker, natsMsg *answer) {
+  if (!answer) return false;
+  const char *status = header_of(answer, STATUS_HEADER);
+  uint64_t number = 0;
+  number_in_header(answer, SEQUENCE_HEADER, &number);
+  if (has_replies(status)) take_place(asker, answer);
+  bool is_done = print_outcome(asker, status, number, header_of(answer, REPLICA_HEADER), body_of(answer));
   natsMsg_Destroy(answer);
-  return is_done;
+  return fflush(stdout) == 0 && is_done;
 }
 
 /* Asks for the number of the log: an id that is made after that was not sent before it. */
@@ -201,33 +217,120 @@ static bool learn_number(struct asker *asker) {
   return true;
 }
 
-static natsMsg *send_change(struct asker *asker, struct text script) {
-  char id[MOST_ID_BYTES + 1];
+/* Reads the number before which the next ids were not sent. Returns false if it cannot be learnt. */
+static bool take_since(struct asker *asker, struct demand *demand) {
   bool is_own_id = asker->prefix == asker->random;
   /* While this program waited for its input, so many ids may have passed that an older number says nothing. */
-  if (is_own_id && now() - asker->seen > NUMBER_LIFE && !learn_number(asker)) return NULL;
-  snprintf(id, sizeof id, "%s-%" PRIu64, asker->prefix, ++asker->changes);
-  struct demand demand = {.id = id, .number = is_own_id ? asker->number : asker->since, .has_number = is_own_id || asker->has_since};
+  if (is_own_id && now() - asker->seen > NUMBER_LIFE && !learn_number(asker)) return false;
+  demand->number = is_own_id ? asker->number : asker->since;
+  demand->has_number = is_own_id || asker->has_since;
+  return true;
+}
+
+static void make_id(struct asker *asker, char id[MOST_ID_BYTES + 1]) {
+  snprintf(id, MOST_ID_BYTES + 1, "%s-%" PRIu64, asker->prefix, ++asker->changes);
+}
+
+static natsMsg *send_change(struct asker *asker, struct text script) {
+  char id[MOST_ID_BYTES + 1];
+  struct demand demand = {.id = id};
+  if (!take_since(asker, &demand)) return NULL;
+  make_id(asker, id);
   return answer_to(asker, &demand, script);
 }
 
-static bool change(struct asker *asker, struct text script) { return print_answer(asker, send_change(asker, script)); }
+/* Several changes in one request. */
 
-/* Puts an empty change into the log, so that a question at its number sees all that was answered before now. */
+/* Makes the body of the request. Returns false if an allocation fails. */
+static bool make_body(struct asker *asker, const struct demand *demand, struct bytes *body) {
+  struct text rest = {asker->gathered.at, asker->gathered.length};
+  struct entry entry;
+  bool is_done = true;
+  while (is_done && next_entry(&rest, &entry)) {
+    entry.since = demand->has_number ? demand->number : UINT64_MAX;
+    is_done = add_entry(body, &entry);
+  }
+  return is_done;
+}
+
+/* Takes the outcome of one change off an answer: a line ID STATUS NUMBER BYTES, the replies, and a line feed. */
+static bool take_outcome(struct text *body, char status[MOST_ID_BYTES + 1], uint64_t *number, struct text *replies) {
+  char head[2 * MOST_ID_BYTES + DIGITS_BYTES];
+  struct text line;
+  uint64_t length;
+  if (!next_line(body, &line) || line.length >= sizeof head) return false;
+  memcpy(head, line.at, line.length);
+  head[line.length] = 0;
+  if (sscanf(head, "%*64s %64s %20" SCNu64 " %20" SCNu64, status, number, &length) != 3 || length >= body->length) return false;
+  *replies = (struct text){body->at, (size_t)length};
+  *body = (struct text){body->at + length + 1, body->length - (size_t)length - 1};
+  return true;
+}
+
+static bool print_outcomes(struct asker *asker, natsMsg *answer) {
+  const char *replica = header_of(answer, REPLICA_HEADER);
+  char status[MOST_ID_BYTES + 1];
+  struct text body = body_of(answer), replies;
+  uint64_t number;
+  bool is_done = true;
+  take_place(asker, answer);
+  while (is_done && body.length)
+    is_done = take_outcome(&body, status, &number, &replies) && print_outcome(asker, status, number, replica, replies);
+  natsMsg_Destroy(answer);
+  return fflush(stdout) == 0 && is_done;
+}
+
+/* Sends the changes that were gathered, and prints what became of each. */
+static bool send_gathered(struct asker *asker) {
+  char first[MOST_ID_BYTES + 1];
+  struct bytes body = {NULL, 0, 0};
+  struct text entries = {asker->gathered.at, asker->gathered.length};
+  struct entry entry;
+  struct demand demand = {.id = first, .has_entries = true};
+  if (!next_entry(&entries, &entry)) return true;
+  memcpy(first, entry.id, sizeof first);
+  bool is_done = take_since(asker, &demand) && make_body(asker, &demand, &body);
+  natsMsg *answer = is_done ? answer_to(asker, &demand, (struct text){body.at, body.length}) : NULL;
+  bytes_free(&body);
+  asker->gathered.length = asker->gathered_count = 0;
+  if (!answer) return false;
+  return strcmp(header_of(answer, STATUS_HEADER), "done") ? print_answer(asker, answer) : print_outcomes(asker, answer);
+}
+
+/* Gathers a change for the next request. */
+static bool gather(struct asker *asker, struct text script) {
+  struct entry entry = {.flags = asker->demands_rows ? FLAG_ROWS : 0, .script = script};
+  if (asker->gathered.length + script.length > LOAD_BYTES && !send_gathered(asker)) return false;
+  make_id(asker, entry.id);
+  if (!add_entry(&asker->gathered, &entry)) return false;
+  return ++asker->gathered_count < asker->together || send_gathered(asker);
+}
+
+static bool change(struct asker *asker, struct text script) {
+  if (asker->together > 1 && script.length <= LOAD_BYTES) return gather(asker, script);
+  return send_gathered(asker) && print_answer(asker, send_change(asker, script));
+}
+
+/*
+ * Puts an empty change into the log, so that a question at its number sees all that was answered before now. Its id is always a new one: an
+ * id of an earlier run would be answered with the number of that run. It changes nothing, so it does not matter when it was sent first.
+ */
 static bool reach_end(struct asker *asker) {
   static const char nothing[] = "BEGIN\nCOMMIT\n";
+  char id[MOST_ID_BYTES + 1];
   for (int64_t until = now() + asker->wait;;) {
-    natsMsg *answer = send_change(asker, (struct text){(const uint8_t *)nothing, sizeof nothing - 1});
+    snprintf(id, sizeof id, "%s-end-%" PRIu64, asker->random, ++asker->ends);
+    natsMsg *answer = answer_to(asker, &(struct demand){.id = id}, (struct text){(const uint8_t *)nothing, sizeof nothing - 1});
     if (!answer) return false;
     bool is_done = !strcmp(header_of(answer, STATUS_HEADER), "done");
     if (is_done) take_place(asker, answer);
     natsMsg_Destroy(answer);
     if (is_done || now() >= until) return is_done;
-    asker->seen = 0; /* it was forgotten: nothing is lost with it, and the next one has a newer number */
   }
 }
 
 static bool ask(struct asker *asker, struct text line) {
+  if (!send_gathered(asker)) return false;
   if (asker->is_linearizable && !reach_end(asker)) return false;
   struct demand demand = {.number = asker->number, .has_number = true};
   return print_answer(asker, answer_to(asker, &demand, line));
@@ -283,10 +386,12 @@ static bool take_script(struct asker *asker) {
     is_done = asker->loads ? load_line(asker, &script, line) : take_line(asker, &script, line);
   }
   if (is_done && asker->loads) is_done = end_load(asker, &script);
+  is_done = is_done && send_gathered(asker);
   if (is_done && script.length) fprintf(stderr, "mmdb-ask: the input ends in a transaction, which was not sent\n");
   is_done = is_done && !script.length && !ferror(stdin);
   free(bytes);
   bytes_free(&script);
+  bytes_free(&asker->gathered);
   mmdb_close(&asker->reader);
   return is_done;
 }
@@ -338,6 +443,8 @@ static natsStatus request_all(struct asker *asker, const char *word, const char 
   write_subject(subject, asker->name, word, last);
   snprintf(digits, sizeof digits, "%d", MOST_TRY_WAIT);
   natsStatus status = natsConnection_SubscribeSync(answers, asker->connection, inbox);
+  /* By default, libnats drops what it has no room for in 64 MiB while standard output is slow. */
+  if (status == NATS_OK) status = natsSubscription_SetPendingLimits(*answers, -1, -1);
   if (status == NATS_OK) status = natsMsg_Create(&message, subject, inbox, "", 0);
   if (status == NATS_OK) status = natsMsgHeader_Set(message, WAIT_HEADER, digits);
   if (status == NATS_OK) status = natsConnection_PublishMsg(asker->connection, message);
@@ -360,7 +467,14 @@ static bool print_status(struct asker *asker) {
   }
   natsSubscription_Destroy(answers);
   if (!has_any) fprintf(stderr, "mmdb-ask: no replica answers\n");
-  return has_any;
+  return fflush(stdout) == 0 && has_any;
+}
+
+/* Takes the last answer to a command: its status, unless fewer bytes came before it than were sent. Older replicas do not say how many. */
+static void take_last(char last[MOST_ID_BYTES], const char *said, struct text body, uint64_t received) {
+  uint64_t sent;
+  bool is_whole = strcmp(said, "done") || !body.length || (take_number(&body, &sent) && sent == received);
+  snprintf(last, MOST_ID_BYTES, "%s", is_whole ? said : "parts of it were lost on their way: try again");
 }
 
 /* Receives what a replica does for an operator, and prints its parts. The answer with a status is the last one. */
@@ -368,13 +482,14 @@ static bool command(struct asker *asker, const char *word) {
   natsSubscription *answers = NULL;
   const char *said = NULL;
   char last[MOST_ID_BYTES] = "no answer";
+  uint64_t received = 0;
   natsStatus status = request_all(asker, word, asker->replica, &answers);
-  while (status == NATS_OK && !said) {
+  for (struct text body; status == NATS_OK && !said; received += body.length) {
     natsMsg *answer = NULL;
     status = natsSubscription_NextMsg(&answer, answers, asker->wait);
-    struct text body = answer ? body_of(answer) : (struct text){NULL, 0};
+    body = answer ? body_of(answer) : (struct text){NULL, 0};
     said = answer ? header_of(answer, STATUS_HEADER) : NULL;
-    if (said) snprintf(last, sizeof last, "%s", said);
+    if (said) take_last(last, said, body, received);
     else if (answer && natsMsg_IsNoResponders(answer)) status = NATS_NO_RESPONDERS;
     else if (fwrite(body.at, 1, body.length, stdout) != body.length) status = NATS_IO_ERROR;
     natsMsg_Destroy(answer);
@@ -429,9 +544,10 @@ static bool read_option(struct asker *asker, int letter, char *value) {
   case 'l': return asker->is_linearizable = true;
   case 'q': return asker->demands_rows = true;
   case 'd': return asker->loads = true;
+  case 'g': return read_count(value, &asker->together) && asker->together && asker->together <= MOST_ENTRIES;
   case 'x': asker->inbox = value; return strlen(value) < MOST_SUBJECT_BYTES / 2;
   case 'o': return read_login_option(value, &asker->login);
-  case 'w': asker->wait = 0; return read_count(value, &count) && (asker->wait = (int64_t)count) >= 0;
+  case 'w': return read_count(value, &count) && (asker->wait = (int64_t)count) <= LONGEST_WAIT;
   case 'm': return read_action(asker, ACTION_MAKE_LOG, NULL) && read_count(value, &asker->copies) && asker->copies;
   case 't': return read_action(asker, ACTION_STATUS, NULL);
   case 'b': return read_action(asker, ACTION_BACKUP, value);
@@ -442,10 +558,9 @@ static bool read_option(struct asker *asker, int letter, char *value) {
 
 static bool choose_prefix(struct asker *asker) {
   uint8_t bytes[RANDOM_BYTES];
-  if (asker->prefix) return true;
   if (getrandom(bytes, sizeof bytes, 0) != sizeof bytes) return false;
   for (size_t i = 0; i < sizeof bytes; i++) snprintf(asker->random + 2 * i, 3, "%02x", bytes[i]);
-  asker->prefix = asker->random;
+  if (!asker->prefix) asker->prefix = asker->random;
   return true;
 }
 
@@ -458,12 +573,11 @@ static bool read_environment(struct asker *asker) {
 
 static bool read_options(struct asker *asker, int count, char **words) {
   static const struct option names[] = {
-      {"servers", 1, NULL, 's'},      {"name", 1, NULL, 'n'},     {"replica", 1, NULL, 'r'},
-      {"id", 1, NULL, 'i'},           {"since", 1, NULL, 'c'},    {"at-least", 1, NULL, 'a'},
-      {"wait", 1, NULL, 'w'},         {"numbers", 0, NULL, 'v'},  {"login", 1, NULL, 'o'},
-      {"linearizable", 0, NULL, 'l'}, {"rows", 0, NULL, 'q'},     {"load", 0, NULL, 'd'},
-      {"inbox", 1, NULL, 'x'},        {"make-log", 1, NULL, 'm'}, {"status", 0, NULL, 't'},
-      {"backup", 1, NULL, 'b'},       {"snapshot", 1, NULL, 'p'}, {NULL, 0, NULL, 0},
+      {"servers", 1, NULL, 's'},  {"name", 1, NULL, 'n'},         {"replica", 1, NULL, 'r'}, {"id", 1, NULL, 'i'},
+      {"since", 1, NULL, 'c'},    {"at-least", 1, NULL, 'a'},     {"wait", 1, NULL, 'w'},    {"numbers", 0, NULL, 'v'},
+      {"login", 1, NULL, 'o'},    {"linearizable", 0, NULL, 'l'}, {"rows", 0, NULL, 'q'},    {"load", 0, NULL, 'd'},
+      {"inbox", 1, NULL, 'x'},    {"make-log", 1, NULL, 'm'},     {"status", 0, NULL, 't'},  {"backup", 1, NULL, 'b'},
+      {"snapshot", 1, NULL, 'p'}, {"together", 1, NULL, 'g'},     {NULL, 0, NULL, 0},
   };
   *asker = (struct asker){.name = "mmdb", .inbox = "_INBOX", .wait = 30000};
   if (!read_environment(asker)) return false;

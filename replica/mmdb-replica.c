@@ -17,7 +17,8 @@
 
 static const char usage[] =
     "usage: mmdb-replica --replica NAME [--servers URL,..] [--name LOG] [--snapshots FOLDER] [--snapshot-every N] [--keep N]\n"
-    "                    [--sum-every N] [--lost-after MILLISECONDS] [--inbox PREFIX] [--login FILE] [--answer-login FILE]\n";
+    "                    [--sum-every N] [--lost-after MILLISECONDS] [--question-time MILLISECONDS] [--inbox PREFIX] [--login FILE]\n"
+    "                    [--answer-login FILE]\n";
 
 /* Reports. */
 
@@ -79,10 +80,14 @@ static void *wait_for_signal(void *closure) {
   return NULL;
 }
 
-/* The threads that are made later inherit the mask, so signals come to this thread alone. */
+/*
+ * The threads that are made later inherit the mask, so signals come to this thread alone. How a child ended is not known while SIGCHLD is
+ * ignored, as a program may do that starts the replica.
+ */
 static bool start_signal_thread(struct queue *queue) {
   sigset_t signals;
   pthread_t thread;
+  signal(SIGCHLD, SIG_DFL);
   fill_signals(&signals);
   return !pthread_sigmask(SIG_BLOCK, &signals, NULL) && !pthread_create(&thread, NULL, wait_for_signal, queue) && !pthread_detach(thread);
 }
@@ -102,6 +107,7 @@ static void handle(struct replica *replica, const struct event *event) {
   case EVENT_BACKUP: on_backup(replica, event->message); break;
   case EVENT_SNAPSHOT: on_snapshot(replica, event->message); break;
   case EVENT_SUM: on_sum(replica, event->message); break;
+  case EVENT_CHILD: on_child(replica, event->number); break;
   case EVENT_STOP: replica->is_stopped = true; break;
   }
 }
@@ -172,6 +178,7 @@ static bool read_option(struct options *options, int letter, char *value) {
   case 'k': return read_count(value, &options->keep);
   case 'u': return read_count(value, &options->sum_every);
   case 'l': return read_count(value, &count) && (options->lost_after = (int64_t)count) > 0;
+  case 'q': return read_count(value, &count) && count <= MOST_CLIENT_WAIT && (options->question_time = (int64_t)count) > 0;
   default: return false;
   }
 }
@@ -187,12 +194,14 @@ static bool read_environment(struct options *options) {
 
 static bool read_options(struct options *options, int count, char **words) {
   static const struct option names[] = {
-      {"servers", 1, NULL, 's'},        {"name", 1, NULL, 'n'},  {"replica", 1, NULL, 'r'},      {"snapshots", 1, NULL, 'f'},
-      {"snapshot-every", 1, NULL, 'e'}, {"keep", 1, NULL, 'k'},  {"sum-every", 1, NULL, 'u'},    {"lost-after", 1, NULL, 'l'},
-      {"inbox", 1, NULL, 'i'},          {"login", 1, NULL, 'o'}, {"answer-login", 1, NULL, 'a'}, {NULL, 0, NULL, 0},
+      {"servers", 1, NULL, 's'},   {"name", 1, NULL, 'n'},           {"replica", 1, NULL, 'r'},
+      {"snapshots", 1, NULL, 'f'}, {"snapshot-every", 1, NULL, 'e'}, {"keep", 1, NULL, 'k'},
+      {"sum-every", 1, NULL, 'u'}, {"lost-after", 1, NULL, 'l'},     {"inbox", 1, NULL, 'i'},
+      {"login", 1, NULL, 'o'},     {"answer-login", 1, NULL, 'a'},   {"question-time", 1, NULL, 'q'},
+      {NULL, 0, NULL, 0},
   };
   bool has_answer_login = getenv("MMDB_ANSWER_LOGIN");
-  *options = (struct options){.name = "mmdb", .inbox = "_INBOX", .sum_every = 10000, .lost_after = 15000};
+  *options = (struct options){.name = "mmdb", .inbox = "_INBOX", .sum_every = 10000, .lost_after = 15000, .question_time = 10000};
   if (!read_environment(options)) return false;
   for (int letter; (letter = getopt_long(count, words, "", names, NULL)) != -1;) {
     if (!read_option(options, letter, optarg)) return false;

@@ -20,8 +20,9 @@ enum event_kind {
   EVENT_STATUS,
   EVENT_BACKUP,
   EVENT_SNAPSHOT,
-  EVENT_SUM, /* from a replica */
-  EVENT_STOP /* the process is asked to end */
+  EVENT_SUM,   /* from a replica */
+  EVENT_CHILD, /* the child with this number as its place has ended */
+  EVENT_STOP   /* the process is asked to end */
 };
 
 /* How a log differs from what a replica has of it. */

@@ -2,6 +2,7 @@
 #ifndef REPLICA_H
 #define REPLICA_H
 
+#include "child.h"
 #include "entry.h"
 #include "log.h"
 #include "sums.h"
@@ -21,11 +22,18 @@ enum {
 };
 
 /*
- * Changes gather into a message: while another one is on its way, until they have so many bytes or for GATHER_WAIT; otherwise, until there
- * are as many of them as there were lately, or for a millisecond. A message of which nothing is heard, because an allocation failed, is
- * forgotten after 10 s.
+ * Changes gather into a message until they have so many bytes, or for GATHER_WAIT. While no other change waits for its answer, the message
+ * is published earlier: once it has as many changes as waited lately, or SHORT_WAIT after the last answer. A message of which nothing is
+ * heard, because an allocation failed, is forgotten after 10 s.
  */
-enum { GATHERED_BYTES = 64 * 1024, GATHER_WAIT = 20, SHORT_WAIT = 1, MOST_BATCHES = 64, LONGEST_PUBLISHED = 10000 };
+enum { GATHERED_BYTES = 64 * 1024, GATHER_WAIT = 20, SHORT_WAIT = 2, MOST_BATCHES = 64, LONGEST_PUBLISHED = 10000 };
+
+/*
+ * A question that is expected to read more rows than this is answered by a child, and a table with more rows is summed by one. Reading so
+ * many takes some tens of milliseconds. At most MOST_TASKS children run at a time; that at SUM_TASK makes sums, for LONGEST_SUM
+ * milliseconds at most.
+ */
+enum { MOST_READS = 200000, SUM_TASK = 0, MOST_TASKS = 5, LONGEST_SUM = 600000 };
 
 enum { LEAST_PAYLOAD = 8192, REPLY_HEAD_BYTES = 4096, MOST_INBOX_BYTES = 256, MOST_WHY_BYTES = 200 };
 
@@ -34,7 +42,7 @@ struct options {
   const char *name, *replica, *folder, *inbox;
   struct login login, answer_login;
   uint64_t sum_every, snapshot_every, keep; /* 0: never, never, all */
-  int64_t lost_after;
+  int64_t lost_after, question_time;
 };
 
 /* The state of a replica, as NAME.status reports it. */
@@ -59,6 +67,7 @@ struct answers {
   struct queue *queue;
   const char *name, *replica, *inbox;
   natsSubscription *named, *status, *backup, *snapshot, *sums;
+  struct ended ended; /* subscriptions to the group */
   struct intake intakes[EVENT_STOP];
   atomic_bool is_stuck; /* a write failed though there was a server */
 };
@@ -79,7 +88,7 @@ struct waiter {
   struct waiter *next, *before;
   natsMsg *request;
   uint64_t number;
-  int64_t until;
+  int64_t until, asker_until; /* until when it waits here; until when whoever asked a question waits */
   bool is_change;
 };
 
@@ -100,6 +109,17 @@ struct batch {
   size_t count; /* of its changes */
 };
 
+/* What a child works on, and the place in the log that its rows have. */
+struct task {
+  struct child child;
+  bool is_running, is_orphaned;
+  natsMsg *request; /* a question, or NULL for a sum */
+  int64_t began;
+  uint64_t number, life;
+  struct digest chain;
+  char identity[IDENTITY_BYTES];
+};
+
 struct replica {
   struct options options;
   struct queue queue;
@@ -109,24 +129,29 @@ struct replica {
   struct database database;
   struct snapshots snapshots;
   struct sums sums;
+  struct task tasks[MOST_TASKS];
   struct batch *open, *published; /* the batch that gathers, or NULL; those that the log has not yet taken */
   size_t published_count;
-  size_t changes, usual;  /* how many changes wait for an answer; how many did lately, when one was published */
+  struct bytes entries;   /* of the request at hand that will be published */
+  size_t changes, usual;  /* how many changes wait for an answer; how many did lately */
+  int64_t answered;       /* when the last change was answered */
   struct waiters waiting; /* those that wait for a number, which ascends */
   natsMsg *pending;       /* a message of the log that an allocation failed for */
   enum state state;
   enum missing why_halted;
   bool has_rows, is_stopped, is_doubted, is_grounded, has_distrusted;
   bool is_away;             /* it left the group to write a snapshot, which nobody needs to know */
+  bool is_apart;            /* its rows are not those of the log, and it keeps them until it is ended */
   struct digest began_with; /* the chain hash of the snapshot that it began from */
   struct digest distrusted; /* that of a snapshot that another replica contradicted */
   int64_t asked_log;        /* when it asked the log about a claim of another replica */
   int64_t fresh;            /* a time whose messages are all applied */
   int64_t next_try, pause;
-  uint64_t begun_at;        /* the number of the snapshot that it began from, or 0 */
-  uint64_t snapshot_at;     /* the number of the last snapshot that was begun */
-  uint64_t written, agreed; /* the numbers of the last snapshot that was read back; of the last sum that others had too */
-  uint64_t distrust_after;  /* own snapshots past this number are not loaded: their rows may be wrong */
+  uint64_t begun_at;                /* the number of the snapshot that it began from, or 0 */
+  uint64_t snapshot_at;             /* the number of the last snapshot that was begun */
+  uint64_t cut_below;               /* the number up to which the log is being cut off, or 0 */
+  uint64_t written, summed, agreed; /* the numbers of the last snapshot that was read back; of the last own sum; of the last that agreed */
+  uint64_t distrust_after;          /* own snapshots past this number are not loaded: their rows may be wrong */
   uint64_t lives;
   int64_t started;
   char trouble[MOST_WHY_BYTES]; /* what was reported last, so that tries in a row report a cause once */
@@ -146,7 +171,6 @@ natsStatus answers_open(struct answers *answers, const struct connecting *connec
 bool answers_subscribe(struct answers *answers);
 void answers_close(struct answers *answers);
 natsStatus answers_subscribe_group(struct answers *answers, natsSubscription **subscription, bool is_for_changes);
-void unsubscribe_from(natsSubscription **subscription);
 size_t answers_payload(const struct answers *answers);
 
 /* An answer. number is that of the script or of the database; log, chain and columns may be NULL. */
@@ -175,6 +199,9 @@ void on_published(struct replica *replica, const struct event *event);
 void reply_bare(struct replica *replica, natsMsg *request, const char *status);
 void reply_text(struct replica *replica, natsMsg *request, const char *status, struct text body);
 
+/* The status of an answer to a question. */
+const char *status_of_answer(enum answer answer, bool is_orphaned);
+
 void waiters_open(struct waiters *waiters);
 
 /* Publishes the batch that gathers, if it is time. */
@@ -190,8 +217,34 @@ void answer_applied(struct replica *replica);
 void answer_late(struct replica *replica, int64_t now);
 void answer_all(struct replica *replica, const char *status);
 
-/* compare.c: publishes a sum over the database, if the number that is applied is an agreed one; takes one from another replica. */
+/* tasks.c: work of children. */
+
+/* Lets a child answer a question until a time, and takes the request over. */
+void start_question(struct replica *replica, natsMsg *request, struct text line, int64_t until);
+
+/* What a sum covers: one table, and the ids of messages past a number. */
+struct summing {
+  struct database *database;
+  size_t table;
+  uint64_t after;
+};
+
+/* Lets a child make a sum of the rows as they are. Returns false if the last one is not finished, or if no child can be made. */
+bool start_sum(struct replica *replica, struct summing *summing);
+
+/* Takes what a child did. Stops all children, because the rows are dropped. Ends them, because the replica ends. */
+void on_child(struct replica *replica, uint64_t place);
+void stop_tasks(struct replica *replica);
+void end_tasks(struct replica *replica);
+size_t count_tasks(const struct replica *replica);
+
+/*
+ * compare.c: makes a sum of the database, if the number that is applied is an agreed one; publishes one that was made; takes one from
+ * another replica.
+ */
+bool make_sum(const struct summing *summing, struct digest *sum);
 void publish_sum(struct replica *replica);
+void publish_own_sum(struct replica *replica, uint64_t number, const struct digest *digest);
 void on_sum(struct replica *replica, natsMsg *message);
 
 /* status.c */
@@ -210,7 +263,7 @@ void end_life(struct replica *replica);
 void step_aside(struct replica *replica);
 void join_if_fresh(struct replica *replica);
 
-/* Another replica has other rows, and is right: drops the rows, and begins again. */
-void drop_rows(struct replica *replica, const char *why);
+/* Most replicas have other rows at a number: drops the rows, and begins again. Rows that the log does not lead to are not dropped. */
+void drop_contradicted(struct replica *replica, uint64_t number);
 
 #endif

@@ -80,20 +80,27 @@ static void free_waiter(struct replica *replica, struct waiter *waiter) {
 
 /* Questions. */
 
-static const char *words_of_answer(const struct replica *replica, enum answer answer) {
-  static const char *const words[] = {
-      [ANSWER_DONE] = "done", [ANSWER_REFUSED] = "refused", [ANSWER_TOO_LARGE] = "too-large", [ANSWER_MEMORY] = "memory"};
-  bool is_orphaned = replica->state == STATE_ORPHANED && (answer == ANSWER_DONE || answer == ANSWER_REFUSED);
-  return is_orphaned ? "orphaned" : words[answer];
+const char *status_of_answer(enum answer answer, bool is_orphaned) {
+  static const char *const words[] = {[ANSWER_DONE] = "done",
+                                      [ANSWER_REFUSED] = "refused",
+                                      [ANSWER_TOO_LARGE] = "too-large",
+                                      [ANSWER_LONG] = "too-long",
+                                      [ANSWER_MEMORY] = "memory"};
+  return is_orphaned && (answer == ANSWER_DONE || answer == ANSWER_REFUSED) ? "orphaned" : words[answer];
 }
 
-static void answer_question(struct replica *replica, natsMsg *request) {
+static void answer_question(struct replica *replica, natsMsg *request, int64_t until) {
   struct database *database = &replica->database;
   struct text script = body_of(request), line;
+  struct limits limits = {answers_payload(&replica->answers), MOST_READS};
   char columns[COLUMNS_BYTES];
   if (!next_line(&script, &line)) line = script;
-  enum answer answer = database_ask(database, line, answers_payload(&replica->answers), columns);
-  struct reply reply = {.status = words_of_answer(replica, answer), .number = database->applied};
+  enum answer answer = database_ask(database, line, &limits, columns);
+  if (answer == ANSWER_LONG) {
+    start_question(replica, request, line, until);
+    return;
+  }
+  struct reply reply = {.status = status_of_answer(answer, replica->state == STATE_ORPHANED), .number = database->applied};
   if (answer == ANSWER_DONE || answer == ANSWER_REFUSED) reply.body = (struct text){database->replies.at, database->replies.length};
   if (answer == ANSWER_DONE && columns[0]) reply.columns = columns;
   finish(replica, request, &reply);
@@ -113,8 +120,9 @@ static bool is_of_log(struct replica *replica, natsMsg *request, uint64_t number
 static void on_good_question(struct replica *replica, const struct event *event, uint64_t number) {
   int64_t until = clock_now() + ANSWER_WAIT;
   struct waiter waiter = {.request = event->message, .number = number, .until = until < event->until ? until : event->until};
+  waiter.asker_until = event->until;
   if (!is_of_log(replica, event->message, number)) reply_bare(replica, event->message, "other-log");
-  else if (number <= replica->database.applied) answer_question(replica, event->message);
+  else if (number <= replica->database.applied) answer_question(replica, event->message, event->until);
   else if (replica->state == STATE_ORPHANED) reply_bare(replica, event->message, "behind");
   else if (!add_waiter(replica, &replica->waiting, waiter)) reply_bare(replica, event->message, "memory");
 }
@@ -153,25 +161,61 @@ static const char *read_change(natsMsg *request, struct entry *entry) {
   return NULL;
 }
 
-/* Answers with the replies that the script had when it was applied. */
+/* Returns what became of an entry, as far as its id is kept: an answer without its log and chain. */
+static struct reply fate_of(struct replica *replica, const struct entry *entry, uint64_t number) {
+  static const char other[] = "the id was given to another script before\n";
+  struct digest digest;
+  const struct recent *recent = recents_find(&replica->database.recents, entry->id);
+  if (!recent) return (struct reply){.status = "forgotten", .number = number, .body = {(const uint8_t *)"", 0}};
+  if (!database_digest(&replica->database, entry->script, entry->flags, &digest)) return (struct reply){.status = "memory"};
+  if (!is_same_digest(&recent->digest, &digest))
+    return (struct reply){.status = "invalid", .number = number, .body = {(const uint8_t *)other, sizeof other - 1}};
+  return (struct reply){.status = outcomes[recent->outcome], .number = recent->sequence, .body = recent->replies};
+}
+
+/* Whether the body of a request is entries, as a message of the log has them. */
+static bool has_entries(natsMsg *request) { return header_of(request, FORMAT_HEADER); }
+
+/* Appends what became of an entry to an answer. why is for the verdict on a script that was not published. */
+static bool add_fate(struct replica *replica, struct bytes *answer, const struct entry *entry, uint64_t number, struct bytes *why) {
+  struct reply fate = fate_of(replica, entry, number);
+  why->length = 0;
+  if (!strcmp(fate.status, "memory")) return false;
+  if (!strcmp(fate.status, "forgotten")) {
+    enum verdict verdict = check_script(&replica->database.db, entry->script, why);
+    if (verdict == VERDICT_MEMORY) return false;
+    if (verdict == VERDICT_BAD) fate = (struct reply){.status = "invalid", .number = number, .body = {why->at, why->length}};
+  }
+  return bytes_print(answer, "%s %s %" PRIu64 " %zu\n", entry->id, fate.status, fate.number, fate.body.length) &&
+         bytes_add(answer, fate.body.at, fate.body.length) && bytes_add(answer, "\n", 1);
+}
+
+/* Answers a request with several entries. */
+static void answer_entries(struct replica *replica, natsMsg *request, uint64_t number) {
+  struct bytes answer = {NULL, 0, 0}, why = {NULL, 0, 0};
+  struct text rest = body_of(request);
+  struct entry entry;
+  bool is_done = true;
+  while (is_done && next_entry(&rest, &entry)) is_done = add_fate(replica, &answer, &entry, number, &why);
+  struct reply reply = {.status = "done", .number = number, .body = {answer.at, answer.length}};
+  if (!is_done) reply_bare(replica, request, "memory");
+  else if (answer.length > answers_payload(&replica->answers)) reply_bare(replica, request, "too-large");
+  else finish(replica, request, &reply);
+  bytes_free(&answer);
+  bytes_free(&why);
+}
+
+/* Answers with the replies that the scripts had when they were applied. */
 static void answer_change(struct replica *replica, natsMsg *request, uint64_t number) {
   struct entry entry;
-  struct digest digest;
-  if (read_change(request, &entry)) {
+  if (has_entries(request)) {
+    answer_entries(replica, request, number);
+  } else if (read_change(request, &entry)) {
     reply_bare(replica, request, "invalid");
-    return;
-  }
-  const struct recent *recent = recents_find(&replica->database.recents, entry.id);
-  if (!recent) {
-    struct reply reply = {.status = "forgotten", .number = number};
-    finish(replica, request, &reply);
-  } else if (!database_digest(&replica->database, entry.script, entry.flags, &digest)) {
-    reply_bare(replica, request, "memory");
-  } else if (!is_same_digest(&recent->digest, &digest)) {
-    reply_invalid(replica, request, "the id was given to another script before\n");
   } else {
-    struct reply reply = {.status = outcomes[recent->outcome], .number = recent->sequence, .body = recent->replies};
-    finish(replica, request, &reply);
+    struct reply reply = fate_of(replica, &entry, number);
+    if (!strcmp(reply.status, "memory")) reply_bare(replica, request, "memory");
+    else finish(replica, request, &reply);
   }
 }
 
@@ -218,36 +262,79 @@ static void publish_open(struct replica *replica) {
   replica->published_count++;
 }
 
-/* Adds a change to the batch that gathers. Returns false if an allocation fails, and then the request stays the caller's. */
-static bool gather(struct replica *replica, const struct event *event, const struct entry *entry) {
+/* Adds the entries of a request to the batch that gathers. Returns false if an allocation fails, and then the request stays the caller's.
+ */
+static bool gather(struct replica *replica, const struct event *event) {
   int64_t until = clock_now() + CHANGE_WAIT;
+  const struct bytes *entries = &replica->entries;
+  size_t payload = answers_payload(&replica->answers), most = payload < GATHERED_BYTES ? payload : GATHERED_BYTES;
   struct waiter waiter = {.request = event->message, .until = until < event->until ? until : event->until, .is_change = true};
-  if (replica->open && replica->open->body.length + entry->script.length > GATHERED_BYTES) publish_open(replica);
+  if (replica->open && replica->open->body.length + entries->length > most) publish_open(replica);
   if (!replica->open) replica->open = open_batch(replica);
   if (!replica->open) return false;
   size_t before = replica->open->body.length;
-  if (!add_entry(&replica->open->body, entry)) {
-    replica->open->body.length = before;
-    return false;
-  }
-  bool is_done = add_waiter(replica, &replica->open->waiters, waiter);
+  bool is_done = bytes_add(&replica->open->body, entries->at, entries->length) && add_waiter(replica, &replica->open->waiters, waiter);
   if (is_done) replica->open->count++;
   else replica->open->body.length = before;
   return is_done;
 }
 
-static void on_good_change(struct replica *replica, const struct event *event, struct entry *entry) {
-  size_t most = answers_payload(&replica->answers);
+/* Puts an entry to those of the request at hand. */
+static bool take_entry(struct replica *replica, struct entry *entry) {
   if (entry->since > replica->database.applied) entry->since = replica->database.applied;
-  if (entry->script.length > most) reply_invalid(replica, event->message, "the script exceeds the messages that the servers take\n");
+  return add_entry(&replica->entries, entry);
+}
+
+/* Publishes the entries of a request, soon. */
+static void on_good_change(struct replica *replica, const struct event *event) {
+  size_t most = answers_payload(&replica->answers);
+  if (replica->entries.length > most) reply_invalid(replica, event->message, "the script exceeds the messages that the servers take\n");
   else if (replica->published_count >= MOST_BATCHES) reply_bare(replica, event->message, "unavailable");
-  else if (!gather(replica, event, entry)) reply_bare(replica, event->message, "memory");
+  else if (!gather(replica, event)) reply_bare(replica, event->message, "memory");
+  bytes_trim(&replica->entries);
   flush_changes(replica);
+}
+
+/* Takes the entries of a request whose ids are new and that are scripts. Returns false if an allocation fails. */
+static bool take_entries(struct replica *replica, natsMsg *request) {
+  struct bytes why = {NULL, 0, 0};
+  struct text rest = body_of(request);
+  struct entry entry;
+  bool is_done = true;
+  while (is_done && next_entry(&rest, &entry)) {
+    if (recents_find(&replica->database.recents, entry.id)) continue;
+    why.length = 0;
+    enum verdict verdict = check_script(&replica->database.db, entry.script, &why);
+    is_done = verdict != VERDICT_MEMORY && (verdict == VERDICT_BAD || take_entry(replica, &entry));
+  }
+  bytes_free(&why);
+  return is_done;
+}
+
+/* A request with several entries: what is new of it is published as one. */
+static void on_entries(struct replica *replica, const struct event *event) {
+  uint64_t format;
+  if (!number_in_header(event->message, FORMAT_HEADER, &format) || format != LOG_FORMAT)
+    reply_invalid(replica, event->message, FORMAT_HEADER " is not the format of the log\n");
+  else if (count_entries(body_of(event->message)) > MOST_ENTRIES || !is_body(body_of(event->message)))
+    reply_invalid(replica, event->message, "the body is not a sequence of 1 to 4096 entries\n");
+  else if (!take_entries(replica, event->message)) reply_bare(replica, event->message, "memory");
+  else if (!replica->entries.length) answer_change(replica, event->message, replica->database.applied);
+  else on_good_change(replica, event);
+}
+
+static void on_one_change(struct replica *replica, const struct event *event, struct entry *entry) {
+  struct bytes why = {NULL, 0, 0};
+  enum verdict verdict = check_script(&replica->database.db, entry->script, &why);
+  if (verdict == VERDICT_BAD) reply_text(replica, event->message, "invalid", (struct text){why.at, why.length});
+  else if (verdict == VERDICT_MEMORY || !take_entry(replica, entry)) reply_bare(replica, event->message, "memory");
+  else on_good_change(replica, event);
+  bytes_free(&why);
 }
 
 void on_change(struct replica *replica, const struct event *event) {
   struct entry entry;
-  struct bytes why = {NULL, 0, 0};
+  replica->entries.length = 0;
   if (event->until < clock_now()) {
     drop_request(replica, event->message);
     return;
@@ -256,36 +343,30 @@ void on_change(struct replica *replica, const struct event *event) {
     reply_bare(replica, event->message, "unready");
     return;
   }
-  const char *wrong = read_change(event->message, &entry);
-  if (wrong) {
-    reply_invalid(replica, event->message, wrong);
-    return;
-  }
-  if (!is_of_log(replica, event->message, UINT64_MAX)) {
-    reply_bare(replica, event->message, "other-log");
-    return;
-  }
-  if (recents_find(&replica->database.recents, entry.id)) {
-    answer_change(replica, event->message, 0);
-    return;
-  }
-  enum verdict verdict = check_script(&replica->database.db, entry.script, &why);
-  if (verdict == VERDICT_MEMORY) reply_bare(replica, event->message, "memory");
-  else if (verdict == VERDICT_BAD) reply_text(replica, event->message, "invalid", (struct text){why.at, why.length});
-  else on_good_change(replica, event, &entry);
-  bytes_free(&why);
+  const char *wrong = has_entries(event->message) ? NULL : read_change(event->message, &entry);
+  if (wrong) reply_invalid(replica, event->message, wrong);
+  else if (!is_of_log(replica, event->message, UINT64_MAX)) reply_bare(replica, event->message, "other-log");
+  else if (has_entries(event->message)) on_entries(replica, event);
+  else if (recents_find(&replica->database.recents, entry.id)) answer_change(replica, event->message, replica->database.applied);
+  else on_one_change(replica, event, &entry);
 }
 
 /* Batches that are on their way. */
 
+/* Whether changes outside the batch that gathers wait for their answers. Those who get an answer send their next change soon. */
+static bool has_changes_out(const struct replica *replica) { return replica->changes > replica->open->count; }
+
 int64_t flush_time(const struct replica *replica) {
-  return replica->open ? replica->open->since + (replica->published ? GATHER_WAIT : SHORT_WAIT) : INT64_MAX;
+  const struct batch *batch = replica->open;
+  if (!batch) return INT64_MAX;
+  int64_t last = batch->since + GATHER_WAIT, soon = (batch->since > replica->answered ? batch->since : replica->answered) + SHORT_WAIT;
+  return has_changes_out(replica) || soon > last ? last : soon;
 }
 
 void flush_changes(struct replica *replica) {
   const struct batch *batch = replica->open;
   if (!batch) return;
-  bool has_usual = !replica->published && batch->count >= replica->usual;
+  bool has_usual = !has_changes_out(replica) && batch->count >= replica->usual;
   if (has_usual || batch->body.length >= GATHERED_BYTES || clock_now() >= flush_time(replica)) publish_open(replica);
 }
 
@@ -305,6 +386,7 @@ void on_published(struct replica *replica, const struct event *event) {
   struct batch *batch = take_batch(replica, event->message);
   natsMsg_Destroy(event->message);
   if (!batch) return;
+  if (replica->changes > replica->usual) replica->usual = replica->changes;
   /* A number that this replica had applied before it published shows that the log lost what was there. */
   bool is_lost = !event->has_failed && event->number <= batch->checked;
   if (event->has_failed || is_lost) answer_waiters(replica, &batch->waiters, INT64_MAX, "unavailable", "unavailable");
@@ -325,8 +407,9 @@ void answer_applied(struct replica *replica) {
   if (!replica->has_rows) return;
   for (struct waiter *waiter; (waiter = first_of(&replica->waiting)) && waiter->number <= replica->database.applied;) {
     take_out(waiter);
+    if (waiter->is_change) replica->answered = clock_now();
     if (waiter->is_change) answer_change(replica, waiter->request, waiter->number);
-    else answer_question(replica, waiter->request);
+    else answer_question(replica, waiter->request, waiter->asker_until);
     free_waiter(replica, waiter);
   }
 }

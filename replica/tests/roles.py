@@ -230,36 +230,129 @@ def encode_nkey(prefix: bytes, key: bytes) -> str:
     return base64.b32encode(prefix + key + crc.to_bytes(2, "little")).decode().rstrip("=")
 
 
+class Key:
+    """A key of NATS: its kind is that of an operator, an account or a user."""
+
+    PREFIXES = {"operator": 0x70, "account": 0x00, "user": 0xA0}
+    SEED = 0x90
+
+    def __init__(self, folder: Path, kind: str, name: str):
+        self.pem, self.folder, self.kind, prefix = folder / f"{name}.pem", folder, kind, self.PREFIXES[kind]
+        self.pem.write_bytes(openssl("genpkey", "-algorithm", "ed25519"))
+        private = openssl("pkey", "-in", str(self.pem), "-outform", "DER")[-32:]
+        public = openssl("pkey", "-in", str(self.pem), "-pubout", "-outform", "DER")[-32:]
+        self.seed = encode_nkey(bytes([self.SEED | prefix >> 5, (prefix & 31) << 3]), private)
+        self.public = encode_nkey(bytes([prefix]), public)
+
+    def sign(self, subject: "Key", name: str, claims: dict) -> str:
+        """A JWT in which this key says something of another one."""
+
+        def encode(data: bytes) -> str:
+            return base64.urlsafe_b64encode(data).decode().rstrip("=")
+
+        said = {"iat": int(time.time()), "iss": self.public, "sub": subject.public, "name": name}
+        said["nats"] = {**claims, "type": subject.kind, "version": 2}
+        text = ".".join(encode(json.dumps(part).encode()) for part in ({"typ": "JWT", "alg": "ed25519-nkey"}, {**said, "jti": name}))
+        path = self.folder / "signed"
+        path.write_text(text)
+        return text + "." + encode(openssl("pkeyutl", "-sign", "-rawin", "-inkey", str(self.pem), "-in", str(path)))
+
+
+def openssl(*words: str) -> bytes:
+    return subprocess.run(["openssl", *words], check=True, capture_output=True).stdout
+
+
+def write_login(folder: Path, name: str, line: str) -> str:
+    path = folder / f"{name}.login"
+    path.write_text(line + "\n")
+    path.chmod(0o600)
+    return str(path)
+
+
+class Other:
+    """A server with another configuration than nats.conf, and what is run with it."""
+
+    def __init__(self, folder: Path, programs: Path, name: str, configuration: str):
+        port = free_ports(1)[0]
+        self.folder, self.programs, self.url = folder, programs, f"nats://127.0.0.1:{port}"
+        (folder / f"{name}.conf").write_text(f"jetstream {{ store_dir: {folder}/{name} }}\n{configuration}")
+        words = ["nats-server", "-c", str(folder / f"{name}.conf"), "-a", "127.0.0.1", "-p", str(port)]
+        self.processes = [Process(name, words, folder)]
+        self.processes[0].start()
+
+    def ask(self, login: str, *options: str, script: str = "") -> subprocess.CompletedProcess[str]:
+        words = [str(self.programs / "mmdb-ask"), "--servers", self.url, "--login", login, "--wait", "5000"]
+        return subprocess.run([*words, *options], input=script, capture_output=True, text=True, timeout=30)
+
+    def replica(self, login: str) -> None:
+        words = [str(self.programs / "mmdb-replica"), "--servers", self.url, "--login", login, "--replica", "j"]
+        self.processes.append(Process("j", words, self.folder))
+        self.processes[-1].start()
+        self.processes[-1].wait_until_it_says("is ready at number", time.monotonic() + 20)
+
+    def close(self) -> None:
+        for process in self.processes:
+            process.kill()
+
+
 def nkeys(folder: Path, programs: Path) -> None:
     """A user with an nkey makes a log; one with another key does not."""
-
-    def openssl(*words: str) -> bytes:
-        return subprocess.run(["openssl", *words], check=True, capture_output=True).stdout
-
-    def make_login(name: str) -> str:
-        pem = folder / f"{name}.pem"
-        pem.write_bytes(openssl("genpkey", "-algorithm", "ed25519"))
-        seed = openssl("pkey", "-in", str(pem), "-outform", "DER")[-32:]
-        public = encode_nkey(b"\xa0", openssl("pkey", "-in", str(pem), "-pubout", "-outform", "DER")[-32:])
-        (folder / f"{name}.seed").write_text(encode_nkey(b"\x95\x00", seed) + "\n")
-        login = folder / f"{name}.login"
-        login.write_text(f"nkey {public} {folder}/{name}.seed\n")
-        login.chmod(0o600)
-        return public
-
-    public = make_login("right")
-    make_login("wrong")
-    port = free_ports(1)[0]
-    (folder / "nkey.conf").write_text(f"jetstream {{ store_dir: {folder}/nkey }}\nauthorization {{ users: [ {{ nkey: {public} }} ] }}\n")
-    server = Process("nkey", ["nats-server", "-c", str(folder / "nkey.conf"), "-a", "127.0.0.1", "-p", str(port)], folder)
-    server.start()
+    logins, keys = {}, {name: Key(folder, "user", name) for name in ("right", "wrong")}
+    for name, key in keys.items():
+        (folder / f"{name}.seed").write_text(key.seed + "\n")
+        logins[name] = write_login(folder, name, f"nkey {key.public} {folder}/{name}.seed")
+    server = Other(folder, programs, "nkey", f"authorization {{ users: [ {{ nkey: {keys['right'].public} }} ] }}\n")
     try:
         for name, wanted in (("right", 0), ("wrong", 1)):
-            words = [str(programs / "mmdb-ask"), "--servers", f"nats://127.0.0.1:{port}", "--login", str(folder / f"{name}.login")]
-            made = subprocess.run([*words, "--make-log", "1", "--wait", "5000"], capture_output=True, text=True, timeout=30)
+            made = server.ask(logins[name], "--make-log", "1")
             must(made.returncode == wanted, f"the {name} nkey: {made}")
     finally:
-        server.kill()
+        server.close()
+
+
+CREDENTIALS = """-----BEGIN NATS USER JWT-----
+{}
+------END NATS USER JWT------
+
+-----BEGIN USER NKEY SEED-----
+{}
+------END USER NKEY SEED------
+"""
+# What an account is not limited in: that of the servers has no streams.
+LIMITS = ("subs", "data", "payload", "imports", "exports", "conn", "leaf")
+LIMITS_OF_STREAMS = ("mem_storage", "disk_storage", "streams", "consumer")
+
+
+def credentials(folder: Path, programs: Path) -> None:
+    """A server with an operator, and users with a JWT: a replica and its clients log in by a file with it and its seed; others may not."""
+    operator, system, account, user, asker, other = (
+        Key(folder, kind, f"jwt{place}") for place, kind in enumerate(("operator", "account", "account", "user", "user", "user"))
+    )
+    accounts = ((system, "SYS", LIMITS), (account, "MMDB", LIMITS + LIMITS_OF_STREAMS))
+    unlimited = {name: {"limits": {**{limit: -1 for limit in limits}, "wildcards": True}} for _, name, limits in accounts}
+    jwts = [f"  {one.public}: {operator.sign(one, name, unlimited[name])}\n" for one, name, _ in accounts]
+    configuration = f"operator: {operator.sign(operator, 'O', {})}\nsystem_account: {system.public}\nresolver: MEMORY\n"
+    server = Other(folder, programs, "jwt", configuration + "resolver_preload: {\n" + "".join(jwts) + "}\n")
+    may_all = account.sign(user, "all", {"subs": -1, "data": -1, "payload": -1})
+    rights = {"pub": {"allow": ["mmdb.ask", "mmdb.status"]}, "sub": {"allow": ["_INBOX.>"]}}
+    may_ask = account.sign(asker, "ask", {**rights, "subs": -1, "data": -1, "payload": -1})
+    logins = {}
+    for name, jwt, key in (("all", may_all, user), ("ask", may_ask, asker), ("stolen", may_all, other)):
+        (folder / f"{name}.creds").write_text(CREDENTIALS.format(jwt, key.seed))
+        logins[name] = write_login(folder, name, f"credentials {folder}/{name}.creds")
+    try:
+        must(server.ask(logins["stolen"], "--make-log", "1").returncode == 1, "a JWT without its seed logs in")
+        must(server.ask(logins["ask"], "--make-log", "1").returncode == 1, "one who may only ask makes a log")
+        made = server.ask(logins["all"], "--make-log", "1")
+        must(made.returncode == 0, f"credentials do not log in: {made}")
+        server.replica(logins["all"])
+        changed = server.ask(logins["all"], script="TABLE t (id INT KEY)\nINSERT t (1), (2)\n")
+        must(changed.returncode == 0, f"one with credentials cannot send changes: {changed}")
+        must("rows 2\n" in server.ask(logins["ask"], script="SCAN t\n").stdout, "one with credentials cannot ask")
+        refused = server.ask(logins["ask"], script="INSERT t (3)\n")
+        must(refused.returncode == 1 and "permit" in refused.stderr, f"one who may only ask sends changes: {refused}")
+    finally:
+        server.close()
 
 
 def main() -> int:
@@ -275,13 +368,14 @@ def main() -> int:
                     tries = matrix(cluster)
                     passwords(cluster)
                     nkeys(Path(folder), programs)
+                    credentials(Path(folder), programs)
             except Failed as wrong:
                 print(f"{'encrypted: ' if is_encrypted else ''}{wrong}")
                 print("\n".join(replica.said()[-600:] for replica in cluster.replicas))
                 return 1
             finally:
                 cluster.close()
-    print(f"six roles did their work, in clear and encrypted, and {tries} tries had the outcome of their permissions; nkeys work")
+    print(f"six roles did their work, in clear and encrypted, and {tries} tries had the outcome of their permissions; nkeys and JWTs work")
     return 0
 
 

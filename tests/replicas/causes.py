@@ -1,10 +1,10 @@
 #!/usr/bin/env python3
-"""One test for each cause by which replicas lost data or stopped together, each with a server or three of its own on loopback.
+"""One test for each known cause of lost data or of a common stop of all replicas, each with its own one or three servers on loopback.
 
     causes.py PROGRAMS [TEST ..]
 
-PROGRAMS is the folder of mmdb-replica and mmdb-ask. Without TEST all tests run, four at a time. The status is 0 only if all passed.
-README.md beside this file says which cause each test finds.
+PROGRAMS is the folder of mmdb-replica and mmdb-ask. Without TEST all tests run, four at a time. The exit status is 0 if all pass.
+README.md in this folder says which cause each test finds.
 """
 
 import json
@@ -13,12 +13,14 @@ import re
 import resource
 import shutil
 import signal
+import socket
 import subprocess
 import sys
 import tempfile
 import threading
 import time
 from concurrent.futures import ThreadPoolExecutor
+from functools import partial
 from hashlib import sha256
 from pathlib import Path
 from typing import Callable, Optional
@@ -30,6 +32,7 @@ from wire import Connection, Message, logged, patient
 AT_ONCE = 4
 LONGEST_TEST = 60.0
 MEBIBYTE = 1 << 20
+LONG_QUESTION = b"SELECT a.id FROM t a, t b WHERE a.k < b.k AND b.k < a.k"
 Entry = tuple[str, bytes]
 
 
@@ -47,9 +50,33 @@ class Case:
         self.changes = 0
         self.snapshots = ["--snapshots", str(self.cluster.snapshots)]
 
+    def end(self) -> None:
+        """Ends all replicas. Sanitizers report leaks then, and let the status be another than 0."""
+        for name, replica in self.cluster.replicas.items():
+            if replica.running and replica.running.poll() is not None:
+                raise Failed(f"{name} has ended by itself: {replica.said()[-1500:]}")
+            if replica.running:
+                must(replica.stop() == 0, f"{name} did not end well: {replica.said()[-1500:]}")
+
     def close(self) -> None:
         self.cluster.close()
         shutil.rmtree(self.folder, ignore_errors=True)
+
+    # The log.
+
+    def keep_log(self) -> None:
+        """Keeps a copy of the first server's files."""
+        server = self.cluster.servers[0]
+        server.stop()
+        shutil.copytree(self.folder / "s0", self.folder / "kept")
+        server.start()
+        self.connection.close()
+
+    def put_kept_log_back(self) -> None:
+        """Kills the first server, and gives it the files that were kept. It is not started again."""
+        self.cluster.servers[0].kill()
+        shutil.rmtree(self.folder / "s0")
+        shutil.copytree(self.folder / "kept", self.folder / "s0")
 
     # Replicas.
 
@@ -137,6 +164,14 @@ class Case:
         for number in range(first, first + count):
             self.change(f"INSERT t ({number}, 0, '{word}')\n".encode())
 
+    def fill(self, last: int) -> None:
+        """Fills the log up to a number, with messages that change nothing."""
+        while self.state()["last_seq"] < last:
+            try:
+                self.connection.request(LOG + ".log", b"no script")
+            except OSError:
+                time.sleep(0.05)
+
     def snapshot_files(self) -> list[Path]:
         return sorted(self.cluster.snapshots.glob("*.snapshot"))
 
@@ -149,6 +184,34 @@ class Case:
 
 def in_background(work: Callable[[], None]) -> None:
     threading.Thread(target=work, daemon=True).start()
+
+
+class Proxy:
+    """Passes bytes on between replicas and a server. Bytes with some words wait on their way to the server until they are released."""
+
+    def __init__(self, server: tuple[str, int], words: bytes):
+        self.server, self.words = server, words
+        self.holds, self.is_released = threading.Event(), threading.Event()
+        self.listener = socket.create_server(("127.0.0.1", 0))
+        self.url = f"nats://127.0.0.1:{self.listener.getsockname()[1]}"
+        in_background(self.run)
+
+    def run(self) -> None:
+        while True:
+            client, server = self.listener.accept()[0], socket.create_connection(self.server)
+            in_background(partial(self.carry, client, server, self.words))
+            in_background(partial(self.carry, server, client, b""))
+
+    def carry(self, source: socket.socket, target: socket.socket, words: bytes) -> None:
+        try:
+            while data := source.recv(MEBIBYTE):
+                if words and words in data:
+                    self.holds.set()
+                    self.is_released.wait(30)
+                target.sendall(data)
+            target.shutdown(socket.SHUT_WR)
+        except OSError:
+            pass
 
 
 # The log is touched by nobody.
@@ -188,6 +251,24 @@ def log_made_again(case: Case) -> None:
     must(b"rows 50\n" in case.ask(b"SCAN t", "c", case.state()["last_seq"]), "a replica of the new log does not have its rows")
 
 
+def log_made_again_under_load(case: Case) -> None:
+    """A log that is made again while clients send changes leaves its replicas orphaned, with their rows."""
+    for name in "ab":
+        case.replica(name, *case.snapshots)
+    case.table()
+    case.insert(0, 10)
+    over = threading.Event()
+    in_background(lambda: write_until(case, over))
+    case.connection.api("STREAM.DELETE." + LOG)
+    case.cluster.make_log(case.until)
+    for name in "ab":
+        found = case.wait_for(name, "orphaned", 40)
+        must(found["lives"] == 1, f"{name} dropped its rows: {case.cluster.replicas[name].said()[-600:]}")
+    over.set()
+    answer = case.request(".ask.a", b"SCAN t")
+    must(answer.headers["Mmdb-Status"] == "orphaned" and b"rows 10\n" in answer.body, f"the rows are gone: {answer}")
+
+
 def keep_two_snapshots(case: Case) -> None:
     """The log is cut off up to the older of two good snapshots: one bad byte in the newer one loses nothing."""
     case.replica("a", *case.snapshots, "--snapshot-every", "20", "--keep", "5")
@@ -217,6 +298,25 @@ def bad_snapshot_is_no_base(case: Case) -> None:
     case.cluster.replicas["a"].kill()
     case.replica("b", *case.snapshots)
     must(b"rows 160\n" in case.ask(b"SCAN t", "b", case.state()["last_seq"]), "rows are gone")
+
+
+def cut_of_another_log(case: Case) -> None:
+    """A log that is made again while a replica cuts it off may lack messages, and the replica raises an alarm."""
+    proxy = Proxy(case.cluster.addresses[0], b"STREAM.PURGE")
+    replica = case.replica("a", *case.snapshots, "--snapshot-every", "20", "--keep", "5", "--servers", proxy.url)
+    case.table()
+    over = threading.Event()
+    in_background(lambda: write_until(case, over))
+    must(proxy.holds.wait(20), "the log was not cut off")
+    over.set()
+    other = Connection(case.cluster.addresses)
+    other.api("STREAM.DELETE." + LOG)
+    case.cluster.make_log(case.until)
+    for number in range(60):
+        other.request(LOG + ".log", f"message {number}".encode())
+    proxy.is_released.set()
+    case.wait_until(lambda: patient(other, "STREAM.INFO." + LOG, None, case.until)["state"]["first_seq"] > 1, "the new log was not cut off")
+    case.wait_until(lambda: "the new one may lack messages below number" in replica.said(), "no alarm: " + replica.said()[-600:])
 
 
 # Late is not wrong.
@@ -277,6 +377,90 @@ def slow_question(case: Case) -> None:
     case.must_live_once("a", "b")
 
 
+def children_of(process: Process) -> list[int]:
+    assert process.running
+    pid = process.running.pid
+    return [int(word) for word in Path(f"/proc/{pid}/task/{pid}/children").read_text().split()]
+
+
+def ask_for_long(case: Case, question: bytes, wait: int = 40000) -> Message:
+    """The answer to a question that takes long, whose asker waits for so many milliseconds."""
+    return Connection(case.cluster.addresses).request(LOG + ".ask", question, {"Mmdb-Wait": str(wait)}, wait=40)
+
+
+def ask_long(case: Case, wait: int) -> tuple[str, float]:
+    """The status of a question that takes too long, and the seconds until it came."""
+    began = time.monotonic()
+    return ask_for_long(case, LONG_QUESTION, wait).headers["Mmdb-Status"], time.monotonic() - began
+
+
+def long_question(case: Case) -> None:
+    """A question that takes too long is stopped, and told so. Meanwhile the replica applies changes and answers."""
+    replica = case.replica("a", "--question-time", "3000")
+    case.table()
+    case.rows("t", 20000)
+    told: list[tuple[str, float]] = []
+    in_background(lambda: told.append(ask_long(case, 40000)))
+    case.wait_until(lambda: case.status("a")["children"] == 1, "no child answers the question")
+    must(len(children_of(replica)) == 1, "there is no process of a child")
+    done = 0
+    while not told:
+        case.insert(100000 + done, 1)
+        done += 1
+    must(told[0][0] == "too-long" and 2.9 < told[0][1] < 20, f"the question was answered {told}")
+    must(done > 2, f"only {done} changes went through while a question was answered")
+    case.wait_until(lambda: not children_of(replica), "the child was not ended")
+    status, seconds = ask_long(case, 2000)
+    must(status == "too-long" and seconds < 2.9, f"an asker who waits for 2 s heard {status} after {seconds:.1f} s")
+    case.must_live_once("a")
+    case.connection.publish(LOG + ".ask", LONG_QUESTION, {"Mmdb-Wait": "40000"}, "_INBOX.nobody")
+    case.wait_until(lambda: children_of(replica), "no child answers the question")
+    must(replica.stop() == 0, "a replica with a child did not end well")
+
+
+def ignored_children(case: Case) -> None:
+    """Long questions are answered where the program that started the replica ignored the ends of its children."""
+    replica = case.replica("a")
+    must(replica.stop() == 0, "the replica did not end well")
+    replica.words = ["env", "--ignore-signal=CHLD", *replica.words]
+    replica.start()
+    case.wait_for("a", "ready")
+    case.table()
+    case.rows("t", 1500)
+    answer = ask_for_long(case, b"SELECT a.id, b.s FROM t a, t b WHERE a.id < b.id AND b.id < 2")
+    must(answer.body == b"(0, 'row 1')\nrows 1\n", f"a child answered {answer}")
+
+
+def answers_of_children(case: Case) -> None:
+    """A question that reads many rows has the same answer as others, at the number that the rows had."""
+    case.replica("a", "--question-time", "40000")
+    case.table()
+    case.rows("t", 1500)
+    nested = b"SELECT a.id, b.s FROM t a, t b WHERE a.id < b.id AND b.id < 3"
+    answer = ask_for_long(case, nested)
+    must(answer.body == b"(0, 'row 1')\n(0, 'row 2')\n(1, 'row 2')\nrows 3\n", f"a child answered {answer}")
+    must(answer.headers["Mmdb-Columns"] == "id INT, s TEXT", f"a child answered {answer}")
+    must(answer.headers["Mmdb-Sequence"] == answer.headers["Mmdb-Chain-Sequence"] == str(case.state()["last_seq"]), f"the number: {answer}")
+    many = ask_for_long(case, b"SELECT a.id, b.s FROM t a, t b WHERE a.id < b.id")
+    must(many.headers["Mmdb-Status"] == "refused" and many.body.startswith(b"error 46"), f"too many rows are answered {many}")
+    large = ask_for_long(case, b"SELECT a.id, b.s FROM t a, t b WHERE a.id < b.id AND b.id < 400")
+    must(large.headers["Mmdb-Status"] == "too-large" and not large.body, f"too large an answer is {large}")
+
+
+def sums_of_children(case: Case) -> None:
+    """Replicas compare the sums of a large table, which their children make."""
+    for name in "ab":
+        case.replica(name, "--sum-every", "50")
+    case.table()
+    case.rows("t", 200100, 100, 80)
+    case.insert(300000, 50 - case.state()["last_seq"] % 50)
+    number = case.state()["last_seq"]
+    for name in "ab":
+        case.wait_until(lambda: case.status(name)["agreed"] == number, f"{name} does not agree: {case.status(name)}")
+        must(not case.status(name)["doubted"] and "no sum" not in case.cluster.replicas[name].said(), f"{name} has no sum")
+    case.must_live_once("a", "b")
+
+
 def slow_script(case: Case) -> None:
     """A script that takes longer than --lost-after on all replicas lets none of them drop its rows."""
     for name in "ab":
@@ -332,15 +516,10 @@ def lost_end(case: Case) -> None:
     case.replica("a", *case.snapshots, "--snapshot-every", "20")
     case.table()
     case.insert(0, 20, "both")
-    server.stop()
-    shutil.copytree(case.folder / "s0", case.folder / "kept")
-    server.start()
-    case.connection.close()
+    case.keep_log()
     case.insert(100, 30, "lost")
     case.wait_until(lambda: len(case.snapshot_files()) == 2, "no snapshot of the lost end was written")
-    server.kill()
-    shutil.rmtree(case.folder / "s0")
-    shutil.copytree(case.folder / "kept", case.folder / "s0")
+    case.put_kept_log_back()
     case.cluster.replicas["a"].send(signal.SIGSTOP)
     server.start()
     case.connection.close()
@@ -354,6 +533,108 @@ def lost_end(case: Case) -> None:
     for name in "ca":
         case.wait_for(name, "ready", 40)
         must(case.ask(b"SCAN t", name, last) == wanted, f"{name} has rows of changes that the log does not have")
+
+
+def no_folder_for_rows(case: Case) -> None:
+    """A replica without a folder keeps rows that the log has lost until it is ended, and a backup has them."""
+    server = case.cluster.servers[0]
+    replica = case.replica("a", "--sum-every", "10")
+    case.table()
+    case.insert(0, 20, "both")
+    case.keep_log()
+    case.insert(100, 10, "lost")
+    case.put_kept_log_back()
+    replica.send(signal.SIGSTOP)
+    server.start()
+    case.connection.close()
+    for name in "bc":
+        case.replica(name, "--sum-every", "10")
+    case.insert(200, 40, "new")
+    replica.send(signal.SIGCONT)
+    case.wait_for("a", "halted", 40)
+    case.insert(300, 20, "new")
+    found = case.wait_for("a", "halted")
+    must(found["lives"] == 1 and "outside the group until it is ended" in replica.said(), f"the rows are gone: {replica.said()[-600:]}")
+    words = [str(case.cluster.programs / "mmdb-ask"), "--servers", case.cluster.urls(), "--name", LOG, "--backup", "a"]
+    backup = subprocess.run(words, capture_output=True, timeout=30, check=True).stdout
+    must(backup.count(b"'lost'") == 10 and b"-- end " in backup and b"'new'" not in backup, "the backup does not have the rows")
+
+
+def lost_rows_at_the_end(case: Case) -> None:
+    """Rows that the log lost, and that no folder took before the replica ends, go into a .lost file then, and into no snapshot."""
+    folder, away = case.cluster.snapshots, case.folder / "away"
+    replica = case.replica("a", *case.snapshots, "--snapshot-every", "1000")
+    case.table()
+    case.insert(0, 5, "both")
+    case.keep_log()
+    case.insert(100, 5, "lost")
+    case.put_kept_log_back()
+    folder.rename(away)
+    case.cluster.servers[0].start()
+    case.connection.close()
+    case.wait_for("a", "halted", 40)
+    away.rename(folder)
+    must(replica.stop() == 0, "the replica did not end well")
+    files = {path.suffix: path.read_text() for path in folder.iterdir()}
+    must(files.get(".lost", "").count("'lost'") == 5, f"the rows are gone: {replica.said()[-600:]}")
+    must("'lost'" not in files.get(".snapshot", ""), "a snapshot has rows that the log does not have")
+
+
+def sums_of_lost_history(case: Case) -> None:
+    """Sums of messages that the log lost are none of the rows that a replica has after it began again."""
+    options = ["--sum-every", "10"]
+    replica = case.replica("a", *case.snapshots, *options)
+    for name in "bc":
+        case.replica(name, *options)
+    case.table()
+    case.insert(0, 7)
+    case.keep_log()
+    case.insert(100, 6, "lost")
+    case.wait_until(lambda: [one["agreed"] for one in case.statuses().values()] == 3 * [10], "there are no sums at number 10")
+    time.sleep(0.2)
+    case.put_kept_log_back()
+    case.cluster.servers[0].start()
+    case.connection.close()
+    for name in "bc":
+        case.wait_for(name, "halted", 40)
+    case.wait_until(lambda: case.status("a")["lives"] == 2, f"the replica did not begin again: {replica.said()[-600:]}")
+    case.insert(200, 10, "new")
+    found = case.wait_for("a", "ready", 40)
+    must(found["lives"] == 2 and found["sequence"] > 10, f"right rows were dropped: {replica.said()[-600:]}")
+
+
+def snapshot_short_of_the_log(case: Case) -> None:
+    """A replica that a cut log left behind keeps its rows while its newest snapshot ends before the log begins."""
+    folder, server = case.folder / "own", case.cluster.servers[0]
+    folder.mkdir()
+    late = case.replica("a", "--snapshots", str(folder))
+    case.replica("b", *case.snapshots)
+    case.table()
+    case.insert(0, 10)
+    case.wait_until(lambda: [one["sequence"] for one in case.statuses().values()] == 2 * [11], "the rows are not everywhere")
+    late.send(signal.SIGSTOP)
+    server.stop()
+    server.start()
+    case.connection.close()
+
+    def bring_snapshot(number: int) -> None:
+        """Gives the late replica a snapshot at a number, up to which the log is filled."""
+        case.fill(number)
+        case.wait_until(lambda: case.status("b")["sequence"] == number, "the other replica is late too")
+        case.request(".snapshot.b", b"")
+        shutil.copy(case.snapshot_files()[-1], folder)
+
+    bring_snapshot(20)
+    case.fill(30)
+    patient(case.connection, "STREAM.PURGE." + LOG, {"seq": 30}, case.until)
+    late.send(signal.SIGCONT)
+    case.wait_for("a", "halted", 40)
+    time.sleep(2)
+    found = case.wait_for("a", "halted")
+    must((found["sequence"], found["lives"]) == (11, 1), f"the rows are gone: {late.said()[-600:]}")
+    bring_snapshot(31)
+    found = case.wait_for("a", "ready", 40)
+    must(found["sequence"] >= 31 and b"rows 10\n" in case.ask(b"SCAN t", "a"), f"the snapshot was not loaded: {late.said()[-600:]}")
 
 
 def publish(case: Case, entries: list[Entry], number: int, chain: str, since: int = 0) -> int:
@@ -389,6 +670,24 @@ def chained(case: Case) -> None:
     must(b"rows 5\n" in case.ask(b"SCAN t", "a", last), "the rows are not those of the log")
     said = case.cluster.replicas["a"].said()
     must(re.search(r"(?i)chain|history", said), f"another history was not reported: {said[-300:]}")
+
+
+def empty_header(case: Case) -> None:
+    """The chain hash covers headers as libnats 3.4 reads them, which takes the line after an empty header as the value of that header.
+
+    Where another version reads another value, replicas of two versions would differ, and the format of the log has to become greater.
+    """
+    case.replica("a")
+    case.table()
+    last = case.status("a")
+    checked = f"{last['sequence']} {last['chain']}"
+    body = b"x-1 0 0 8\nDELETE t\n"
+    block = f"NATS/1.0\r\nMmdb-Format:\r\nMmdb-Checked: {checked}\r\n\r\n".encode()
+    case.connection.send(f"HPUB {LOG}.log {len(block)} {len(block) + len(body)}\r\n".encode() + block + body + b"\r\n")
+    case.wait_until(lambda: case.status("a")["sequence"] == last["sequence"] + 1, "the message was not applied")
+    read = "\n".join([last["chain"], f"Mmdb-Checked: {checked}", "", ""])
+    must(case.status("a")["chain"] == sha256(read.encode() + body).hexdigest()[:32], f"the headers were read in another way: {read!r}")
+    must(case.request(".change", b"DELETE t\n", Id="x-1").headers["Mmdb-Sequence"] == str(last["sequence"] + 2), "the message was taken")
 
 
 def different_sums(case: Case) -> None:
@@ -479,6 +778,35 @@ def bounded_memory(case: Case) -> None:
     must(memory_of(replica) - before < 300, f"memory went from {before} to {memory_of(replica)} MiB")
 
 
+def leaves_under_load(case: Case) -> None:
+    """A replica that leaves the group and joins it again and again, while requests arrive, uses no memory that libnats freed.
+
+    libnats 3.4 looks a subscription up for a message, and locks it later, when it may be freed. delay.c makes that time longer.
+    """
+    delay, source = case.folder / "delay.so", Path(__file__).resolve().parent / "delay.c"
+    subprocess.run(["cc", "-O1", "-D_GNU_SOURCE", "-shared", "-fPIC", "-o", str(delay), str(source), "-ldl"], check=True)
+    environment = {"LD_PRELOAD": str(delay), "MALLOC_PERTURB_": "85", "ASAN_OPTIONS": "verify_asan_link_order=0"}
+    replica = case.cluster.replica("a", *case.snapshots, "--sum-every", "0", environment=environment)
+    case.wait_for("a", "ready")
+    case.table()
+    over = threading.Event()
+
+    def flood() -> None:
+        connection = Connection(case.cluster.addresses)
+        connection.connect(time.monotonic() + 5)
+        while not over.is_set():
+            connection.publish(LOG + ".ask", b"TABLES", {"Mmdb-Wait": "500"}, "_INBOX.gone")
+            time.sleep(0.004)
+
+    in_background(flood)
+    until = time.monotonic() + 8
+    while time.monotonic() < until:
+        case.connection.collect(LOG + ".snapshot.a", 1, 5)
+    over.set()
+    time.sleep(0.1)
+    must("Sanitizer" not in replica.said(), f"a sanitizer found: {replica.said()[-1500:]}")
+
+
 # Programs.
 
 
@@ -502,6 +830,25 @@ def snapshot_at_the_end(case: Case) -> None:
     must(replica.stop() == 0, "the replica did not end well")
     files = case.snapshot_files()
     must(files and files[-1].stat().st_mode & 0o077 == 0, f"the snapshots are {[(path.name, oct(path.stat().st_mode)) for path in files]}")
+
+
+def same_name(case: Case) -> None:
+    """Two replicas of one name that write the same snapshot at the same time do not spoil it for each other."""
+    first = case.replica("a", *case.snapshots)
+    case.table()
+    case.rows("t", 30000)
+    second = case.cluster.replica("a", *case.snapshots)
+    second.wait_until_it_says("is ready at number", case.until)
+    second.said_path = first.said_path
+    for number in range(8):
+        case.insert(40000 + number, 1)
+        case.connection.collect(LOG + ".snapshot.a", 2, 10)
+    said = second.said()
+    first.kill()
+    must("was not written" not in said, f"a snapshot was not written: {said[-400:]}")
+    must(len(case.snapshot_files()) == 2 and not list(case.cluster.snapshots.glob("*.part")), "other files are there")
+    case.replica("b", *case.snapshots)
+    must("is passed over" not in case.cluster.replicas["b"].said(), "a snapshot is spoilt")
 
 
 def limited_memory(case: Case) -> None:
@@ -566,28 +913,202 @@ def gathered_changes(case: Case) -> None:
     must(one.headers.get("Mmdb-Format") == "2", f"a message of the log is {one}")
 
 
+def small_messages(case: Case) -> None:
+    """Changes gather into no message that exceeds those that the servers take."""
+    server, configuration = case.cluster.servers[0], case.folder / "small.conf"
+    server.stop()
+    configuration.write_text("max_payload: 16384\n")
+    server.words += ["-c", str(configuration)]
+    server.start()
+    case.replica("a")
+    case.table()
+    count, inbox = 300, "_INBOX.small"
+    case.connection.subscribe(inbox + ".*")
+    for number in range(count):
+        script = f"INSERT t ({number}, 0, 'x')\n-- {number:0200}\n".encode()
+        case.connection.publish(LOG + ".change", script, {"Mmdb-Id": f"s-{number}", "Mmdb-Wait": "20000"}, f"{inbox}.{number}")
+    statuses: list[str] = []
+    while len(statuses) < count:
+        message = case.connection.message(case.until)
+        statuses += [message.headers["Mmdb-Status"]] * message.subject.startswith(inbox)
+    must(statuses == count * ["done"], f"{count - statuses.count('done')} of {count} changes failed")
+
+
+def entries_of(*entries: tuple[str, int, bytes]) -> bytes:
+    return b"".join(f"{name} 0 {flags} {len(script)}\n".encode() + script + b"\n" for name, flags, script in entries)
+
+
+def outcomes_in(body: bytes) -> list[tuple[str, str, int, bytes]]:
+    """The id, the status, the number and the replies of each entry of an answer."""
+    outcomes = []
+    while body:
+        head, body = body.split(b"\n", 1)
+        name, status, number, length = head.decode().split()
+        outcomes.append((name, status, int(number), body[: int(length)]))
+        must(body[int(length) : int(length) + 1] == b"\n", "an answer is malformed")
+        body = body[int(length) + 1 :]
+    return outcomes
+
+
+def changes_in_one_request(case: Case) -> None:
+    """Several changes in one request share a message of the log, and each has its own id and outcome, also at the second try."""
+    case.replica("a")
+    case.table()
+    case.change(b"INSERT t (1, 0, 'x')\n", name="known")
+    before = case.state()["last_seq"]
+    unmet = b"BEGIN\nINSERT t (3, 0, 'x')\nUPDATE t SET k = 5 WHERE id = 77\nCOMMIT\n"
+    insert = b"INSERT t (2, 0, 'x')\n"
+    body = entries_of(("e-1", 0, insert), ("known", 0, b"INSERT t (1, 0, 'x')\n"), ("e-2", 0, insert), ("e-3", 0, b"words\n"),
+                      ("e-4", 1, unmet), ("e-1", 0, b"DELETE t\n"))  # fmt: skip
+    other = b"the id was given to another script before\n"
+    wanted = [
+        ("e-1", "done", before + 1, b"ok 1\n"),
+        ("known", "done", before, b"ok 1\n"),
+        ("e-2", "refused", before + 1, b"error 40 duplicate key\n"),
+        ("e-3", "invalid", before + 1, b"line 1: error 11 syntax\n"),
+        ("e-4", "unmet", before + 1, b"ok\nok 1\nok 0\n"),
+        ("e-1", "invalid", before + 1, other),
+    ]
+    for _ in range(2):
+        answer = case.request(".change", body, Format="2")
+        must(answer.headers["Mmdb-Status"] == "done" and outcomes_in(answer.body) == wanted, f"the changes were answered {answer}")
+    must(case.state()["last_seq"] == before + 1, "the changes are in several messages")
+    published = logged(case.connection, LOG, before + 1, case.until).body
+    must(published.count(b"INSERT t (2,") == 2 and b"words" not in published and b"known" not in published, f"the log has {published!r}")
+    must(case.ask(b"SCAN t") == b"(1, 0, 'x')\n(2, 0, 'x')\nrows 2\n", "the rows are wrong")
+    for wrong in (b"", b"words", body + b"x", entries_of(*[(f"m-{number}", 0, b"") for number in range(4097)])):
+        answer = case.request(".change", wrong, Format="2")
+        must(answer.headers["Mmdb-Status"] == "invalid", f"what is no sequence of entries was answered {answer}")
+    must(case.request(".change", body, Format="3").headers["Mmdb-Status"] == "invalid", "changes of another format were taken")
+    must(case.state()["last_seq"] == before + 1, "invalid requests changed the log")
+
+
+def changes_sent_together(case: Case) -> None:
+    """mmdb-ask --together prints the same as without, and puts changes that follow each other into one message."""
+    case.replica("a")
+    for table in "tu":
+        case.table(table)
+    lines = "".join(f"INSERT {{0}} ({number // 2}, 0, 'x')\n" for number in range(300)) + "SCAN {0}\nINSERT {0} (1\nDELETE {0}\n"
+    words = [str(case.cluster.programs / "mmdb-ask"), "--servers", case.cluster.urls(), "--name", LOG]
+    printed = []
+    for table, options in (("t", []), ("u", ["--together", "100"])):
+        before = case.state()["last_seq"]
+        done = subprocess.run([*words, *options], input=lines.format(table), capture_output=True, text=True, timeout=50)
+        printed.append((done.returncode, done.stdout))
+    must(printed[0] == printed[1] and printed[0][1].count("duplicate key") == 150, f"mmdb-ask printed {printed[1]}, and not {printed[0]}")
+    must(case.state()["last_seq"] - before <= 5, f"303 changes took {case.state()['last_seq'] - before} messages")
+
+
+# Operators.
+
+
+def asked_by(case: Case, *options: str, script: bytes = b"") -> "subprocess.CompletedProcess[bytes]":
+    words = [str(case.cluster.programs / "mmdb-ask"), "--servers", case.cluster.urls(), "--name", LOG, *options]
+    return subprocess.run(words, input=script, capture_output=True, timeout=30)
+
+
+def full_output(case: Case) -> None:
+    """mmdb-ask fails if what it prints cannot be written."""
+    case.replica("a")
+    case.table()
+    words = [str(case.cluster.programs / "mmdb-ask"), "--servers", case.cluster.urls(), "--name", LOG]
+    for options in (["--status"], ["--backup", "a"], ["--numbers"]):
+        with open("/dev/full", "wb") as full:
+            found = subprocess.run([*words, *options], input=b"TABLES\n", stdout=full, stderr=subprocess.DEVNULL, timeout=30)
+        must(found.returncode == 1, f"mmdb-ask {options[0]} ended with status {found.returncode}")
+
+
+def lost_part_of_a_backup(case: Case) -> None:
+    """mmdb-ask --backup fails if fewer bytes reach it than the replica sent, as where a server ends meanwhile."""
+    case.replica("a")
+    case.table()
+    backup = asked_by(case, "--backup", "a")
+    must(backup.returncode == 0 and b"\n-- end " in backup.stdout, f"there is no backup: {backup}")
+    other = Connection(case.cluster.addresses)
+    other.subscribe(LOG + ".backup.x")
+    other.connect(case.until)
+
+    def answer_with(number: bytes) -> None:
+        """Answers as a replica that sent so many bytes, of which 5 arrive."""
+        request = other.message(case.until)
+        other.publish(request.reply, b"part\n")
+        other.publish(request.reply, number, {"Mmdb-Status": "done"})
+
+    for number, status in ((b"", 0), (b"5", 0), (b"6", 1)):
+        in_background(partial(answer_with, number))
+        found = asked_by(case, "--backup", "x")
+        must((found.returncode, found.stdout) == (status, b"part\n"), f"a backup of {number!r} bytes: {found}")
+
+
+def slow_reader_of_a_backup(case: Case) -> None:
+    """A backup of more than the 64 MiB that libnats keeps by default is whole, also if its reader is slow."""
+    other, part, count = Connection(case.cluster.addresses), b"x" * (MEBIBYTE // 2), 150
+    other.subscribe(LOG + ".backup.x")
+    other.connect(case.until)
+    words = [str(case.cluster.programs / "mmdb-ask"), "--servers", case.cluster.urls(), "--name", LOG, "--backup", "x"]
+    with subprocess.Popen(words, stdout=subprocess.PIPE, stderr=subprocess.PIPE) as asker:
+        request = other.message(case.until)
+        for _ in range(count):
+            other.publish(request.reply, part)
+        other.publish(request.reply, str(count * len(part)).encode(), {"Mmdb-Status": "done"})
+        time.sleep(2)
+        read, told = asker.communicate(timeout=30)
+    must(asker.returncode == 0 and len(read) == count * len(part), f"{len(read)} of {count * len(part)} bytes were read: {told!r}")
+
+
+def linearizable_again(case: Case) -> None:
+    """A linearizable question sees the end of the log in each run, also with ids that an earlier run had."""
+    case.replica("a")
+    case.table()
+    for number in range(3):
+        before = case.state()["last_seq"]
+        found = asked_by(case, "--id", "again", "--linearizable", script=b"INSERT t (1, 0, 'x')\nSCAN t\n")
+        must(found.returncode == 0 and found.stdout.endswith(b"rows 1\n"), f"the script was answered {found}")
+        must(case.state()["last_seq"] == before + (1 if number else 2), "a question did not reach the end of the log")
+
+
 TESTS: list[tuple[Callable[[Case], None], int]] = [
     (reply_subjects, 1),
     (log_made_again, 1),
+    (log_made_again_under_load, 1),
     (keep_two_snapshots, 1),
     (bad_snapshot_is_no_base, 1),
+    (cut_of_another_log, 1),
     (slow_load, 1),
     (slow_question, 1),
+    (long_question, 1),
+    (ignored_children, 1),
+    (answers_of_children, 1),
+    (sums_of_children, 1),
     (slow_script, 1),
     (no_servers, 1),
     (lost_servers, 1),
     (lost_end, 1),
+    (no_folder_for_rows, 1),
+    (lost_rows_at_the_end, 1),
+    (sums_of_lost_history, 1),
+    (snapshot_short_of_the_log, 1),
     (delayed_copy, 1),
     (chained, 1),
+    (empty_header, 1),
     (different_sums, 1),
     (blocked_server, 3),
     (dead_requests, 1),
     (bounded_memory, 1),
+    (leaves_under_load, 1),
     (ends_without_servers, 1),
     (snapshot_at_the_end, 1),
+    (same_name, 1),
     (limited_memory, 1),
     (conditions, 1),
     (gathered_changes, 1),
+    (small_messages, 1),
+    (changes_in_one_request, 1),
+    (changes_sent_together, 1),
+    (full_output, 1),
+    (lost_part_of_a_backup, 1),
+    (slow_reader_of_a_backup, 1),
+    (linearizable_again, 1),
 ]
 
 
@@ -598,6 +1119,7 @@ def run(programs: Path, test: Callable[[Case], None], servers: int) -> Optional[
     try:
         case = Case(programs, servers)
         test(case)
+        case.end()
     except (Failed, OSError, KeyError, subprocess.SubprocessError) as wrong:
         return f"{test.__name__} failed after {time.monotonic() - began:.0f} s: {type(wrong).__name__}: {wrong}"
     finally:

@@ -225,7 +225,7 @@ class Checker:
 
     def check_chains(self) -> None:
         identities = {call.answer.log for call in self.calls() if call.answer.log}
-        if len(identities) != 1:
+        if len(identities) != 1 and any(has_ended(call) for call in self.calls()):
             self.find("chain", f"answers name {len(identities)} logs: {', '.join(sorted(identities))}")
         if len(identities) != 1 or 1 not in self.log:
             return

@@ -1,4 +1,4 @@
-"""Lets faults happen on a stage, and takes them back."""
+"""Injects faults into a stage, and ends them."""
 
 import random
 import re

@@ -3,8 +3,8 @@
 
     links.py
 
-Where the kernel refuses network namespaces it says so, and tests the proxies on loopback in their place. The status is 0 only if all
-passed. It takes 3 seconds.
+If the kernel refuses network namespaces, it says so, and tests the proxies on loopback instead. The exit status is 0 if all tests pass.
+Takes 3 seconds.
 """
 
 import socket

@@ -1,7 +1,7 @@
-"""Hosts of their own for the processes of a test, and the network between them.
+"""Separate hosts for the processes of a test, and the network between them.
 
 `Namespaces` gives each host a network namespace with an address of its own, and connects them through switch.py. It needs a process that
-`words_in_sandbox` started: one with namespaces of its own for users, networks, mounts and processes, so nothing that a test does is seen
+`words_in_sandbox` started: one with its own namespaces for users, networks, mounts and processes, so a test has no effect
 outside, and all its processes end with it. `Loopback` is for a kernel that refuses this: the hosts are names, and a proxy stands between
 each of them and each server. It cuts and delays, but it cannot reorder, lose or repeat packets, or cut a server off the others.
 """

@@ -6,6 +6,7 @@
  *
  * FOLDER is empty, and gets files. A check that fails writes a line. The status is 0 only if all passed.
  */
+#include "child.h"
 #include "connect.h"
 #include "entry.h"
 #include "queue.h"
@@ -13,6 +14,7 @@
 #include "snapshot.h"
 #include "sums.h"
 #include <dirent.h>
+#include <signal.h>
 #include <stdio.h>
 #include <stdlib.h>
 #include <string.h>
@@ -176,9 +178,10 @@ static bool has_id(const struct recents *recents, uint64_t number) {
 }
 
 static void ids(void) {
-  struct recents recents;
+  struct recents recents, other;
   static uint8_t room[MOST_RECENT_BYTES / 8];
-  MUST(recents_open(&recents));
+  MUST(recents_open(&recents) && recents_open(&other) && memcmp(recents.key, other.key, KEY_BYTES)); /* nobody knows the key */
+  recents_close(&other);
   for (uint64_t number = 0; number < MOST_RECENT; number++) MUST(add_id(&recents, number, text_of("ok\n")));
   MUST(recents.count == MOST_RECENT && !recents.forgotten);
   for (uint64_t number = MOST_RECENT; number < MOST_RECENT + 1000; number++) MUST(add_id(&recents, number, text_of("ok\n")));
@@ -229,10 +232,14 @@ static bool applies(struct database *database, const char *id, const char *scrip
          recents_find(&database->recents, id)->sequence == database->applied;
 }
 
+static enum answer asks(struct database *database, const char *question, size_t bytes, uint64_t reads, char columns[COLUMNS_BYTES]) {
+  return database_ask(database, text_of(question), &(struct limits){bytes, reads}, columns);
+}
+
 static bool answers(struct database *database, const char *question, const char *reply) {
   struct text wanted = text_of(reply);
   char columns[COLUMNS_BYTES];
-  enum answer answer = database_ask(database, text_of(question), 1 << 20, columns);
+  enum answer answer = asks(database, question, 1 << 20, ANY_READS, columns);
   return (answer == ANSWER_DONE || answer == ANSWER_REFUSED) && database->replies.length == wanted.length &&
          !memcmp(database->replies.at, wanted.at, wanted.length);
 }
@@ -276,9 +283,9 @@ static void applied(void) {
   MUST(answers(&database, "SCAN u", "('\t\r', 3)\nrows 1\n"));
   MUST(answers(&database, "SHOW gone", "error 23 no such standing query\n"));
   MUST(answers(&database, "SELECT", "error 11 syntax\n") && answers(&database, "SELECT a.id FROM t a WHERE a.id = ?", "error 11 syntax\n"));
-  MUST(database_ask(&database, text_of("SCAN t"), 43, columns) == ANSWER_TOO_LARGE);
-  MUST(database_ask(&database, text_of("SCAN t"), 44, columns) == ANSWER_DONE && !strcmp(columns, "id INT, s TEXT"));
-  MUST(database_ask(&database, text_of("TABLES"), 1000, columns) == ANSWER_DONE && !*columns);
+  MUST(asks(&database, "SCAN t", 43, ANY_READS, columns) == ANSWER_TOO_LARGE);
+  MUST(asks(&database, "SCAN t", 44, ANY_READS, columns) == ANSWER_DONE && !strcmp(columns, "id INT, s TEXT"));
+  MUST(asks(&database, "TABLES", 1000, ANY_READS, columns) == ANSWER_DONE && !*columns);
   database_close(&database);
 }
 
@@ -319,6 +326,46 @@ static void batches(void) {
   MUST(answers(&database, "SELECT a.s FROM t a WHERE a.id = 7", "('')\nrows 1\n"));
   both.flags = 0;
   MUST(apply_entry_of(&database, both, "c2") && has_outcome(&database, "c2", OUTCOME_DONE, "ok\nok 1\nok 0\nok\n"));
+  database_close(&database);
+}
+
+/* What a question is expected to read, and one that may not read that much. */
+static void reads(void) {
+  static const struct {
+    const char *plan;
+    uint64_t largest, reads;
+  } cases[] = {
+      {"a tree #key =\nsteps 1\n", 5000000, 1},
+      {"a hash i\nsteps 1\n", 5000000, 1000},
+      {"a tree i =\nsteps 1\n", 30, 30},
+      {"a tree i range\nsteps 1\n", 5000000, 100000},
+      {"a scan\nsteps 1\n", 5000000, 5000000},
+      {"a scan\nb precomputed a.d\nsteps 2\n", 500, 1000},
+      {"a scan\nb tree join #key\nsteps 2\n", 500, 1000},
+      {"a scan\nb tree merge #key i\nsteps 2\n", 2000, 2000 + 2000 * 1000 + 2000},
+      {"a scan\nb tree merge i #key\nsteps 2\n", 2000, 6000},
+      {"a scan\nb hash join i\nsteps 2\n", 100, 10100},
+      {"a tree #key =\nb built hash k\nsteps 2\n", 5000, 1 + 1000 + 5000},
+      {"a scan\nb nested loops\nc nested loops\nsteps 3\n", 100, 100 + 10000 + 1000000},
+      {"a scan\nb nested loops\nc nested loops\nsteps 3\n", UINT64_MAX / 2, UINT64_MAX},
+      {"steps\nsteps 1\n", 100, 0},
+  };
+  struct database database;
+  char columns[COLUMNS_BYTES];
+  for (size_t i = 0; i < sizeof cases / sizeof *cases; i++)
+    check(reads_of_plan(text_of(cases[i].plan), cases[i].largest) == cases[i].reads, cases[i].plan, __LINE__);
+  fill(&database);
+  MUST(database_largest(&database) == 3);
+  MUST(asks(&database, "SCAN t", 1000, 2, columns) == ANSWER_LONG && asks(&database, "SCAN t", 1000, 3, columns) == ANSWER_DONE);
+  MUST(asks(&database, "SHOW w", 1000, 2, columns) == ANSWER_LONG && asks(&database, "SCAN INDEX j", 1000, 2, columns) == ANSWER_LONG);
+  MUST(asks(&database, "SELECT a.s FROM t a WHERE a.id = 3", 1000, 1, columns) == ANSWER_DONE && !strcmp(columns, "s TEXT"));
+  MUST(asks(&database, "SELECT a.s FROM t a, u b WHERE a.id < b.t", 1000, 11, columns) == ANSWER_LONG);
+  MUST(asks(&database, "SELECT a.s FROM t a, u b WHERE a.id < b.t", 1000, 12, columns) == ANSWER_DONE);
+  MUST(asks(&database, "SELECT a.x FROM t a, t b", 1000, 0, columns) == ANSWER_REFUSED &&
+       asks(&database, "TABLES", 1000, 0, columns) == ANSWER_DONE);
+  MUST(asks(&database, "EXPLAIN SELECT a.s FROM t a, t b", 1000, 0, columns) == ANSWER_DONE);
+  MUST(applies(&database, "r1", "INSERT t (4, 'x'), (5, 'y')\n", OUTCOME_DONE, "ok 2\n") && database_largest(&database) == 5);
+  MUST(asks(&database, "SCAN t", 1000, 4, columns) == ANSWER_LONG && asks(&database, "SCAN t", 1000, 5, columns) == ANSWER_DONE);
   database_close(&database);
 }
 
@@ -602,6 +649,45 @@ static void queued(void) {
   nats_Close();
 }
 
+/* Children. */
+
+/* Writes as many bytes as the closure says; and waits for ever if it says 7, or fails if it says 9. */
+static bool child_work(void *closure, struct bytes *bytes) {
+  size_t count = *(size_t *)closure;
+  while (count == 7) pause();
+  for (size_t i = 0; i < count && count != 9; i++)
+    if (!bytes_add(bytes, "x", 1)) return false;
+  return count != 9;
+}
+
+/* Runs a child to its end, which is told by an event. Returns how it ended. */
+static enum child_end run_child(struct queue *queue, struct child *child, size_t count, int64_t most, bool stops) {
+  struct event event;
+  int64_t began = clock_now();
+  MUST(child_start(child, queue, 3, began + most, child_work, &count));
+  if (stops) child_stop(child);
+  MUST(queue_take(queue, began + 20000, &event) && event.kind == EVENT_CHILD && event.number == 3);
+  child_join(child);
+  MUST(kill(child->process, 0)); /* it is no zombie either */
+  return child->end;
+}
+
+static void children(void) {
+  struct queue queue;
+  struct child child;
+  MUST(nats_Open(-1) == NATS_OK && queue_open(&queue));
+  MUST(run_child(&queue, &child, 1000000, 20000, false) == CHILD_DONE && child.bytes.length == 1000000 && child.bytes.at[999999] == 'x');
+  bytes_free(&child.bytes);
+  MUST(run_child(&queue, &child, 0, 20000, false) == CHILD_DONE && !child.bytes.length);
+  bytes_free(&child.bytes);
+  MUST(run_child(&queue, &child, 9, 20000, false) == CHILD_FAILED);
+  bytes_free(&child.bytes);
+  MUST(run_child(&queue, &child, 7, 300, false) == CHILD_LATE);
+  MUST(run_child(&queue, &child, 7, 20000, true) == CHILD_LATE);
+  queue_close(&queue);
+  nats_Close();
+}
+
 /* Logins. */
 
 static void write_login(const char *path, const char *text, mode_t mode) {
@@ -611,7 +697,7 @@ static void write_login(const char *path, const char *text, mode_t mode) {
 
 static void logins(const char *folder) {
   struct login login;
-  char path[PATH_MAX], servers[] = "nats://u:secret@a:1,nats://b:2,c:d@e:3";
+  char path[PATH_MAX], servers[] = "u:pw@d:4,nats://u:secret@a:1,nats://b:2,c:d@e:3";
   snprintf(path, sizeof path, "%s/login", folder);
   write_login(path, "# words\nuser alice\npassword a b\n\n", 0600);
   MUST(!read_login(path, &login) && !strcmp(login.user, "alice") && !strcmp(login.password, "a b") && !login.is_encrypted);
@@ -626,7 +712,7 @@ static void logins(const char *folder) {
   MUST(read_login(path, &login) != NULL);
   MUST(!unlink(path) && read_login(path, &login) != NULL);
   hide_passwords(servers);
-  MUST(!strcmp(servers, "nats://xxxxxxxx@a:1,nats://b:2,xxx@e:3"));
+  MUST(!strcmp(servers, "xxxx@d:4,nats://xxxxxxxx@a:1,nats://b:2,xxx@e:3"));
 }
 
 int main(int words, char **word) {
@@ -639,11 +725,13 @@ int main(int words, char **word) {
   applied();
   malformed();
   batches();
+  reads();
   stale();
   chains();
   snapshots_of(word[1]);
   logins(word[1]);
   compared_sums();
   queued();
+  children();
   return has_failed;
 }

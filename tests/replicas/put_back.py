@@ -1,11 +1,11 @@
 #!/usr/bin/env python3
-"""Puts faults back into the replicas, one at a time, and sees that the tests find each of them.
+"""Puts faults back into the replicas, one at a time, and checks that the tests find each of them.
 
     put_back.py PREFIX [FAULT ..]
 
-PREFIX has the library for C. Each fault is a change of a copy of replica/, which is built and tested: by a test of causes.py, or by seeds
-of storm.py. Without FAULT all faults are tried, which takes about half an hour. For each it prints what found it. The status is 0 only if
-each fault can still be put back and is found.
+PREFIX has the library for C. Each fault is a change of a copy of replica/, which is built and tested: by a test of causes.py, by another
+program of the tests, or by seeds of storm.py. Without FAULT all faults are tried, which takes about an hour; FAULT is a part of the name of
+some. For each it prints what found it. The status is 0 only if each fault can still be put back and is found.
 """
 
 import shutil
@@ -20,7 +20,7 @@ from schedule import FEW_IDS
 
 HERE = Path(__file__).resolve().parent
 REPLICA = HERE.parent.parent / "replica"
-LONGEST = 400.0  # seconds
+LONGEST = 1200.0  # seconds
 
 
 @dataclass
@@ -34,11 +34,15 @@ class Edit:
 
 @dataclass
 class Fault:
-    """A fault: what it is, how it is put back, and what has to find it: a test of causes.py, or a build and seeds of storm.py."""
+    """A fault: what it is, how it is put back, and what has to find it.
+
+    That is a test of causes.py; a program: parts, or one of replica/tests; or otherwise a build and seeds of storm.py.
+    """
 
     name: str
     edits: list[Edit]
     cause: str = ""
+    program: str = ""
     build: str = "plain"
     seeds: str = "1-40"
 
@@ -84,6 +88,15 @@ FAULTS = [
         "lost_servers",
     ),
     Fault(
+        "a replica that publishes to a log that was made again drops its rows",
+        [
+            Edit("life.c", "  if (why == MISSING_OTHER_LOG && replica->database.applied) {\n",
+                 "  if (why == MISSING_HISTORY) {\n    lose_rows(replica, words[why]);\n"
+                 "  } else if (why == MISSING_OTHER_LOG && replica->database.applied) {\n"),
+        ],
+        "log_made_again_under_load",
+    ),
+    Fault(
         "a copy of a message whose id was forgotten is applied again",
         [Edit("database.c", "if (since < progress->forgotten || recents_find", "if (recents_find")],
         "delayed_copy",
@@ -97,6 +110,21 @@ FAULTS = [
         "the number at which a publisher checked its ids does not count",
         [Edit("database.c", "uint64_t since = entry->since < checked ? entry->since : checked;", "uint64_t since = entry->since;")],
         build="forgetful",
+    ),
+    Fault(
+        "sums of messages that the log lost count",
+        [Edit("life.c", "  replica->sums = (struct sums){.own_count = 0};", "  replica->sums.own_count = 0;")],
+        "sums_of_lost_history",
+    ),
+    Fault(
+        "rows that the log lost are in a snapshot of a replica that ends",
+        [Edit("life.c", "  return replica->state == STATE_HALTED && replica->why_halted == MISSING_HISTORY;\n", "  return !replica;\n")],
+        "lost_rows_at_the_end",
+    ),
+    Fault(
+        "rows are dropped for a snapshot that does not reach the log",
+        [Edit("life.c", "  if (head.number + 1 < first || ", "  if (!first || ")],
+        "snapshot_short_of_the_log",
     ),
     Fault(
         "a snapshot of a lost end of the log is loaded",
@@ -196,6 +224,173 @@ FAULTS = [
             Edit("life.c", "event->number == replica->database.applied + 1;", "event->number >= replica->database.applied;"),
         ],
     ),
+    # Rows that the log does not have, and logs that are made again.
+    Fault(
+        "rows that the log lost are dropped where there is no folder",
+        [Edit("life.c", "if (replica->database.applied && !replica->snapshots.folder) {", "if (!replica->database.applied) {")],
+        "no_folder_for_rows",
+    ),
+    Fault(
+        "a log that is made again while another one is cut off raises no alarm",
+        [Edit("life.c", "  replica->cut_below = last + 1;\n", "")],
+        "cut_of_another_log",
+    ),
+    # Children.
+    Fault(
+        "a long question holds the replica up",
+        [Edit("requests.c", "answers_payload(&replica->answers), MOST_READS}", "answers_payload(&replica->answers), ANY_READS}")],
+        "long_question",
+    ),
+    Fault(
+        "a child is not stopped when its time is over",
+        [Edit("child.c", "if (left <= 0 || atomic_load", "if (atomic_load")],
+        "long_question",
+    ),
+    Fault(
+        "the answer of a child has the number of the replica",
+        [Edit("tasks.c", ".number = task->number, .chain = &task->chain,", ".number = replica->database.applied, .chain = &task->chain,")],
+        build="forgetful",
+        seeds="1-80",
+    ),
+    Fault(
+        "the sum of a child is not published",
+        [Edit("tasks.c", "publish_own_sum(replica, task->number, &sum);", "tell(replica, \"summed\");")],
+        "sums_of_children",
+    ),
+    # libnats.
+    Fault(
+        "a subscription is freed as soon as it ends",
+        [
+            Edit(
+                "connect.c",
+                "  if (ended->count < MOST_ENDED) ended->at[ended->count++] = *subscription;\n",
+                "  natsSubscription_Destroy(*subscription);\n",
+            )
+        ],
+        "leaves_under_load",
+    ),
+    # Ids, files and signals.
+    Fault(
+        "the hash of ids is not SipHash",
+        [Edit("digest.c", "  sip_word(&sip, word_at(last));\n", "")],
+        program="parts",
+    ),
+    Fault(
+        "the hash of ids has the same key in each process",
+        [Edit("recent.c", "getrandom(recents->key, sizeof recents->key, 0) == sizeof recents->key", "recents->key[0] == 0")],
+        program="parts",
+    ),
+    Fault(
+        "two replicas of one name write the same .part file",
+        [
+            Edit("snapshot_write.c", '"%s/%s-%s-XXXXXX%s"', '"%s/%s-%s-same%s"'),
+            Edit("snapshot_write.c", "mkostemps(path, sizeof part_ending - 1, O_CLOEXEC)", "open(path, O_RDWR | O_CREAT, 0600)"),
+        ],
+        "same_name",
+    ),
+    Fault(
+        "SIGTERM is not heard while there is no server",
+        [Edit("life.c", "    if (!connect_all(replica)) {", "    while (!connect_all(replica)) nats_Sleep(PAUSE);\n    if (0) {")],
+        "ends_without_servers",
+    ),
+    # Security.
+    Fault(
+        "a replica without --keep may purge the log",
+        [Edit("nats.conf", '"$JS.FC.mmdb.>"]', '"$JS.FC.mmdb.>", "$JS.API.STREAM.PURGE.mmdb"]')],
+        program="roles.py",
+    ),
+    Fault(
+        "one who asks may send changes",
+        [Edit("nats.conf", '["mmdb.ask", "mmdb.ask.>", "mmdb.status"]', '["mmdb.ask", "mmdb.ask.>", "mmdb.status", "mmdb.change"]')],
+        program="roles.py",
+    ),
+    Fault(
+        "others than its user may read a login file",
+        [Edit("connect.c", "status.st_mode & (S_IRWXG | S_IRWXO) ?", "status.st_mode & S_ISVTX ?")],
+        program="parts",
+    ),
+    Fault(
+        "ps shows a password of --servers",
+        [Edit("mmdb-replica.c", "  hide_passwords(value);\n", "")],
+        program="roles.py",
+    ),
+    Fault(
+        "a credentials file is not used",
+        [Edit("connect.c", "if (status == NATS_OK && *login->credentials)", "if (status == NATS_OK && 0)")],
+        program="roles.py",
+    ),
+    # Operators.
+    Fault(
+        "a backup lacks its end",
+        [Edit("status.c", "(length = fread(part, 1, PART_BYTES, file));", "(length = fread(part, 1, PART_BYTES, file) / 2);")],
+        program="restore.py",
+    ),
+    Fault(
+        "a backup that lost a part on its way is taken for whole",
+        [Edit("mmdb-ask.c", "(take_number(&body, &sent) && sent == received)", "(take_number(&body, &sent) && (sent || received))")],
+        "lost_part_of_a_backup",
+    ),
+    Fault(
+        "parts of a backup are dropped while its reader is slow",
+        [Edit("mmdb-ask.c", "natsSubscription_SetPendingLimits(*answers, -1, -1);", "NATS_OK;")],
+        "slow_reader_of_a_backup",
+    ),
+    Fault(
+        "a linearizable question has an id that an earlier run had",
+        [Edit("mmdb-ask.c", '"%s-end-%" PRIu64, asker->random, ++asker->ends', '"%s-end-%" PRIu64, asker->prefix, ++asker->ends')],
+        "linearizable_again",
+    ),
+    Fault(
+        "children are not waited for where their ends were ignored",
+        [Edit("mmdb-replica.c", "  signal(SIGCHLD, SIG_DFL);\n", "")],
+        "ignored_children",
+    ),
+    Fault(
+        "no other replica takes the snapshots over",
+        [Edit("life.c", "if (newest <= replica->snapshot_at || newest > applied) return false;", "if (newest) return true;")],
+        program="restore.py",
+    ),
+    Fault(
+        "connections that libnats closed stay closed",
+        [Edit("life.c", "  if (!wrong) return;\n  tell(replica, \"a connection", "  if (replica) return;\n  tell(replica, \"a connection")],
+        program="restore.py",
+    ),
+    Fault(
+        "no snapshot is written at SIGTERM",
+        [Edit("life.c", "  if (has_news && replica->options.snapshot_every) write_snapshot(replica);\n", "  (void)has_news;\n")],
+        "snapshot_at_the_end",
+    ),
+    Fault(
+        "a message of a newer format is taken for a malformed one",
+        [Edit("database.c", "  if (is_newer(message)) return", "  if (!message && is_newer(message)) return")],
+        program="parts",
+    ),
+    # Many changes in a message or a request.
+    Fault(
+        "changes do not gather",
+        [Edit("requests.c", "  if (has_usual ||", "  if (batch->count || has_usual ||")],
+        "gathered_changes",
+    ),
+    Fault(
+        "changes gather into messages that the servers do not take",
+        [Edit("requests.c", "most = payload < GATHERED_BYTES ? payload : GATHERED_BYTES;", "most = payload ? GATHERED_BYTES : 0;")],
+        "small_messages",
+    ),
+    Fault(
+        "of several changes in a message, the first alone is applied",
+        [Edit("database.c", "(size_t i = 0; next_entry(&rest, &entry); i++) {", "(size_t i = 0; !i && next_entry(&rest, &entry); i++) {")],
+        "gathered_changes",
+    ),
+    Fault(
+        "a change that was applied before is answered with another number",
+        [Edit("requests.c", ".number = recent->sequence, .body = recent->replies", ".number = number, .body = recent->replies")],
+        "changes_in_one_request",
+    ),
+    Fault(
+        "changes of one request that are no scripts are published",
+        [Edit("requests.c", "(verdict == VERDICT_BAD || take_entry(replica, &entry))", "take_entry(replica, &entry)")],
+        "changes_in_one_request",
+    ),
 ]
 
 
@@ -206,57 +401,79 @@ def replace(path: Path, old: str, new: str) -> None:
     path.write_text(text.replace(old, new))
 
 
-def put_back(fault: Fault, folder: Path) -> None:
-    shutil.copytree(REPLICA, folder / "replica")
-    for edit in fault.edits:
-        replace(folder / "replica" / edit.file, edit.old, edit.new)
-    replace(folder / "replica" / "Makefile", "-Wall -Wextra -Werror", "-w")
-    if fault.build == "forgetful":
-        replace(folder / "replica" / "recent.h", "MOST_RECENT = 65536", f"MOST_RECENT = {FEW_IDS}")
-
-
-def build(prefix: Path, folder: Path, fault: Fault) -> Path:
-    out = folder / "builds" / fault.build
-    words = ["make", "-s", "-j4", "-C", str(folder / "replica"), f"OUT={out}", "CFLAGS=-O1 -g"]
+def make(prefix: Path, folder: Path, build: str) -> None:
+    words = ["make", "-s", "-j4", "-C", str(folder / "replica"), f"OUT={folder / 'builds' / build}", "CFLAGS=-O1 -g"]
     subprocess.run(["env", f"PKG_CONFIG_PATH={prefix}/lib/pkgconfig", *words], check=True)
+
+
+def make_base(prefix: Path, folder: Path, build: str) -> None:
+    """The programs without a fault, from which only what a fault changes is built anew."""
+    shutil.copytree(REPLICA, folder / "replica")
+    for name in ("tests", "examples"):
+        (folder / name).symlink_to(REPLICA.parent / name)
+    replace(folder / "replica" / "Makefile", "-Wall -Wextra -Werror", "-w")
+    if build == "forgetful":
+        replace(folder / "replica" / "recent.h", "MOST_RECENT = 65536", f"MOST_RECENT = {FEW_IDS}")
+        replace(folder / "replica" / "replica.h", "MOST_READS = 200000", "MOST_READS = 10")
+    make(prefix, folder, build)
     refuse = ["cc", "-O1", "-D_GNU_SOURCE", "-shared", "-fPIC", "-o", str(folder / "refuse.so"), str(HERE / "refuse.c")]
     subprocess.run(refuse, check=True)
-    return out
+
+
+def put_back(prefix: Path, base: Path, folder: Path, fault: Fault) -> None:
+    if not (base / fault.build).exists():
+        make_base(prefix, base / fault.build, fault.build)
+    shutil.copytree(base / fault.build, folder, symlinks=True, dirs_exist_ok=True)
+    for edit in fault.edits:
+        replace(folder / "replica" / edit.file, edit.old, edit.new)
+    make(prefix, folder, fault.build)
 
 
 def test_words(prefix: Path, folder: Path, fault: Fault) -> list[str]:
+    programs = str(folder / "builds" / fault.build)
     if fault.cause:
-        return [sys.executable, str(HERE / "causes.py"), str(folder / "builds" / fault.build), fault.cause]
+        return [sys.executable, str(HERE / "causes.py"), programs, fault.cause]
+    if fault.program == "parts":
+        return ["bash", str(folder / "tests/replicas/parts"), str(prefix), programs]
+    if fault.program:
+        return [sys.executable, str(folder / "replica/tests" / fault.program), programs]
     words = [sys.executable, str(HERE / "storm.py"), str(folder / "builds"), str(prefix / "lib/libmmdb.so"), str(folder / "refuse.so")]
     return [*words, str(folder / "found"), fault.seeds, "--only", fault.build, "--lanes", "2", "--until-found"]
 
 
-def found_by(prefix: Path, fault: Fault) -> str:
+def found_by(prefix: Path, base: Path, fault: Fault) -> str:
     """What found a fault; an empty text if nothing did."""
     folder = Path(tempfile.mkdtemp(prefix="put-back"))
     try:
-        put_back(fault, folder)
-        build(prefix, folder, fault)
+        put_back(prefix, base, folder, fault)
         done = subprocess.run(test_words(prefix, folder, fault), capture_output=True, text=True, timeout=LONGEST, check=False)
-        lines = [line for line in done.stdout.splitlines() if line.startswith(("seed", fault.cause or "seed"))]
+        named = () if fault.program else ("seed", fault.cause or "seed")
+        lines = [line for line in done.stdout.splitlines() if not named or line.startswith(named)]
         return lines[0] if done.returncode and lines else ""
     finally:
         shutil.rmtree(folder, ignore_errors=True)
 
 
-def main() -> int:
-    prefix, names = Path(sys.argv[1]).resolve(), sys.argv[2:]
-    chosen = [fault for fault in FAULTS if not names or any(name in fault.name for name in names)]
+def try_all(prefix: Path, base: Path, faults: list[Fault]) -> int:
+    """Puts faults back, and returns how many were not found."""
     missed = 0
-    for fault in chosen:
+    for fault in faults:
         began = time.monotonic()
         try:
-            found = found_by(prefix, fault)
+            found = found_by(prefix, base, fault)
         except (ValueError, subprocess.SubprocessError) as wrong:
             found = ""
             print(f"{fault.name}: {wrong}")
         missed += not found
         print(f"{fault.name}: {'found by ' + found[:160] if found else 'NOT FOUND'} ({time.monotonic() - began:.0f} s)", flush=True)
+    return missed
+
+
+def main() -> int:
+    prefix, names = Path(sys.argv[1]).resolve(), sys.argv[2:]
+    chosen = [fault for fault in FAULTS if not names or any(name in fault.name for name in names)]
+    with tempfile.TemporaryDirectory() as base:
+        missed = try_all(prefix, Path(base), chosen)
     return 1 if missed or not chosen else 0
 
 

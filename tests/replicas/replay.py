@@ -1,6 +1,6 @@
-"""What a log leads to: its messages applied one after another by the library, as replica/PROTOCOL.md says that a replica applies them.
+"""Replays a log: applies its messages one after another with the library, as replica/PROTOCOL.md requires of a replica.
 
-This shares no code with the replicas, and it also remembers each id for ever: an id that the rules of the protocol apply twice is found.
+Shares no code with the replicas, and remembers each id for ever, so it finds an id that the rules of the protocol apply twice.
 """
 
 import ctypes

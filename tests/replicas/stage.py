@@ -1,4 +1,4 @@
-"""Three servers and three replicas on hosts of their own, with their files in one folder."""
+"""Three servers and three replicas on separate hosts, with their files in one folder."""
 
 import os
 import shutil

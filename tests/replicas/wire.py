@@ -21,6 +21,7 @@ class Message(NamedTuple):
     status: str
     headers: dict[str, str]
     body: bytes
+    reply: str = ""  # the subject for an answer
 
 
 def headers_in(block: bytes) -> tuple[str, dict[str, str]]:
@@ -97,11 +98,11 @@ class Connection:
             if kind == "PING":
                 self.send(b"PONG\r\n")
             elif kind == "MSG":
-                return Message(words[0], "", {}, self.block(int(words[-1]), until))
+                return Message(words[0], "", {}, self.block(int(words[-1]), until), words[2] if len(words) == 4 else "")
             elif kind == "HMSG":
                 head, whole = int(words[-2]), int(words[-1])
                 block = self.block(whole, until)
-                return Message(words[0], *headers_in(block[:head]), block[head:])
+                return Message(words[0], *headers_in(block[:head]), block[head:], words[2] if len(words) == 5 else "")
             elif kind == "-ERR":
                 raise ConnectionError(" ".join(words))
 

@@ -12,8 +12,9 @@
 enum { MOST_TEXT = 512 };
 
 static void fill(struct database *database) {
-  static const char *const lines[] = {"TABLE t (id INT KEY, name TEXT)", "TABLE u (id INT KEY, t INT REF t)", "INSERT t (1, 'a'), (2, 'b')",
-                                      "INSERT u (1, 1)", "INDEX i ON t (name) TREE", "WATCH w SELECT t.id FROM t t"};
+  static const char *const lines[] = {"TABLE t (id INT KEY, name TEXT)", "TABLE u (id INT KEY, t INT REF t)",
+                                      "INSERT t (1, 'a'), (2, 'b')",     "INSERT u (1, 1)",
+                                      "INDEX i ON t (name) TREE",        "WATCH w SELECT t.id FROM t t"};
   for (size_t i = 0; i < sizeof lines / sizeof *lines; i++)
     MUST(database_restore(database, (struct text){(const uint8_t *)lines[i], strlen(lines[i])}));
 }
@@ -41,7 +42,9 @@ static void check_questions(struct database *database, struct text question) {
   char columns[COLUMNS_BYTES];
   if (check_question(&database->db, question, &why) == VERDICT_GOOD && next_line(&question, &line)) {
     MUST(database_sum(database, ALL_TABLES, &before));
-    MUST(database_ask(database, line, 1024 * 1024, columns) != ANSWER_MEMORY);
+    enum answer answer = database_ask(database, line, &(struct limits){1024 * 1024, 3}, columns);
+    MUST(answer != ANSWER_MEMORY);
+    if (answer == ANSWER_LONG) MUST(database_ask(database, line, &(struct limits){1024 * 1024, ANY_READS}, columns) < ANSWER_LONG);
     MUST(database_sum(database, ALL_TABLES, &after) && is_same_digest(&before, &after));
   }
   bytes_free(&why);

@@ -1,0 +1,28 @@
+/*
+ * Preloaded into a replica, it lets the thread of libnats that reads a connection wait before each lock that it takes for a message: also
+ * between looking up the subscription of a message and locking it.
+ *
+ *     cc -shared -fPIC -o delay.so delay.c -ldl
+ *     LD_PRELOAD=./delay.so mmdb-replica ..
+ */
+#include <dlfcn.h>
+#include <stdint.h>
+#include <time.h>
+
+typedef void lock(void *mutex);
+
+/* The bytes of the function of libnats that takes a message, at least about. Nanoseconds. */
+enum { BYTES = 0x600, DELAY = 1000000 };
+
+void natsMutex_Lock(void *mutex);
+void natsMutex_Lock(void *mutex) {
+  static lock *own;
+  static uintptr_t start;
+  if (!own) {
+    own = (lock *)dlsym(RTLD_NEXT, "natsMutex_Lock");
+    start = (uintptr_t)dlsym(RTLD_NEXT, "natsConn_processMsg");
+  }
+  uintptr_t caller = (uintptr_t)__builtin_return_address(0);
+  if (caller - start < BYTES) nanosleep(&(struct timespec){.tv_nsec = DELAY}, NULL);
+  own(mutex);
+}
