@@ -1,24 +1,29 @@
 #!/usr/bin/env python3
-"""Makes every figure of docs/BENCHMARKS.md: measures mmdb and SQLite, and writes tables and plots.
+"""Measures mmdb and SQLite, and writes all tables and plots of README.md and docs/benchmarks. One run of one build fills them all.
 
-    bench/all [--quick] [--part NAME ..] [--rows NUMBER,..] [--runs NUMBER] [--to FOLDER] [PROGRAM]
+    bench/all [--quick] [--part NAME ..] [--rows NUMBER,..] [--runs NUMBER] [--prefix PREFIX] [--to FOLDER] [PROGRAM]
 
-PROGRAM is crates/mmdb/out/mmdb if it is left out. A whole run takes about twenty minutes on a machine with nothing else to do. With
---quick it has fewer rows and runs and the first three parts alone, and takes about two minutes. The parts:
+PROGRAM defaults to crates/mmdb/out/mmdb, and PREFIX to a temporary folder in which tools/install installs the library. The machine should
+be otherwise idle. --quick uses fewer rows and runs. The parts:
 
-    instructions  instructions and blocks of memory of single commands, over 20,000 rows. Other work does not move these figures.
-    times         processor time of the work of bench/workloads.py, at 10^3 to 10^6 rows. Each figure is a median of some runs.
-    memory        bytes of resident memory for a row, a change of an open transaction, and a row of a standing query, at 10^4 to 10^6 rows
-    structures    the index structures beside plain Rust. It needs rustc, and crates/bench_structures/out/bench_structures, which `rt ci`
-                  builds; where one of them is missing it is left out.
+    instructions  instructions and allocations of single lines, over 20,000 rows. Other work on the machine does not affect them.
+    times         processor time of the workloads of bench/workloads.py, at 10^3 to 10^6 rows. Each figure is a median of some runs.
+    memory        bytes of resident memory per row, per change of an open transaction, and per row of a standing query, at 10^4 to 10^6 rows
+    calls         processor time of calls in a program's own process (bench/embedded.py), at 10^4 to 10^6 rows
+    counts        instructions and allocations of the same calls, at 10^4 rows
+    clients       processor time of a call from C, Rust and Python (bench/clients.py)
+    structures    the index structures and plain Rust. Needs rustc, and crates/bench_structures/out/bench_structures, which `rt ci` builds;
+                  skipped if one is missing, and with --quick
 
---part may be given several times; `--part tables` measures nothing. FOLDER is docs/benchmarks, or bench/out with --quick. It gets
-figures.json, figures.md and *.svg, made of what was just measured and of what figures.json had for the other parts.
+--part may be repeated, and `--part tables` measures nothing. FOLDER is docs/benchmarks, or bench/out with --quick. It receives
+figures.json, figures.md and *.svg, from this run and, for the other parts, from the figures.json that was there. If FOLDER is
+docs/benchmarks, the program also writes the table between the marks of README.md.
 
-The peer is SQLite with its tables in memory (bench/sqlite_peer.c). Both programs read lines from a pipe, and write and flush a reply to each.
-The replies of both have to be equal, line for line but for the order of rows, and each join has to go by the plan that its name says.
+The baseline is SQLite with its tables in memory (bench/sqlite_peer.c). Both programs read lines from a pipe, and write and flush a reply to
+each. Their replies must be equal except for the order of rows, and each join must use the plan that it is named after.
 
-On Debian: apt-get install python3 python3-matplotlib gcc libsqlite3-dev valgrind
+On Debian: apt-get install python3 python3-matplotlib python3-dev python3-pip python3-setuptools python3-wheel gcc cargo libsqlite3-dev
+valgrind
 """
 import argparse
 import fcntl
@@ -35,27 +40,29 @@ import time
 import zlib
 from pathlib import Path
 
+import clients
+import embedded
 import tables
 import workloads
 from structures import beside_plain
 
 BENCH = Path(__file__).resolve().parent
 TOP = BENCH.parent
-PARTS = ["instructions", "times", "memory", "structures"]
+PARTS = ["instructions", "times", "memory", "calls", "counts", "clients", "structures"]
 RUNS = {1_000: 9, 10_000: 7, 100_000: 5, 1_000_000: 3}
 F_SETPIPE_SZ = 1031
-# What the last line of each phase gets, and gets from no other line.
+# The last line of each phase, and its reply, which no other line gets.
 MARKS = {"mmdb": ("SCAN nope", b"error 20 no such table\n"), "sqlite": ("SELECT * FROM nope", b"error no such table: nope\n")}
 
 
 class System:
-    """A program to be measured, and how it is given its lines."""
+    """A program under test, and how to translate lines for it."""
 
     def __init__(self, name, command, is_mmdb):
         self.name, self.command, self.is_mmdb = name, command, is_mmdb
 
     def scripts(self, parts):
-        """Parts of one script, each as text in the system's language."""
+        """The parts of a script in the system's language."""
         columns = {}
         own = (workloads.in_mmdb(lines) if self.is_mmdb else workloads.in_sql(lines, columns) for lines in parts)
         return ["".join(line + "\n" for line in lines) for lines in own]
@@ -65,7 +72,7 @@ class System:
 
 
 class Running:
-    """A system at work. It reads a pipe, and writes to a file in memory, over what was written there before."""
+    """A running system. It reads a pipe, and writes to a file in memory, over what was there before."""
 
     replies = os.memfd_create("replies")
 
@@ -87,7 +94,7 @@ class Running:
         return time.clock_gettime_ns(~self.process.pid << 3 | 2)
 
     def given(self, script):
-        """Gives some lines. Returns the processor time until all are answered, in nanoseconds."""
+        """Sends some lines. Returns the processor time until the last reply, in nanoseconds."""
         os.lseek(self.replies, 0, os.SEEK_SET)
         left, start = memoryview((script + self.mark + "\n").encode()), self.clock()
         while left:
@@ -103,7 +110,7 @@ class Running:
         return end >= 0 and os.pread(self.replies, len(self.marked), end) == self.marked
 
     def answered(self):
-        """The replies of the lines that were given last."""
+        """The replies to the lines sent last."""
         end = os.lseek(self.replies, 0, os.SEEK_CUR) - len(self.marked)
         parts, start = [], 0
         while start < end:
@@ -121,7 +128,7 @@ class Running:
 
 
 def checksum(replies):
-    """The same for the same lines in any order."""
+    """A checksum of the lines that does not depend on their order."""
     return sum(map(zlib.crc32, replies.split(b"\n")))
 
 
@@ -139,7 +146,7 @@ def with_input(script, folder):
 
 
 def instructions(command, script, folder):
-    """How many instructions a run takes in user space."""
+    """The instructions of a run in user space."""
     counting = ["valgrind", "--tool=callgrind", f"--callgrind-out-file={folder / 'callgrind'}", *command]
     with with_input(script, folder) as given:
         written = subprocess.run(counting, stdin=given, stdout=subprocess.DEVNULL, stderr=subprocess.PIPE, text=True, check=True).stderr
@@ -147,7 +154,7 @@ def instructions(command, script, folder):
 
 
 def allocations(command, script, folder):
-    """How many blocks of memory a run asks for."""
+    """The allocations of a run."""
     preloaded = dict(os.environ, LD_PRELOAD=str(folder / "count.so"))
     with with_input(script, folder) as given:
         written = subprocess.run(command, stdin=given, stdout=subprocess.DEVNULL, stderr=subprocess.PIPE, text=True, env=preloaded, check=True).stderr
@@ -155,7 +162,7 @@ def allocations(command, script, folder):
 
 
 def measure_instructions(systems, options, folder):
-    """For a line of each operation: instructions and allocations of mmdb, and instructions of SQLite."""
+    """For one line of each operation, the instructions and allocations of mmdb, and the instructions of SQLite."""
     if not shutil.which("valgrind"):
         sys.exit("valgrind is missing: apt-get install valgrind")
     rows, lines = (2_000, 500) if options.quick else (20_000, 2_000)
@@ -168,7 +175,7 @@ def measure_instructions(systems, options, folder):
             fills, whole = system.script(before), system.script(before + operation)
             if (key, fills) not in filled:
                 filled[key, fills] = count(system.command, fills, folder)
-            # SQLite keeps no statement that it refuses.
+            # SQLite cannot prepare a statement that it refuses.
             each[key] = None if key == "prepared" and "refused" in name else (count(system.command, whole, folder) - filled[key, fills]) / lines
         found.append(each)
         note(each)
@@ -179,7 +186,7 @@ def measure_instructions(systems, options, folder):
 
 
 def check_plan(running, phase):
-    """Stops where mmdb does not go the way that the phase is named after."""
+    """Stops if mmdb does not use the plan that the phase is named after."""
     running.given("EXPLAIN " + phase.lines[0] + "\n")
     plan = running.answered().decode()
     if phase.plan not in plan:
@@ -187,7 +194,7 @@ def check_plan(running, phase):
 
 
 def timed_run(system, workload, scripts, sums=None):
-    """The nanoseconds of each phase. Where `sums` is a list it gets a checksum of the replies to each phase and to the questions at the end."""
+    """The nanoseconds of each phase. Appends a checksum of the replies to each phase and to the last queries to `sums`, if it is a list."""
     spent = []
     with Running(system) as running:
         for phase, script in zip(workload.phases, scripts):
@@ -196,7 +203,7 @@ def timed_run(system, workload, scripts, sums=None):
             spent.append(running.given(script))
             if sums is not None:
                 replies = running.answered()
-                # To other lines, as those that make tables, the systems have not the same replies.
+                # The replies to other lines, such as definitions, differ between the systems.
                 sums.append(checksum(replies) if phase.name and not phase.lines[0].startswith("WATCH") else 0)
         if sums is not None:
             running.given(scripts[-1])
@@ -205,7 +212,7 @@ def timed_run(system, workload, scripts, sums=None):
 
 
 def timed_workload(systems, workload, runs):
-    """For each phase that is measured, the median nanoseconds of a unit in each system. In the first run all replies have to be equal."""
+    """For each measured phase, the median nanoseconds per unit in each system. In the first run all replies must be equal."""
     parts = [*(phase.lines for phase in workload.phases), workload.at_end]
     scripts = {name: system.scripts(parts) for name, system in systems.items()}
     sums = {name: [] for name in systems}
@@ -222,7 +229,7 @@ def timed_workload(systems, workload, runs):
 
 
 def measure_times(systems, options, folder):
-    """For each number of rows and each work: the nanoseconds of a unit in each system. Lines are parsed anew at one number of rows alone."""
+    """For each number of rows and each work, the nanoseconds per unit in each system. SQLite parses each line at one number of rows only."""
     sizes, found = options.rows, []
     middle = tables.middle_size(sizes)
     for rows in sizes:
@@ -250,7 +257,7 @@ def peak_of(system, lines):
 
 
 def measure_memory(systems, options, folder):
-    """Bytes of resident memory for a unit of some works: the peak with the work, less that of what comes before it."""
+    """Bytes of resident memory per unit of some works: the peak with the work, minus the peak without it."""
     found = []
     for rows in (size for size in options.rows if size >= 10_000):
         for kind, unit, units, before, lines in workloads.kept(rows):
@@ -260,26 +267,69 @@ def measure_memory(systems, options, folder):
     return found
 
 
+# ---- calls in a program's own process
+
+
+def installed(options, folder):
+    """A folder with the library: PREFIX, or a temporary folder in which tools/install installs it."""
+    if options.prefix:
+        return options.prefix.resolve()
+    subprocess.run(["bash", TOP / "tools/install", folder / "prefix"], check=True, stdout=subprocess.DEVNULL)
+    return folder / "prefix"
+
+
+def measure_calls(systems, options, folder):
+    """The nanoseconds of calls, at each number of rows from 10,000 on."""
+    embedded.compile_all(installed(options, folder), folder)
+    found = []
+    for rows in (size for size in options.rows if size >= 10_000):
+        start, runs = time.monotonic(), options.runs or (3 if rows < 1_000_000 else 1)
+        found += embedded.times(folder, rows, 4_000, runs)
+        note(f"calls at {rows:,} rows: {runs} runs in {time.monotonic() - start:.0f} s")
+    return found
+
+
+def measure_counts(systems, options, folder):
+    """The instructions and allocations of calls over 10,000 rows."""
+    embedded.compile_all(installed(options, folder), folder)
+    return embedded.counts(folder, 10_000, 500 if options.quick else 4_000)
+
+
+def measure_clients(systems, options, folder):
+    """The nanoseconds of calls from each client, over 10,000 rows."""
+    prefix = installed(options, folder)
+    embedded.compile_all(prefix, folder)
+    return clients.figures(prefix, folder, 10_000, 10_000)
+
+
 # ---- structures
 
 
 def measure_structures(systems, options, folder):
-    """The structures beside plain Rust, or nothing where a program is missing."""
+    """The structures and plain Rust, or nothing if a program is missing."""
     missing = beside_plain.missing()
     if missing:
-        note(f"structures: left out, since {missing} is missing")
+        note(f"structures: skipped, since {missing} is missing")
         return None
     return beside_plain.figures(options.runs or 3)
 
 
-MEASURES = {"instructions": measure_instructions, "times": measure_times, "memory": measure_memory, "structures": measure_structures}
+MEASURES = {
+    "instructions": measure_instructions,
+    "times": measure_times,
+    "memory": measure_memory,
+    "calls": measure_calls,
+    "counts": measure_counts,
+    "clients": measure_clients,
+    "structures": measure_structures,
+}
 
 
 # ---- the whole
 
 
 def machine():
-    """What the figures were made on."""
+    """The machine on which the figures are measured."""
     model = re.search(r"model name\s*: (.*)", Path("/proc/cpuinfo").read_text())
     memory = int(re.search(r"MemTotal:\s+(\d+)", Path("/proc/meminfo").read_text())[1]) / (1 << 20)
     return {
@@ -292,12 +342,12 @@ def machine():
 
 
 def write_plots(folder):
-    """Has the plots made by this Python, or by that of the system, which Debian's matplotlib is for."""
+    """Draws the plots with this Python, or with the system's, which has Debian's matplotlib."""
     for python in (sys.executable, "/usr/bin/python3"):
         if python and not subprocess.run([python, "-c", "import matplotlib"], stderr=subprocess.DEVNULL).returncode:
             subprocess.run([python, BENCH / "plots.py", folder], check=True)
             return
-    note("no plots were written, since matplotlib is missing: apt-get install python3-matplotlib")
+    note("no plots, since matplotlib is missing: apt-get install python3-matplotlib")
 
 
 def options_of(words):
@@ -306,12 +356,13 @@ def options_of(words):
     parser.add_argument("--part", action="append", choices=[*PARTS, "tables"])
     parser.add_argument("--rows", type=lambda text: [int(float(word)) for word in text.split(",")])
     parser.add_argument("--runs", type=int)
+    parser.add_argument("--prefix", type=Path)
     parser.add_argument("--to", type=Path)
     parser.add_argument("program", nargs="?", type=Path, default=TOP / "crates/mmdb/out/mmdb")
     options = parser.parse_args(words)
     options.rows = options.rows or ([1_000, 10_000] if options.quick else list(RUNS))
     options.to = options.to or (BENCH / "out" if options.quick else TOP / "docs/benchmarks")
-    options.part = options.part or (PARTS[:3] if options.quick else PARTS)
+    options.part = options.part or (PARTS[:-1] if options.quick else PARTS)
     options.program = options.program.resolve()
     return options
 
@@ -322,8 +373,9 @@ def main():
     store = options.to / "figures.json"
     figures = json.loads(store.read_text()) if store.is_file() else {}
     wanted = [part for part in PARTS if part in options.part]
-    if wanted and not os.access(options.program, os.X_OK):
-        sys.exit(f"There is no program at {options.program}. 'tools/build' builds it.")
+    if {"instructions", "times", "memory"} & {*wanted} and not os.access(options.program, os.X_OK):
+        sys.exit(f"No program at {options.program}. 'tools/build' builds it.")
+    version = subprocess.run(["bash", TOP / "tools/install", "--version"], capture_output=True, text=True, check=True).stdout.strip()
     with tempfile.TemporaryDirectory() as name:
         folder = Path(name)
         peer = folder / "sqlite_peer"
@@ -339,11 +391,14 @@ def main():
             made_on, began = machine(), time.monotonic()
             found = MEASURES[part](systems, options, folder)
             if found:
-                figures[part] = {"machine": made_on, "seconds": round(time.monotonic() - began), "found": found}
+                seconds = round(time.monotonic() - began)
+                figures[part] = {"version": version, "machine": made_on, "seconds": seconds, "found": found}
                 store.write_text(json.dumps(figures, indent=1) + "\n")
     (options.to / "figures.md").write_text(tables.document(figures))
+    if options.to.resolve() == TOP / "docs/benchmarks":
+        (TOP / "README.md").write_text(tables.readme((TOP / "README.md").read_text(encoding="utf-8"), figures), encoding="utf-8")
     write_plots(options.to)
-    note(f"{options.to}: figures.md, made in {time.monotonic() - start:.0f} s")
+    note(f"{options.to}/figures.md written after {time.monotonic() - start:.0f} s")
 
 
 if __name__ == "__main__":

@@ -1,22 +1,15 @@
-#!/usr/bin/env python3
-"""Compares what a call costs from C, Rust and Python, and from Python by its module sqlite3: processor time of a call.
+"""The cost of a call from C, Rust and Python, and from Python's module sqlite3, for bench/all: processor time of a call.
 
-    bench/clients.py [--rows N] [--calls N]
-
-A look-up by key of a number and a text, and the INSERT of a row with two indexes inside one transaction: by a call for many rows, and by a
-call for each. Each time is the least of three runs. tools/install makes the library.
-
-On Debian: apt-get install python3 python3-dev python3-pip python3-setuptools python3-wheel gcc cargo
+The calls are a look-up by key of a number and a text, and an INSERT of a row with two indexes inside one transaction. One run of the INSERT
+passes all rows in one call, and another makes one call per row. Each time is the minimum of three runs.
 """
 
-import argparse
 import os
-import pathlib
 import subprocess
 import sys
-import tempfile
+from pathlib import Path
 
-TOP = pathlib.Path(__file__).resolve().parent.parent
+TOP = Path(__file__).resolve().parent.parent
 CARGO = """[package]
 name = "client"
 version = "0.0.0"
@@ -31,55 +24,44 @@ path = "{top}/bench/embedded/client.rs"
 """
 
 
-def built(folder):
-    """Installs the library into the folder and builds the programs. The environment in which they run."""
-    subprocess.run([str(TOP / "tools/install"), folder], check=True, stdout=subprocess.DEVNULL)
+def build(prefix, folder):
+    """Builds the clients with the library in PREFIX, and returns the environment in which they run. bench/embedded.py builds that in C."""
     environment = {
         **os.environ,
-        "MMDB_LIB_DIR": f"{folder}/lib",
-        "LD_LIBRARY_PATH": f"{folder}/lib",
+        "MMDB_LIB_DIR": f"{prefix}/lib",
+        "LD_LIBRARY_PATH": f"{prefix}/lib",
         "PYTHONPATH": f"{folder}/package",
         "CARGO_TARGET_DIR": f"{folder}/target",
     }
-    build_wheel = ["bash", str(TOP / "clients/python/build_wheel"), folder, folder]
+    build_wheel = ["bash", TOP / "clients/python/build_wheel", prefix, folder]
     subprocess.run(build_wheel, check=True, stdout=subprocess.DEVNULL, env={**os.environ, "PYTHON": sys.executable})
-    wheel = next(str(path) for path in pathlib.Path(folder).glob("mmdb-*.whl"))
-    pip = [sys.executable, "-m", "pip", "install", "--quiet", "--no-index", "--no-deps", "--target", f"{folder}/package"]
-    subprocess.run([*pip, wheel], check=True)
-    flags = ["-O2", "-std=c11", "-D_GNU_SOURCE", f"-I{folder}/include"]
-    subprocess.run(["cc", *flags, "-o", f"{folder}/c", str(TOP / "bench/embedded/mmdb.c"), f"{folder}/lib/libmmdb.so"], check=True)
-    pathlib.Path(folder, "Cargo.toml").write_text(CARGO.format(top=TOP))
-    subprocess.run(["cargo", "build", "--quiet", "--offline", "--release", "--manifest-path", f"{folder}/Cargo.toml"], check=True, env=environment)
+    pip = [sys.executable, "-m", "pip", "install", "--quiet", "--no-index", "--no-deps", "--target", folder / "package"]
+    subprocess.run([*pip, next(folder.glob("mmdb-*.whl"))], check=True)
+    (folder / "Cargo.toml").write_text(CARGO.format(top=TOP))
+    cargo = ["cargo", "build", "--quiet", "--offline", "--release", "--manifest-path", folder / "Cargo.toml"]
+    subprocess.run(cargo, check=True, env=environment)
     return environment
 
 
 def least(command, environment):
-    """The least numbers of three runs of a program that prints numbers."""
+    """The minimum of each number that three runs of a program print."""
     runs = [subprocess.run(command, capture_output=True, text=True, check=True, env=environment).stdout.split() for _ in range(3)]
-    return [min(float(run[place]) for run in runs) for place in range(len(runs[0]))]
+    return [min(map(float, numbers)) for numbers in zip(*runs)]
 
 
-def main():
-    options = argparse.ArgumentParser()
-    options.add_argument("--rows", type=int, default=10_000)
-    options.add_argument("--calls", type=int, default=10_000, help="no more than rows")
-    options = options.parse_args()
-    with tempfile.TemporaryDirectory() as folder:
-        environment = built(folder)
-        size = [str(options.rows), str(options.calls)]
-        look_up = least([f"{folder}/c", "0", *size], environment)[0]
-        insert = least([f"{folder}/c", "4", *size, "transaction"], environment)[0]
-        print(f"{options.rows} rows, nanoseconds of a call: look-up by key, INSERT by a call for many, INSERT by a call for each")
-        print(f"{'C':16} {look_up:8.0f} {'':8} {insert:8.0f}")
-        for words, command in [
-            ("Rust", [f"{folder}/target/release/client"]),
-            ("Python, mmdb", [sys.executable, str(TOP / "bench/embedded/client.py"), "mmdb"]),
-            ("Python, sqlite3", [sys.executable, str(TOP / "bench/embedded/client.py"), "sqlite3"]),
-        ]:
-            times = least([*command, *size], environment)
-            print(f"{words:16} " + " ".join(f"{time:8.0f}" for time in times), flush=True)
-    return 0
-
-
-if __name__ == "__main__":
-    sys.exit(main())
+def figures(prefix, folder, rows, calls):
+    """For each client the nanoseconds of a look-up, of a row of one INSERT for all rows, and of one INSERT per row."""
+    environment = build(prefix, folder)
+    size = [str(rows), str(calls)]
+    look_up = least([folder / "mmdb", "0", *size], environment)[0]
+    insert = least([folder / "mmdb", "4", *size, "transaction"], environment)[0]
+    found = [{"from": "C", "look-up": look_up, "many": None, "one": insert}]
+    python = [sys.executable, TOP / "bench/embedded/client.py"]
+    for name, command in [
+        ("Rust", [folder / "target/release/client"]),
+        ("Python", [*python, "mmdb"]),
+        ("Python, `sqlite3`", [*python, "sqlite3"]),
+    ]:
+        one_look_up, many, one = least([*command, *size], environment)
+        found.append({"from": name, "look-up": one_look_up, "many": many, "one": one})
+    return {"rows": rows, "clients": found}

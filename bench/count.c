@@ -1,4 +1,4 @@
-/* Preloaded, it writes to standard error at the end how many blocks of memory were asked for: each malloc, calloc and realloc is one. */
+/* A preloaded library that counts allocations: at the end it writes the number of calls of malloc, calloc and realloc to standard error. */
 #include <stddef.h>
 #include <stdio.h>
 

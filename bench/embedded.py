@@ -1,106 +1,83 @@
-#!/usr/bin/env python3
-"""Compares calls of mmdb and of SQLite in a program's own process: instructions, blocks of memory and processor time.
+"""Calls of mmdb and SQLite in a program's own process, for bench/all: processor time, instructions and allocations of a call.
 
-    bench/embedded.py [--rows N ..] [--calls N] [--times] [--runs N] [--json FILE] [--plot FILE]
-
-For each kind of call a program does it so many times, each statement prepared once: bench/embedded/mmdb.c over libmmdb.a, bench/embedded/sqlite.c over
-the system's SQLite with its tables in memory, outside a transaction and in one. Instructions are those of valgrind's callgrind, of a run with
-the calls less one without, and so are blocks (bench/count.c). Time is the processor's, the least of some runs. With --times only that is measured, as
-instructions take long with many rows. --plot draws the instructions of calls outside a transaction, and needs matplotlib.
-
-tools/install makes the library. On Debian: apt-get install python3 gcc libsqlite3-dev valgrind
+bench/embedded/mmdb.c uses libmmdb.a, and bench/embedded/sqlite.c the system's SQLite with its tables in memory. Each prepares its
+statements once. Each kind of call runs outside a transaction and in one.
 """
 
-import argparse
-import json
 import os
-import pathlib
 import re
 import subprocess
-import sys
-import tempfile
+from pathlib import Path
 
-TOP = pathlib.Path(__file__).resolve().parent.parent
-WORKS = ["by key", "by hash", "range of ten", "by foreign key", "insert", "update a column", "update an indexed column", "delete", "change and its list"]
+BENCH = Path(__file__).resolve().parent
+# The names of the works of work.h, in its order.
+WORKS = [
+    "look-up by key",
+    "look-up by HASH",
+    "range of ten along a TREE index",
+    "join by a foreign key, one row",
+    "`INSERT`",
+    "`UPDATE` by key",
+    "`UPDATE` of an indexed column",
+    "`DELETE`",
+    "a change, and `SHOW` of its list",
+]
+SYSTEMS = ["mmdb", "sqlite"]
 FLAGS = ["-O2", "-std=c11", "-D_GNU_SOURCE", "-Wall", "-Wextra", "-Werror"]
 
 
-def compile_all(folder):
-    """Installs the library into the folder and compiles both programs and what counts blocks."""
-    subprocess.run([str(TOP / "tools/install"), str(folder)], check=True, stdout=subprocess.DEVNULL)
-    for name, links in [("mmdb", [f"{folder}/lib/libmmdb.a"]), ("sqlite", ["-lsqlite3"])]:
-        command = ["cc", *FLAGS, f"-I{folder}/include", "-o", f"{folder}/{name}", str(TOP / f"bench/embedded/{name}.c"), *links]
-        subprocess.run(command, check=True)
-    subprocess.run(["cc", "-O2", "-shared", "-fPIC", "-o", f"{folder}/count.so", str(TOP / "bench/count.c")], check=True)
+def compile_all(prefix, folder):
+    """Compiles both programs with the library in PREFIX, and the library that counts allocations."""
+    for name, links in [("mmdb", [f"{prefix}/lib/libmmdb.a"]), ("sqlite", ["-lsqlite3"])]:
+        source = BENCH / "embedded" / f"{name}.c"
+        subprocess.run(["cc", *FLAGS, f"-I{prefix}/include", "-o", folder / name, source, *links], check=True)
+    subprocess.run(["cc", "-O2", "-shared", "-fPIC", "-o", folder / "count.so", BENCH / "count.c"], check=True)
 
 
 def instructions(command):
-    told = subprocess.run(["valgrind", "--tool=callgrind", "--callgrind-out-file=/dev/null", *command], capture_output=True, text=True, check=True).stderr
-    return int(re.search(r"Collected : (\d+)", told)[1])
+    """The instructions of a run in user space."""
+    counting = ["valgrind", "--tool=callgrind", "--callgrind-out-file=/dev/null", *command]
+    written = subprocess.run(counting, capture_output=True, text=True, check=True).stderr
+    return int(re.search(r"Collected : (\d+)", written)[1])
 
 
-def blocks(folder, command):
-    told = subprocess.run(command, capture_output=True, text=True, check=True, env={**os.environ, "LD_PRELOAD": f"{folder}/count.so"}).stderr
-    return int(re.search(r"asked (\d+)", told)[1])
+def allocations(folder, command):
+    """The allocations of a run."""
+    preloaded = {**os.environ, "LD_PRELOAD": str(folder / "count.so")}
+    written = subprocess.run(command, capture_output=True, text=True, check=True, env=preloaded).stderr
+    return int(re.search(r"asked (\d+)", written)[1])
 
 
-def nanoseconds(command, runs):
-    return min(float(subprocess.run(command, capture_output=True, text=True, check=True).stdout.split()[0]) for _ in range(runs))
+def nanoseconds(command):
+    """The processor time of a call in one run."""
+    return float(subprocess.run(command, capture_output=True, text=True, check=True).stdout.split()[0])
 
 
-def measured(folder, name, work, rows, transaction, options):
-    command = [f"{folder}/{name}", str(work), str(rows)]
-    behind = ["transaction"] if transaction else []
-    calls = options.calls
-    some, none = [*command, str(calls), *behind], [*command, "0", *behind]
-    if options.times:
-        return {"nanoseconds": nanoseconds(some, options.runs)}
-    return {
-        "instructions": (instructions(some) - instructions(none)) / calls,
-        "blocks": (blocks(folder, some) - blocks(folder, none)) / calls,
-        "nanoseconds": nanoseconds(some, options.runs),
-    }
+def runs_of(folder, rows):
+    """Each system, work and kind of transaction, with the function that gives the command for a number of calls."""
+    for work, title in enumerate(WORKS):
+        for transaction in (False, True):
+            for name in SYSTEMS:
+                arguments = ["transaction"] if transaction else []
+
+                def command(calls, name=name, work=work, arguments=arguments):
+                    return [folder / name, str(work), str(rows), str(calls), *arguments]
+
+                yield {"rows": rows, "work": title, "name": name, "transaction": transaction}, command
 
 
-def draw(found, path):
-    """Bars of the instructions of calls outside a transaction, with the fewest rows."""
-    import plots
-
-    systems = {"mmdb": "mmdb", "sqlite": "prepared"}
-    chosen = [each for each in found if not each["transaction"] and each["rows"] == found[0]["rows"]]
-    values = [{systems[each["name"]]: each["instructions"] for each in chosen if each["work"] == work} for work in WORKS]
-    plots.bars(path, WORKS, values, f"instructions of a call in the program's own process, {found[0]['rows']:,} rows")
+def times(folder, rows, calls, runs):
+    """For each kind of call the nanoseconds of a call: the minimum of some runs, which alternate between the systems."""
+    commands = list(runs_of(folder, rows))
+    taken = [[nanoseconds(command(calls)) for _, command in commands] for _ in range(runs)]
+    return [{**head, "nanoseconds": min(run[place] for run in taken)} for place, (head, _) in enumerate(commands)]
 
 
-def main():
-    options = argparse.ArgumentParser()
-    options.add_argument("--rows", type=int, nargs="+", default=[10_000])
-    options.add_argument("--calls", type=int, default=4_000)
-    options.add_argument("--times", action="store_true")
-    options.add_argument("--runs", type=int, default=3)
-    options.add_argument("--json")
-    options.add_argument("--plot")
-    options = options.parse_args()
+def counts(folder, rows, calls):
+    """For each kind of call its instructions and allocations: those of a run with the calls, minus those of a run without."""
     found = []
-    with tempfile.TemporaryDirectory() as folder:
-        compile_all(folder)
-        for rows in options.rows:
-            what = "nanoseconds" if options.times else "instructions, blocks, nanoseconds"
-            print(f"{rows} rows: {what} of a call; mmdb, SQLite; then both in a transaction", flush=True)
-            for work, words in enumerate(WORKS):
-                line = f"{words:25}"
-                for transaction in [False, True]:
-                    for name in ["mmdb", "sqlite"]:
-                        got = measured(folder, name, work, rows, transaction, options)
-                        found.append({"rows": rows, "work": words, "name": name, "transaction": transaction, **got})
-                        line += " ".join(f" {value:9.0f}" if key != "blocks" else f" {value:5.1f}" for key, value in got.items()) + " |"
-                print(line, flush=True)
-    if options.plot:
-        draw(found, options.plot)
-    if options.json:
-        pathlib.Path(options.json).write_text(json.dumps(found, indent=1))
-    return 0
-
-
-if __name__ == "__main__":
-    sys.exit(main())
+    for head, command in runs_of(folder, rows):
+        executed = instructions(command(calls)) - instructions(command(0))
+        asked = allocations(folder, command(calls)) - allocations(folder, command(0))
+        found.append({**head, "instructions": executed / calls, "allocations": asked / calls})
+    return found

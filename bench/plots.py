@@ -1,8 +1,8 @@
 #!/usr/bin/env python3
-"""Draws what bench/all measured: plots.py FOLDER reads FOLDER/figures.json and writes FOLDER/*.svg. It needs matplotlib.
+"""Draws what bench/all measured: plots.py FOLDER reads FOLDER/figures.json and writes FOLDER/*.svg. Needs matplotlib.
 
-Each plot is drawn where its part was measured: instructions.svg, lines.svg and rows.svg (times for a line and for a row), growth.svg
-(times by the number of rows) and memory.svg. Colours are the same in all of them.
+The plots are instructions.svg, lines.svg and rows.svg (times per line and per row), growth.svg (times by the number of rows), memory.svg,
+and embedded.svg (instructions of calls). A plot whose part was not measured is not drawn.
 """
 import json
 import sys
@@ -19,7 +19,7 @@ from tables import middle_size
 COLOURS = {"mmdb": "#1f5fa8", "prepared": "#e0892b", "parsed": "#f2cb9c"}
 NAMES = {"mmdb": "mmdb", "prepared": "SQLite, prepared statements", "parsed": "SQLite, each line parsed"}
 PER_LINE = {"query", "line", "pair of lines"}
-# The works whose growth is drawn, one for each kind.
+# The works in growth.svg, one of each kind.
 GROWTH = [
     "load, long lines, ascending keys",
     "`INDEX .. TREE` over all rows",
@@ -57,7 +57,7 @@ def plain(work):
 
 
 def bars(path, works, values, label):
-    """Bars that lie: a group for each work, and in it one for each system. None is no bar."""
+    """Horizontal bars: a group for each work, with a bar for each system. None is no bar."""
     systems = [name for name in COLOURS if any(each.get(name) is not None for each in values)]
     figure, axes = pyplot.subplots(figsize=(8, 0.5 + (0.16 + 0.18 * len(systems)) * len(works)))
     thick = 0.8 / len(systems)
@@ -92,7 +92,7 @@ def systems_of(each, scale):
 
 def draw_instructions(folder, found):
     known = [each for each in found["operations"] if each["prepared"] is not None]
-    bars(folder / "instructions.svg", [each["work"] for each in known], [systems_of(each, 1) for each in known], "instructions for a line")
+    bars(folder / "instructions.svg", [each["work"] for each in known], [systems_of(each, 1) for each in known], "instructions per line")
 
 
 def draw_times(folder, found):
@@ -145,7 +145,14 @@ def draw_memory(folder, found):
     bars(folder / "memory.svg", [each["kind"] for each in tables], [systems_of(each, 1) for each in tables], f"bytes of resident memory per row, {size:,} rows")
 
 
-DRAWN = {"instructions": draw_instructions, "times": draw_times, "memory": draw_memory}
+def draw_calls(folder, found):
+    chosen = [each for each in found if not each["transaction"]]
+    systems, works = {"mmdb": "mmdb", "sqlite": "prepared"}, list(dict.fromkeys(each["work"] for each in chosen))
+    values = [{systems[each["name"]]: each["instructions"] for each in chosen if each["work"] == work} for work in works]
+    bars(folder / "embedded.svg", works, values, f"instructions of a call in the program's own process, {chosen[0]['rows']:,} rows")
+
+
+DRAWN = {"instructions": draw_instructions, "times": draw_times, "memory": draw_memory, "counts": draw_calls}
 
 
 def main(folder):

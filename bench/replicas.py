@@ -5,7 +5,8 @@
 
 PROGRAMS is the folder of mmdb-replica and mmdb-ask, which `replicas` beside this file builds. MMDB is the program.
 
-    changes     changes a second, with one and with three servers, three replicas and 16 writers with one change each
+    changes     changes a second, with one and with three servers, three replicas and 16 writers: with one change each, and with 100 changes in
+                a request; and how many changes share a message of the log
     answers     look-ups by key a second, with one, two and three replicas, one server and 16 askers, over 10^5 rows
     start       seconds until a replica is ready, from a snapshot of 10^6 rows
     a message   processor time of a replica for a change, beside that of the program for its line, and bytes of the log
@@ -68,13 +69,13 @@ class Bench:
     def state(self) -> dict:
         return patient(self.connection, "STREAM.INFO." + LOG, None, self.until)["state"]
 
-    def give(self, script: str) -> None:
-        words = [str(self.cluster.programs / "mmdb-ask"), "--servers", self.cluster.urls(), "--name", LOG]
+    def give(self, script: str, *options: str) -> None:
+        words = [str(self.cluster.programs / "mmdb-ask"), "--servers", self.cluster.urls(), "--name", LOG, *options]
         subprocess.run(words, input=script.encode(), stdout=subprocess.DEVNULL, check=True)
 
-    def seconds(self, scripts: list[str]) -> float:
+    def seconds(self, scripts: list[str], *options: str) -> float:
         """How long it takes to give scripts side by side."""
-        threads = [threading.Thread(target=self.give, args=(script,)) for script in scripts]
+        threads = [threading.Thread(target=self.give, args=(script, *options)) for script in scripts]
         began = time.monotonic()
         for thread in threads:
             thread.start()
@@ -103,10 +104,13 @@ def look_ups(asker: int) -> str:
     return "".join(f"SELECT a.k, a.s FROM t a WHERE a.id = {key}\n" for key in keys)
 
 
-def changes_a_second(programs: str, servers: int) -> float:
+def changes_a_second(programs: str, servers: int, *options: str) -> tuple[float, float]:
+    """Changes a second, and changes per message of the log."""
     with Bench(programs, servers, 3) as bench:
         bench.define()
-        return ASKERS * CHANGES / bench.seconds([inserts(asker) for asker in range(ASKERS)])
+        first = bench.state()["last_seq"]
+        taken = bench.seconds([inserts(asker) for asker in range(ASKERS)], *options)
+        return ASKERS * CHANGES / taken, ASKERS * CHANGES / (bench.state()["last_seq"] - first)
 
 
 def answers_a_second(programs: str, replicas: int) -> float:
@@ -160,9 +164,10 @@ def message(programs: str, mmdb: str) -> tuple[float, float, float, float, float
 
 def main() -> None:
     programs, mmdb = sys.argv[1:]
-    print("| Servers | Changes a second |\n|--:|--:|")
-    for servers in (1, 3):
-        print(f"| {servers} | {changes_a_second(programs, servers):,.0f} |", flush=True)
+    print("| Servers | Changes in a request | Changes a second | Changes per message |\n|--:|--:|--:|--:|")
+    for servers, together in ((1, 1), (3, 1), (3, 100)):
+        rate, shared = changes_a_second(programs, servers, "--together", str(together))
+        print(f"| {servers} | {together} | {rate:,.0f} | {shared:.1f} |", flush=True)
     print("\n| Replicas | Answers a second |\n|--:|--:|")
     for replicas in (1, 2, 3):
         print(f"| {replicas} | {answers_a_second(programs, replicas):,.0f} |", flush=True)

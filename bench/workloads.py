@@ -1,6 +1,6 @@
-"""The work that bench/all measures: lines of the command language, and the same work in SQL.
+"""The workloads that bench/all measures, in the command language and in SQL.
 
-A Workload is done by one process of a system, phase after phase. Equal seeds give equal lines.
+One process of a system runs a Workload, phase after phase. Equal seeds give equal lines.
 """
 import functools
 import random
@@ -16,25 +16,25 @@ T_INDEXES = ["INDEX i ON t (k) TREE", "INDEX h ON t (k) HASH"]
 
 @dataclass
 class Phase:
-    """Lines that are given together. `name` is the work as figures.md names it, or nothing where the phase is not measured."""
+    """Lines that are sent together. `name` is the work's name in figures.md, or empty if the phase is not measured."""
 
     lines: list
     name: str = ""
     unit: str = ""
     units: int = 0
-    plan: str = ""  # a word of the plan that mmdb has for the first line
+    plan: str = ""  # words that the first line's plan must contain in mmdb
 
 
 @dataclass
 class Workload:
     name: str
     phases: list
-    at_end: list  # questions whose answers show what all phases have left
+    at_end: list  # queries that read the tables after all phases
     most_rows: int = 1_000_000
 
 
 def long_lines(table, rows):
-    """INSERT lines as long as a line may be."""
+    """INSERT lines of the maximum length."""
     line = ""
     for row in rows:
         if line and len(line) + 2 + len(row) <= MAX_LINE_BYTES:
@@ -80,8 +80,8 @@ def loads(rows):
         ),
         loaded("load shuffled", [T], long_lines("t", shuffled), "load, long lines, shuffled keys", rows),
         loaded("load indexed", [T, *T_INDEXES], long_lines("t", ascending), "load, long lines, with TREE and HASH index", rows),
-        loaded("load single", [T], single, "load, a line a row", rows),
-        loaded("load in one", [T], ["BEGIN", *single, "COMMIT"], "load, a line a row, in one transaction", rows),
+        loaded("load single", [T], single, "load, one row per line", rows),
+        loaded("load in one", [T], ["BEGIN", *single, "COMMIT"], "load, one row per line, in one transaction", rows),
     ]
 
 
@@ -103,7 +103,7 @@ def questions(rows):
         Phase(ranges("k", hundred, 100), "range of 100 values, TREE", "query", 2_000, "tree i range"),
         Phase(["SCAN t"], "`SCAN`", "row", rows),
         Phase(["SCAN INDEX i"], "`SCAN INDEX`", "row", rows),
-        Phase(["SELECT a.id FROM t a WHERE a.name < 'b'"], "`SELECT` with no index", "row that is read", rows, "scan"),
+        Phase(["SELECT a.id FROM t a WHERE a.name < 'b'"], "`SELECT` without an index", "row read", rows, "scan"),
         Phase(["DROP INDEX i", "INDEX h ON t (k) HASH", "ANALYZE"]),
         Phase(by_k, "`SELECT` by a value, HASH", "query", len(keys), "hash h"),
     ]
@@ -139,7 +139,7 @@ def joins(rows):
         Phase([every + "a.k = b.v"], "join along two trees (`tree merge`)", "outer row", rows, "tree merge"),
         Phase(["SELECT a.id, b.id FROM d a, e b WHERE a.u = b.k"], "join by a TREE index (`tree join`)", "outer row", few, "tree join"),
         Phase([every + "a.h = b.w"], "join by a HASH index (`hash join`)", "outer row", rows, "hash join"),
-        Phase([every + "a.h = b.u"], "join by a table that is built (`built hash`)", "outer row", rows, "built hash"),
+        Phase([every + "a.h = b.u"], "join by a hash table built for it (`built hash`)", "outer row", rows, "built hash"),
         Phase([loops], "join by `nested loops`", "pair of rows", few * 10, "nested loops"),
     ]
     return [Workload("joins", phases, [])]
@@ -163,7 +163,7 @@ def changes(rows):
 
 
 class Keys:
-    """The keys of a table, of which one is drawn, and which go back to a copy."""
+    """The keys of a table, from which changes draw."""
 
     def __init__(self, rows):
         self.there, self.next = list(range(1, rows + 1)), rows + 1
@@ -183,7 +183,7 @@ class Keys:
 
 
 def mixed_change(rng, keys, rows):
-    """Of ten changes six are an UPDATE of the indexed column, two an INSERT and two a DELETE."""
+    """A change: of ten changes, six are an UPDATE of the indexed column, two an INSERT and two a DELETE."""
     kind = rng.random()
     if kind < 0.6:
         return f"UPDATE t SET k = {rng.randrange(rows)} WHERE id = {keys.drawn(rng)}"
@@ -193,7 +193,7 @@ def mixed_change(rng, keys, rows):
 
 
 def with_savepoints(rng, keys, rows):
-    """A transaction of ten savepoints with ten changes behind each. Every third, and the last four together, are taken back."""
+    """A transaction of ten savepoints with ten changes after each. Every third group is rolled back, and the last four together."""
     lines, marks = ["BEGIN"], []
     for place in range(10):
         lines.append(f"SAVEPOINT s{place}")
@@ -223,14 +223,14 @@ def transactions(rows):
         Phase(["ROLLBACK"], "`ROLLBACK`", "change", number),
         Phase(["BEGIN", *kept]),
         Phase(["COMMIT"], "`COMMIT`", "change", number),
-        Phase(["BEGIN", "COMMIT"] * 5_000, "`BEGIN` and `COMMIT`, nothing between", "pair of lines", 5_000),
+        Phase(["BEGIN", "COMMIT"] * 5_000, "empty transaction", "pair of lines", 5_000),
         Phase(marked, "change between savepoints", "line", 1_000),
     ]
     return [Workload("transactions", phases, ["SCAN t", "SCAN INDEX i"])]
 
 
 def cascades(rows):
-    """A hundredth of the rows are in a; each has ten of b that refer to it, and each of these ten of c."""
+    """A hundredth of the rows are in a. Ten rows of b refer to each of them, and ten rows of c to each row of b."""
     rng, most = random.Random(SEED + 5), rows // 100
     lines = ["TABLE a (id INT KEY)", "TABLE b (id INT KEY, r INT REF a CASCADE)", "TABLE c (id INT KEY, r INT REF b CASCADE)"]
     lines += long_lines("a", (f"({key})" for key in range(1, most + 1)))
@@ -243,8 +243,8 @@ def cascades(rows):
     singly = [f"DELETE a WHERE id = {key}" for key in rng.sample(range(1, half + 1), half)]
     phases = [
         Phase(lines),
-        Phase(singly, "`DELETE` that cascades, a line for 111 rows", "row that goes", half * 111),
-        Phase([f"DELETE a WHERE id > {half}"], "`DELETE` that cascades, one line", "row that goes", (most - half) * 111),
+        Phase(singly, "cascading `DELETE`, 111 rows per line", "deleted row", half * 111),
+        Phase([f"DELETE a WHERE id > {half}"], "cascading `DELETE`, one line", "deleted row", (most - half) * 111),
     ]
     return [Workload("cascades", phases, ["SCAN a", "SCAN b", "SCAN c"])]
 
@@ -253,7 +253,7 @@ JOINED = "a.d = b.id"
 
 
 def rows_of_lists(rows):
-    """The rows of d and of e: a tenth as many are in d, and e refers to it."""
+    """The rows of d and e: d has a tenth of the rows, and e refers to it."""
     rng, few = random.Random(SEED + 6), rows // 10
     return [
         "TABLE d (id INT KEY, v INT)",
@@ -267,7 +267,7 @@ def rows_of_lists(rows):
 
 
 def changes_of_lists(rows, number):
-    """Of 20 changes twelve are an UPDATE in e, three an INSERT, three a DELETE and two an UPDATE in d. About a hundred bring a k below 100."""
+    """Changes: of 20, twelve are an UPDATE in e, three an INSERT, three a DELETE, and two an UPDATE in d. About 100 set a k below 100."""
     rng, few, keys = random.Random(SEED + 7), rows // 10, Keys(rows)
     near = min(0.2, 100 / number)
     lines = []
@@ -306,18 +306,18 @@ def standing_queries(rows):
     shown = Phase(["SHOW q"], "`SHOW` of the standing join", "row", rows)
     asked_again = Phase(each_followed(some[:20], e_with_d + compared), "change and the `SELECT` for 50 rows by both tables", "pair of lines", 20)
     return [
-        Workload("none", [filled(), Phase(many, "change with no standing query", "line", len(many))], ["SCAN e"]),
+        Workload("none", [filled(), Phase(many, "change without a standing query", "line", len(many))], ["SCAN e"]),
         watched("big", e_with_d + JOINED, Phase(many, "change under a standing join", "line", len(many)), shown),
         watched("range", e_with_d + ranged, Phase(each_followed(some, "SHOW q"), by_range, "pair of lines", len(some))),
         watched("compared", e_with_d + compared, Phase(each_followed(some, "SHOW q"), by_both, "pair of lines", len(some))),
         Workload("again", [filled(), asked_again], ["SCAN e"]),
-        watched("narrow", d_with_e + narrow, Phase(some, "change under a standing query with no equality", "line", len(some)), most_rows=100_000),
+        watched("narrow", d_with_e + narrow, Phase(some, "change under a standing query without an equality", "line", len(some)), most_rows=100_000),
     ]
 
 
 GROUPS = [
     ("Loading", loads),
-    ("Questions", questions),
+    ("Queries", questions),
     ("Joins", joins),
     ("Changes", changes),
     ("Transactions", transactions),
@@ -326,7 +326,7 @@ GROUPS = [
 ]
 
 
-# Tables whose rows are weighed: the columns behind the key, and the indexes on the first of them.
+# Tables whose memory is measured: the columns after the key, and the indexes on the first of them.
 SHAPES = [
     ("", ""),
     ("INT", ""),
@@ -343,7 +343,7 @@ SHAPES = [
 
 
 def shaped(columns, indexes, rows):
-    """The lines that make a table of this shape, and its rows: ascending keys, numbers below the number of rows, and texts of ten letters."""
+    """The lines that create a table of this shape, and its rows: ascending keys, numbers below the number of rows, texts of ten letters."""
     rng = random.Random(SEED + 10)
     types = columns.split(", ") if columns else []
     values = {"INT": lambda: str(rng.randrange(rows)), "TEXT": lambda: f"'{''.join(rng.choices(LETTERS, k=10))}'"}
@@ -353,21 +353,21 @@ def shaped(columns, indexes, rows):
 
 
 def shown(columns):
-    """The columns with the key, as figures.md names them."""
+    """The name of the columns with the key in figures.md."""
     types = ["INT", *(columns.split(", ") if columns else [])]
     return f"({', '.join(types)})" if len(types) < 5 else f"{len(types)} columns of {types[0]}"
 
 
 def kept(rows):
-    """Works that leave something in memory: the work, its unit, how many units it has, the lines before it, and its lines.
+    """Works that keep memory: the work, its unit, its number of units, the lines before it, and its lines.
 
-    Some rows or a change come before, so that what the work takes but once, as the pages of its code, does not count.
+    The lines before include some rows or a change, so that one-time costs, such as pages of code, do not count.
     """
     few = 300
     t, wide = [T, *T_INDEXES], rows_of_t(rows)
     rng = random.Random(SEED + 9)
     changed = [f"UPDATE t SET k = {rng.randrange(rows)} WHERE id = {key}" for key in rng.sample(range(1, rows + 1), rows)]
-    # Indexes come before rows, since to make one over rows takes memory for a while.
+    # Indexes come before rows, since building an index over rows allocates temporary memory.
     lists = sorted(in_mmdb(rows_of_lists(rows)), key=lambda line: ["TABLE", "INDEX", "INSERT"].index(line.split()[0]))
     watch = f"WATCH q SELECT a.id, b.v FROM e a, d b WHERE {JOINED}"
 
@@ -382,12 +382,12 @@ def kept(rows):
     return [
         *(weighed(columns, indexes) for columns, indexes in SHAPES),
         ("`UPDATE` of an indexed column, in an open transaction", "change", rows - 1, [*t, *filled("t", wide), "BEGIN", changed[0]], changed[1:]),
-        ("standing query with two numbers a row", "row of the list", rows, lists, [watch]),
+        ("standing query with two numbers per row", "row of the list", rows, lists, [watch]),
     ]
 
 
 def operations(rows, lines):
-    """For each operation its name, the lines that fill what it works on, and some lines of it to be given behind those.
+    """The operations: a name, the lines that fill the tables, and the lines of the operation.
 
     t has a TREE and a HASH index on k. e refers to d, which has a tenth of the rows.
     """
@@ -398,9 +398,10 @@ def operations(rows, lines):
 
     t, e = [T, *T_INDEXES, *long_lines("t", rows_of_t(rows))], rows_of_lists(rows)
     of_k = [f"UPDATE t SET k = {some()} WHERE id = {some()}" for _ in range(lines)]
+    list_of_all = f"WATCH q SELECT a.id, b.v FROM e a, d b WHERE {JOINED}"
     list_of_e = f"WATCH q SELECT a.id, b.v FROM e a, d b WHERE {JOINED} AND a.k < {rows // 100}"
     return [
-        ("`SELECT` that is refused", t, ["SELECT a.k FROM nope a WHERE a.id = 1"] * lines),
+        ("refused `SELECT`", t, ["SELECT a.k FROM nope a WHERE a.id = 1"] * lines),
         ("`SELECT` by key", t, [f"SELECT a.k, a.name FROM t a WHERE a.id = {some()}" for _ in range(lines)]),
         ("`SELECT` by a value, HASH", t, [f"SELECT a.id, a.name FROM t a WHERE a.k = {some()}" for _ in range(lines)]),
         ("`SELECT` of a range of ten, TREE", t, ranges("k", [some() for _ in range(lines)], 10)),
@@ -411,7 +412,8 @@ def operations(rows, lines):
         ("`DELETE` of one row", t, [f"DELETE t WHERE id = {key}" for key in rng.sample(range(1, rows + 1), lines)]),
         ("`DELETE` of no row", t, ["DELETE t WHERE id = -1"] * lines),
         ("change in a transaction, and its `ROLLBACK`", t, ["BEGIN", *of_k, "ROLLBACK"]),
-        ("change that a standing query looks at", [*e, list_of_e], [f"UPDATE e SET k = {some()} WHERE id = {some()}" for _ in range(lines)]),
+        ("change of a table with a standing query", [*e, list_of_e], [f"UPDATE e SET k = {some()} WHERE id = {some()}" for _ in range(lines)]),
+        ("`SHOW` of about ten rows of a list that had all", [*e, list_of_all, "DELETE e WHERE k >= 10"], ["SHOW q"] * lines),
     ]
 
 
@@ -433,9 +435,9 @@ CREATE TRIGGER d_changes AFTER UPDATE ON d BEGIN {FORGOTTEN} d = OLD.id; {CHOSEN
 
 
 def in_sql(lines, columns):
-    """Lines as statements of SQLite. A standing query over e and d is a table that triggers keep, and ANALYZE stays.
+    """Lines as statements of SQLite. A standing query over e and d becomes a table that triggers maintain, and ANALYZE is unchanged.
 
-    `columns` has the table and the column of each index that was made before, and gets those of these lines.
+    `columns` maps each index to its table and column. These lines' indexes are added to it.
     """
     for line in lines:
         word = line.split(" ", 1)[0]
@@ -465,7 +467,7 @@ def scan_in_sql(line, columns):
 
 def watch_in_sql(line, _):
     tests = line.split(" WHERE ", 1)[1]
-    # Joined with the row that it refers to, a row of e is in the list once at most.
+    # A join with the row that it refers to contains a row of e at most once.
     key, more = ("PRIMARY KEY", "") if JOINED in tests else ("NOT NULL", f"CREATE INDEX {LIST}_e ON {LIST} (e)")
     return [statement for statement in TRIGGERS.format(tests=tests, key=key, more=more).split("\n") if statement]
 
@@ -482,5 +484,5 @@ IN_SQL = {
 
 
 def in_mmdb(lines):
-    """Lines without what only SQLite is given."""
+    """Lines without those for SQLite only."""
     return [line for line in lines if line != "ANALYZE"]

@@ -1,7 +1,7 @@
 #!/usr/bin/env python3
-"""The look-up by key and the INSERT of work.h in Python, by the package mmdb or the module sqlite3: client.py MODULE ROWS CALLS.
+"""The look-up by key and the INSERT of work.h in Python, with the package mmdb or the module sqlite3: client.py MODULE ROWS CALLS.
 
-It prints the processor time of a call in nanoseconds: of execute and fetchone, of a row of one executemany, and of an execute for each row.
+Prints the processor time per call in nanoseconds: of execute and fetchone, per row of one executemany, and of one execute per row.
 """
 
 import importlib
@@ -29,13 +29,13 @@ def opened(name):
 
 
 def look_up(connection, name, rows, calls):
-    """The time of a look-up, each row read and compared."""
+    """The time of a look-up that reads and compares its row."""
     line = LOOK_UP[name]
     before = time.process_time_ns()
     for i in range(calls):
         key = (i * 7919 + 12345) % rows
         if connection.execute(line, (key,)).fetchone() != (key, "text"):
-            raise ValueError(f"the row of {key} is another")
+            raise ValueError(f"wrong row for the key {key}")
     return (time.process_time_ns() - before) / calls
 
 

@@ -1,5 +1,5 @@
-//! The look-up by key and the INSERT of work.h in Rust: client ROWS CALLS. It prints the processor time of a call in nanoseconds: of a
-//! look-up, of a row of one `execute_many`, and of an `execute` for each row, the inserts in one transaction each.
+//! The look-up by key and the INSERT of work.h in Rust: client ROWS CALLS. Prints the processor time per call in nanoseconds: of a look-up,
+//! per row of one `execute_many`, and of one `execute` per row. The inserts of each kind are in one transaction.
 
 use mmdb::{Connection, Result};
 

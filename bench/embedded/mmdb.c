@@ -1,6 +1,6 @@
-/* The work of work.h done by mmdb in this process, each statement prepared once.
+/* The workload of work.h in mmdb, in this process, with each statement prepared once.
 
-   mmdb WORK ROWS CALLS [transaction]: prints the processor time of a call in nanoseconds, and how many rows were read. */
+   mmdb WORK ROWS CALLS [transaction]: prints the processor time per call in nanoseconds, and the number of rows read. */
 #include "work.h"
 #include <mmdb.h>
 
@@ -38,7 +38,7 @@ static size_t prepared(const char *line) {
   return statement;
 }
 
-/* Runs a statement, reads all values of its rows, and says how many rows there were. */
+/* Runs a statement, reads all values of its rows, and returns the number of rows. */
 static int64_t run(size_t statement, const int64_t *numbers, size_t count) {
   mmdb_cell values[MOST_PARAMETERS], cells[ROOM];
   size_t rows;

@@ -1,6 +1,6 @@
-/* The work of work.h done by SQLite in this process, each statement prepared once.
+/* The workload of work.h in SQLite, in this process, with each statement prepared once.
 
-   sqlite WORK ROWS CALLS [transaction]: prints the processor time of a call in nanoseconds, and how many rows were read. */
+   sqlite WORK ROWS CALLS [transaction]: prints the processor time per call in nanoseconds, and the number of rows read. */
 #include "work.h"
 #include <sqlite3.h>
 
@@ -33,7 +33,7 @@ static sqlite3_stmt *prepared(const char *line) {
   return statement;
 }
 
-/* Runs a statement, reads all values of its rows, and says how many rows there were. */
+/* Runs a statement, reads all values of its rows, and returns the number of rows. */
 static int64_t run(sqlite3_stmt *statement, const int64_t *values, size_t count) {
   int64_t rows = 0;
   int status;

@@ -1,6 +1,7 @@
-/* The work of the benchmark of databases in a program's own process: the same for each database.
+/* The workload of the benchmark of databases in a program's own process, the same for each database.
 
-   The table t has rows (k, h, r, v, w): k is the key, h has a HASH index (in SQLite a B-tree), r a TREE index; the table c has rows (id, p) where p refers to t. */
+   The table t has rows (k, h, r, v, w): k is the key, h has a HASH index (in SQLite a B-tree), and r a TREE index. The table c has rows (id, p), and p refers
+   to t. */
 #ifndef WORK_H
 #define WORK_H
 #include <stdbool.h>
@@ -12,13 +13,13 @@
 
 enum work { BY_KEY, BY_HASH, RANGE_OF_TEN, BY_FOREIGN_KEY, INSERT, UPDATE, UPDATE_INDEXED, DELETE, CHANGE_AND_LIST, WORKS };
 
-/* How many parameters a call of each work has. */
+/* The number of parameters of a call of each work. */
 static const size_t work_parameters[WORKS] = {1, 1, 2, 1, 4, 2, 2, 1, 2};
 
-/* A permutation of the numbers below `rows`, which are no multiple of 7919. */
+/* A permutation of the numbers below `rows`, if `rows` is not a multiple of 7919. */
 static int64_t mixed(int64_t i, int64_t rows) { return (i * 7919 + 12345) % rows; }
 
-/* The parameters of the call number i. */
+/* The parameters of call number i. */
 static void parameters(enum work work, int64_t i, int64_t rows, int64_t *out) {
   int64_t k = mixed(i, rows);
   switch (work) {

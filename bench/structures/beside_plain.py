@@ -1,8 +1,8 @@
-"""Times the structures that hold references beside plain Rust, for bench/all.
+"""Compares the structures of references with plain Rust, for bench/all.
 
-The program `bench_structures` and bench/structures/plain.rs have the same keys, orders and counts; their runs alternate. Figures are
-medians over the runs: nanoseconds an entry of each pass, and bytes of heap an entry after the ascending inserts and after the others,
-of one more run under bench/structures/live.c. It stops where a pass does not find what that of the plain structure finds.
+The program `bench_structures` and bench/structures/plain.rs use the same keys, orders and counts, and their runs alternate. Figures are
+medians of the runs: nanoseconds per entry of each pass, and bytes of heap per entry after the ascending and the other inserts, from one
+more run with bench/structures/live.c. It stops if a pass finds other entries than that of the plain structure.
 """
 import os
 import shutil
@@ -15,8 +15,8 @@ from pathlib import Path
 HERE = Path(__file__).resolve().parent
 OURS = HERE.parent.parent / "crates" / "bench_structures" / "out" / "bench_structures"
 PASSES = ["ascending", "insert", "look-up", "walk", "remove"]
-# The bytes an entry of the tables of keys, shuffled entries and references that live beside a structure when the line
-# of its pass is written; for Partitions that is when all is done.
+# The bytes per entry of other tables (keys, shuffled entries, references) that are allocated when the line of a pass is
+# written; for Partitions that is at the end.
 BESIDE = {"ascending": 8, "insert": 32}
 BESIDE_BY_HASH = {name: 24 for name in ["HashRefs", "HashRefs_of_25", "LinearHash", "LinearHash_of_25", "HashMap"]}
 BESIDE_UNORDERED = {**BESIDE_BY_HASH, "Partitions": 0, "slots": 16}
@@ -30,7 +30,7 @@ PLAIN = {
 
 
 def build(folder):
-    """The two programs, ours and the plain one, each with its arguments, and what counts their memory."""
+    """Builds the two programs, and returns them with their arguments, and the library that counts their memory."""
     plain = folder / "plain"
     options = ["--edition", "2021", "-C", "opt-level=3"]
     subprocess.run(["rustc", *options, "-o", plain, HERE / "plain.rs"], check=True)
@@ -40,7 +40,7 @@ def build(folder):
 
 
 def times(program):
-    """What a run took and found, by structure, count and pass."""
+    """The time and the sum of a run, by structure, count and pass."""
     lines = subprocess.run(program, check=True, capture_output=True, text=True).stdout.splitlines()
     taken = {}
     for structure, name, count, nanoseconds, found in map(str.split, lines):
@@ -49,7 +49,7 @@ def times(program):
 
 
 def memory(program, live):
-    """Bytes of heap an entry by structure, count and pass."""
+    """Bytes of heap per entry, by structure, count and pass."""
     preloaded = dict(os.environ, LD_PRELOAD=str(live))
     run = subprocess.run(program, check=True, capture_output=True, text=True, env=preloaded)
     held = {}
@@ -62,7 +62,7 @@ def memory(program, live):
 
 
 def compare(ours, plain):
-    """Stops where two structures of the same rules found different sums."""
+    """Stops if two structures with one algorithm found different sums."""
     for (structure, count, name), (_, found) in ours.items():
         other = plain[PLAIN[structure], count, name][1]
         if found != other:
@@ -70,18 +70,18 @@ def compare(ours, plain):
 
 
 def missing():
-    """The program or file that is needed and is not there, or nothing."""
+    """The first missing program or file, or None."""
     return next((name for name in ("rustc", "cc") if not shutil.which(name)), None if OURS.is_file() else OURS)
 
 
 def irrelevance(runs):
-    """Nanoseconds of one search for inequalities that show a row to be irrelevant, by query and row."""
+    """Nanoseconds of one search that shows a row to be irrelevant, by query and row."""
     taken = [times([OURS, "irrelevance"]) for _ in range(runs)]
     return [{"query": key[0], "row": key[2], "ns": statistics.median(found[key][0] for found in taken)} for key in taken[0]]
 
 
 def figures(runs):
-    """For each structure and number of entries the nanoseconds of each pass and the bytes, and the searches for irrelevant rows."""
+    """Nanoseconds of each pass and bytes, by structure and number of entries, and the searches for irrelevant rows."""
     with tempfile.TemporaryDirectory() as folder:
         programs, live = build(Path(folder))
         taken = [[times(program) for program in programs] for _ in range(runs)]

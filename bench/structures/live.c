@@ -1,5 +1,5 @@
-/* Preloaded, it tells on standard error after each write to standard output how many bytes of heap are in use: those
-   of each block, and 8 that the allocator of glibc keeps before it. For a program of one thread. */
+/* A preloaded library that writes the number of bytes of heap in use to standard error, after each write to standard
+   output. It counts each block and the 8 bytes that glibc stores before it. For single-threaded programs. */
 #define _GNU_SOURCE
 #include <malloc.h>
 #include <stdio.h>

@@ -1,4 +1,4 @@
-//! Times plain Rust structures of the same rules beside those of the program `bench_structures`.
+//! Times plain Rust structures with the algorithms of those in the program `bench_structures`.
 use std::cmp::Ordering;
 use std::collections::{BTreeSet, HashMap};
 use std::hint::black_box;
@@ -34,12 +34,12 @@ fn entry_of(n: usize) -> Entry {
     Entry { key: key_of(n), reference: reference_of(n) }
 }
 
-/// The same with as many entries of one hash as of another, of 25 hashes.
+/// The entry of a number, with one of 25 equally frequent hashes.
 fn by_few_hashes(n: usize) -> Entry {
     Entry { key: key_of(n % 25), ..entry_of(n) }
 }
 
-/// The number below `n` that follows in the shuffle, which meets each once where `n` is a power of 10 or 2.
+/// The next number below `n` of the shuffle, which visits each number once if `n` is a power of 10 or 2.
 fn after(number: usize, n: usize) -> usize {
     (number * 1_664_521 + 1_013_904_223) % n
 }
@@ -72,9 +72,9 @@ impl Node {
     }
 }
 
-/// Linear hashing with a chain of single entries a bucket, split above two entries a bucket and
-/// merged below half an entry. The directory has by the slot of a reference the node that last took
-/// an entry of it.
+/// Linear hashing with a chain of single entries per bucket. It splits above two entries per bucket
+/// and merges below half an entry. The directory maps the slot of a reference to the node that last
+/// stored its entry.
 struct LinearHash {
     heads: Vec<u32>,
     nodes: Vec<Node>,
@@ -157,7 +157,7 @@ impl LinearHash {
         }
     }
 
-    /// The node of an entry, which the directory leads to or else a walk along the chain.
+    /// The node of an entry, by the directory or else by a walk along the chain.
     fn find(&self, head: u32, hash: u64, reference: RowRef) -> u32 {
         let hint = self.hint(reference);
         if self.nodes.get(hint as usize).is_some_and(|node| node.live && node.has(hash, reference)) {
@@ -170,7 +170,7 @@ impl LinearHash {
         at
     }
 
-    /// The entry of the chain's first node takes the place of the one that leaves.
+    /// The entry of the chain's first node replaces the removed one.
     fn remove(&mut self, hash: u64, reference: RowRef) -> bool {
         let bucket = self.bucket_of(hash);
         let head = self.heads[bucket];
@@ -405,7 +405,7 @@ fn count_to_hand_on(from: &TNode, to: &TNode) -> usize {
     (from.len - 1).min(LEAST.saturating_sub(to.len))
 }
 
-/// Hands the last entries of a node on to its right leaf, which is to become an internal node.
+/// Moves the last entries of a node to its right leaf, which becomes an internal node.
 unsafe fn slide_right(link: Link) {
     unsafe {
         let (node, leaf) = (&mut *link, &mut *(*link).right);
@@ -417,7 +417,7 @@ unsafe fn slide_right(link: Link) {
     }
 }
 
-/// Hands the first entries of a node on to its left leaf, which is to become an internal node.
+/// Moves the first entries of a node to its left leaf, which becomes an internal node.
 unsafe fn slide_left(link: Link) {
     unsafe {
         let (node, leaf) = (&mut *link, &mut *(*link).left);
@@ -478,7 +478,7 @@ unsafe fn take_last(link: Link) -> (Link, RowRef) {
     }
 }
 
-/// A node with at most one child, from which an entry was taken: freed where it is an empty leaf.
+/// Fixes a node with at most one child after a removal: an empty leaf is freed.
 unsafe fn settle(link: Link) -> Link {
     unsafe {
         let node = &mut *link;
@@ -504,7 +504,7 @@ unsafe fn mend(link: Link) -> Link {
     }
 }
 
-/// Merges a half-leaf with its leaf where both fit into one node.
+/// Merges a half-leaf with its leaf if both fit into one node.
 unsafe fn absorb(link: Link) -> Link {
     unsafe {
         let node = &mut *link;
@@ -543,18 +543,18 @@ unsafe fn find_in(mut link: Link, sought: RowRef) -> Option<RowRef> {
 
 // ---- the passes
 
-/// Times a pass over all entries, and prints the structure, the pass, the number of entries, how many nanoseconds the
-/// pass took, and the sum of what it found.
+/// Times a pass over all entries, and prints the structure, the pass, the number of entries, the nanoseconds of the
+/// pass, and the sum of the slots that it found.
 fn timed(structure: &str, name: &str, n: usize, pass: impl FnOnce() -> usize) {
     let start = Instant::now();
     let sum = black_box(pass());
     println!("{structure} {name} {n} {} {sum}", start.elapsed().as_nanos());
 }
 
-/// What is timed.
+/// A structure under test.
 trait Structure: Default {
     fn insert(&mut self, entry: Entry);
-    /// The slot of the reference that is found.
+    /// The slot of the reference found.
     fn find(&self, entry: Entry, found: &mut Vec<RowRef>) -> usize;
     /// The sum of the slots of all references in order.
     fn walk(&self) -> usize;
@@ -568,8 +568,8 @@ fn fill(filled: &mut impl Structure, n: usize, entry_of: impl Fn(usize) -> Entry
     0
 }
 
-/// Times the insert of each number, the look-up and the removal of each shuffled entry, and a walk over all where
-/// the structure is in order.
+/// Times the insert of each number, the look-up and the removal of each shuffled entry, and a walk over all entries
+/// if the structure is ordered.
 fn measure<S: Structure>(structure: &str, n: usize, is_ordered: bool, entry_of: impl Fn(usize) -> Entry + Copy) {
     let sought = shuffled(n, entry_of);
     let mut filled = S::default();
@@ -582,7 +582,7 @@ fn measure<S: Structure>(structure: &str, n: usize, is_ordered: bool, entry_of: 
     timed(structure, "remove", n, || sought.iter().filter(|&&entry| filled.remove(entry)).count());
 }
 
-/// The same of a structure in order, and the insert of each number in ascending order.
+/// Times the passes of an ordered structure, and the insert of each number in ascending order.
 fn measure_ordered<S: Structure>(structure: &str, n: usize) {
     unsafe { KEYS = (0..n as u64).collect() };
     let mut filled = S::default();
@@ -592,7 +592,7 @@ fn measure_ordered<S: Structure>(structure: &str, n: usize) {
     measure::<S>(structure, n, true, entry_of);
 }
 
-/// Times the insert of each number and the removal of each shuffled entry where few hashes are shared.
+/// Times the insert of each number and the removal of each shuffled entry, with few different hashes.
 fn measure_few_hashes<S: Structure>(structure: &str, n: usize) {
     let sought = shuffled(n, by_few_hashes);
     let mut filled = S::default();
@@ -638,7 +638,7 @@ impl Structure for HashMap<u64, RowRef> {
     }
 }
 
-/// A T-tree, which is given back when it is dropped.
+/// A T-tree, freed when it is dropped.
 struct TTree(Link);
 
 impl Default for TTree {
@@ -743,7 +743,7 @@ impl Structure for Vec<RowRef> {
     }
 }
 
-/// Rows of no values, 64 free slots at a time, and a stack of the free ones.
+/// Rows without values, allocated 64 slots at a time, and a stack of the free ones.
 fn in_rows(n: usize) {
     let mut slots: Vec<Option<Vec<u64>>> = Vec::new();
     let mut vacant = Vec::new();
