@@ -1,16 +1,16 @@
 #!/usr/bin/env python3
-"""Runs random scripts through the program and through SQLite, and compares the rows and the counts.
+"""Runs random scripts through the program and through SQLite, and compares rows and counts.
 
     tests/against_sqlite.py [PROGRAM [FIRST_SEED [SEEDS]]]
 
-Each seed makes tables with whole numbers, texts and foreign keys, plain ones and such that cascade, with indexes of both kinds, fills
-and changes them, and asks queries over one to four tables. Some of these queries are kept as standing queries; what they show, after
-each change or later, is compared with what SQLite then gives to the query. Transactions are begun, kept and taken back, as a whole or
-to a savepoint, of which several may have one name, and then all tables and indexes are scanned and all standing queries shown. What is
-compared has one meaning in both languages: the numbers are so small that no sum passes 64 bits, and each result is sorted by all its
-columns. What is told of the catalog and its refusals, and those of transactions, are the program's own. So are the indexes, which come
-and go in transactions too, and which no rollback undoes: SQLite has none, and sorts its rows. The status is 0 only if every reply is
-as SQLite has it, or as these say.
+Each seed creates tables with integers, texts, foreign keys and cascading foreign keys, and indexes of both kinds. It changes rows and runs
+queries over one to four tables. Some queries become standing queries, and SHOW, after a change or later, is compared with SQLite's result
+of the query at that time. Transactions commit, roll back, or roll back to a savepoint, and several savepoints may have one name. After
+that, all tables and indexes are scanned and all standing queries shown.
+
+The compared commands mean the same in both languages: no sum exceeds 64 bits, and each result is sorted by all its columns. The script
+itself predicts the replies of TABLES and the refusals of definitions and transactions. It also tracks indexes, which transactions create
+and drop and no rollback restores: SQLite has none here, and sorts its rows. The exit status is 0 if every reply is as expected.
 """
 
 import os
@@ -34,7 +34,7 @@ def quoted(value):
 
 
 def shown(rows):
-    """The reply that gives these rows."""
+    """The reply with these rows."""
     lines = ["(" + ", ".join(quoted(value) for value in row) + ")\n" for row in rows]
     return "".join(lines) + f"rows {len(rows)}\n"
 
@@ -44,11 +44,11 @@ class Column:
         self.name, self.kind, self.target, self.cascades = name, kind, target, cascades
 
     def role(self):
-        """What makes it a foreign key in the program's language."""
+        """The foreign key in the program's language, if it is one."""
         return f" REF {self.target.name}" + (" CASCADE" if self.cascades else "") if self.target else ""
 
     def constraint(self):
-        """The same in SQLite's, which asks what a plain one forbids when the statement is done."""
+        """The foreign key in SQL. Without CASCADE, SQLite checks it at the end of the statement."""
         if not self.target:
             return ""
         key = self.target.columns[self.target.key].name
@@ -56,7 +56,7 @@ class Column:
 
 
 class Table:
-    """A table as it was declared, and the keys of its rows."""
+    """A table's declaration and the keys of its rows."""
 
     def __init__(self, name, columns, key):
         self.name, self.columns, self.key = name, columns, key
@@ -66,7 +66,7 @@ class Table:
         return any(column.target is other for column in self.columns)
 
     def told(self):
-        """The line that makes it."""
+        """The line that creates it."""
         roles = [" KEY" if place == self.key else column.role() for place, column in enumerate(self.columns)]
         return f"TABLE {self.name} (" + ", ".join(f"{c.name} {c.kind}{role}" for c, role in zip(self.columns, roles)) + ")"
 
@@ -76,13 +76,13 @@ class Table:
 
 
 class Index:
-    """An index as it was declared."""
+    """An index's declaration."""
 
     def __init__(self, name, table, column, kind):
         self.name, self.table, self.column, self.kind = name, table, column, kind
 
     def told(self):
-        """The line that makes it."""
+        """The line that creates it."""
         return f"INDEX {self.name} ON {self.table.name} ({self.column.name}) {self.kind}"
 
 
@@ -94,7 +94,7 @@ class Query:
 
 
 class Script:
-    """The lines of one seed, and what the program should reply to each."""
+    """The lines of one seed, and the expected reply to each."""
 
     def __init__(self, seed):
         self.rng = random.Random(seed)
@@ -164,14 +164,13 @@ class Script:
             self.say("DROP INDEX nope", "error 22 no such index\n")
 
     def define(self, line, refusal=None):
-        """A change of the catalog, but for its indexes, and whether it is done: in a transaction it isn't, nor where something else
-        refuses it."""
+        """Adds a definition other than of an index, and returns whether it succeeds. It fails in a transaction, or with the refusal."""
         refusal = "52 not in a transaction" if self.peer.in_transaction else refusal
         self.say(line, f"error {refusal}\n" if refusal else "ok\n")
         return not refusal
 
     def drop_table(self):
-        """Drops a table that is referred to by no other and read by no standing query; then a new one comes last."""
+        """Drops a table that no other table refers to and no standing query reads, and adds a new one."""
         table = self.rng.choice(self.tables)
         is_read = any(table in query.tables for query in self.standing.values())
         in_use = is_read or any(other.refers_to(table) for other in self.tables)
@@ -206,7 +205,7 @@ class Script:
         self.show_some(table)
 
     def tests(self, table):
-        """A WHERE over one table, of no, one or two tests."""
+        """A WHERE over one table with at most two tests."""
         found = []
         for _ in range(self.rng.choice([0, 1, 1, 2])):
             left = table.column(self.rng)
@@ -234,7 +233,7 @@ class Script:
         self.show_some(table)
 
     def move(self):
-        """Gives a row to which none refers another key, and other rows to refer to."""
+        """Gives an unreferenced row another key and other target rows."""
         rng, table = self.rng, self.rng.choice(self.tables)
         key = table.columns[table.key]
         others = [value for value in (rng.randrange(-2, 20) if key.kind == "INT" else text(rng) for _ in range(3)) if value not in table.keys]
@@ -249,7 +248,7 @@ class Script:
         self.show_some(table)
 
     def delete(self):
-        """Deletes rows of a table, and those that go along with them; none where one that stays refers to one of them."""
+        """Deletes rows of a table, with cascades. Deletes none if a remaining row refers to a deleted one."""
         rng = self.rng
         referred = [table for table in self.tables if any(other.refers_to(table) for other in self.tables)]
         table = rng.choice(referred if referred and rng.random() < 0.6 else self.tables)
@@ -266,7 +265,7 @@ class Script:
             self.show_some(changed)
 
     def control(self):
-        """BEGIN, COMMIT or ROLLBACK, mostly one that is in its place."""
+        """BEGIN, COMMIT or ROLLBACK, mostly one that is valid now."""
         is_open = self.peer.in_transaction
         word = self.rng.choice(["BEGIN", "COMMIT", "COMMIT", "ROLLBACK", "ROLLBACK"] if is_open else ["BEGIN"] * 6 + ["COMMIT", "ROLLBACK"])
         if (word == "BEGIN") == is_open:
@@ -279,7 +278,7 @@ class Script:
             self.look_at_all()
 
     def divide(self):
-        """SAVEPOINT or ROLLBACK TO; outside a transaction mostly what begins one."""
+        """SAVEPOINT or ROLLBACK TO; outside a transaction mostly BEGIN."""
         if not self.peer.in_transaction and self.rng.random() < 0.8:
             self.control()
         elif self.rng.random() < (0.4 if self.savepoints else 0.8):
@@ -288,7 +287,7 @@ class Script:
             self.roll_back_to()
 
     def savepoint(self):
-        """A savepoint, mostly of a new name. It is refused outside a transaction, and where there are 64."""
+        """A savepoint, mostly with a new name. It is refused outside a transaction, and if there are 64."""
         name = self.rng.choice(self.savepoints) if self.savepoints and self.rng.random() < 0.3 else self.new_name("s")
         if not self.peer.in_transaction or len(self.savepoints) == 64:
             self.say(f"SAVEPOINT {name}", "error 48 too many\n" if self.peer.in_transaction else "error 51 no transaction\n")
@@ -298,7 +297,7 @@ class Script:
         self.savepoints.append(name)
 
     def roll_back_to(self):
-        """ROLLBACK TO the latest savepoint of a name, where there is one."""
+        """ROLLBACK TO the latest savepoint with a name, if there is one."""
         name = self.rng.choice(self.savepoints) if self.savepoints and self.rng.random() < 0.9 else "nope"
         if name not in self.savepoints:
             self.say(f"ROLLBACK TO {name}", "error 53 no such savepoint\n" if self.peer.in_transaction else "error 51 no transaction\n")
@@ -310,7 +309,7 @@ class Script:
         self.look_at_all()
 
     def look_at_all(self):
-        """After the end of a transaction, or after a part of it is taken back: all rows, along all ways."""
+        """Reads all rows in all ways, after a transaction ended or was partly rolled back."""
         for table in self.tables:
             self.read_keys(table)
         self.scan_all()
@@ -340,7 +339,7 @@ class Script:
         self.ask(f"SCAN INDEX {index.name}", table, [index.column.name, table.columns[table.key].name])
 
     def ask(self, line, table, order):
-        """A line that answers the rows of a table by these columns."""
+        """Adds a line whose reply is the rows of a table, sorted by these columns."""
         self.say(line, shown(self.peer.execute(f"SELECT * FROM {table.name} ORDER BY {', '.join(order)}").fetchall()))
 
     def atom(self, items):
@@ -358,7 +357,7 @@ class Script:
         return f"{alias}.{left.name} {rng.choice(OPERATORS)} " + self.operand(right, left.kind, other + ".")
 
     def query(self):
-        """A query over one to four tables, of which some may be one."""
+        """A query over one to four tables; a table may occur several times."""
         rng = self.rng
         items = [(f"a{place}", rng.choice(self.tables)) for place in range(rng.choice([1, 1, 2, 2, 2, 3, 4]))]
         if rng.random() < 0.2:
@@ -385,7 +384,7 @@ class Script:
             self.say(query.ours, shown(self.rows_of(query)))
 
     def watch(self):
-        """Keeps a query as a standing query. There may be 32, and a name that is taken is refused before one too many."""
+        """Creates a standing query. At most 32 are allowed; a taken name is refused first."""
         query, is_full = self.query(), len(self.standing) == 32
         is_taken = self.standing and self.rng.random() < 0.1
         name = self.rng.choice(list(self.standing)) if is_taken else self.new_name("w")
@@ -410,7 +409,7 @@ class Script:
             self.say("SHOW nope", "error 23 no such standing query\n")
 
     def show_some(self, table):
-        """After a change of a table, mostly: what the standing queries over it show."""
+        """Shows some of the standing queries over a changed table."""
         for name, query in self.standing.items():
             if table in query.tables and self.rng.random() < 0.6:
                 self.show_one(name)
@@ -423,7 +422,7 @@ class Script:
         self.say(f"SHOW {name}", shown(self.rows_of(self.standing[name])))
 
     def tell(self):
-        """What is told of the catalog."""
+        """TABLES and its reply."""
         told = ""
         for table in self.tables:
             told += f"{table.told()} rows {len(table.keys)}\n"
@@ -434,18 +433,18 @@ class Script:
 
 
 def differs(program, seed):
-    """Whether the program replies otherwise than SQLite to the script of a seed; the first such line is told."""
+    """Whether a reply to the script of a seed differs from the expected one. Prints the first such line."""
     script = Script(seed)
     ran = subprocess.run([program], input="".join(line + "\n" for line in script.lines).encode(), stdout=subprocess.PIPE, check=False)
     rest = ran.stdout
     for line, reply in zip(script.lines, script.replies):
         wanted = reply.encode()
         if not rest.startswith(wanted):
-            print(f"differs: seed {seed}: {line}\nwanted:\n{reply}written:\n{rest[: len(wanted) + 80].decode(errors='replace')}")
+            print(f"failed: seed {seed}: {line}\nexpected:\n{reply}actual:\n{rest[: len(wanted) + 80].decode(errors='replace')}")
             return True
         rest = rest[len(wanted) :]
     if rest or ran.returncode:
-        print(f"differs: seed {seed}: more was written, or the status is {ran.returncode}")
+        print(f"failed: seed {seed}: output after the last reply, or exit status {ran.returncode}")
         return True
     return False
 

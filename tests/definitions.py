@@ -1,25 +1,24 @@
 #!/usr/bin/env python3
-"""Counts the lines that a reader has to believe who wants to know what the contract of a run promises.
+"""Counts the lines of definitions that the contract of a run depends on, which a reader has to understand and trust.
 
     tests/definitions.py [--list] [--std]
 
-It begins with the contract of `run` in crates/mmdb_core/src/run_script.rt: its signature and all its clauses. From there it goes to each
-definition of crates/*/specs that is cited, to those that these cite, and so on, and to the types and constants of crates/*/src.
+The count starts at the contract of `run` in crates/mmdb_core/src/run_script.rt: its signature and all its clauses. It follows citations
+to definitions of crates/*/specs, from these to others, and to the types and constants of crates/*/src.
 
-- A definition is what stands under its name up to the next one: its signature and its cases, a record with its fields, a data type
-  with its constructors. The comments directly above it belong to it. Blank lines are not counted, nor are `use` lines.
-- A type is its declaration, with the comments and attributes directly above it, and its `impl Model` block, which says what a clause
-  takes it for. A constant is counted among the types.
-- A word of a definition cites what its file has under that name or imports under it by a `use` line, by `as` or by a module's name and a
-  dot too. A constructor or a variant cites its type. An operator is cited where all its parts stand, and those of a `do` block
-  where there is one. A variable or a field may have the name of a definition, and then cites it here: so more may be counted than
-  is cited, and not less. In a declaration a type is sought by the `use` lines of the file, and if these don't have it, in the whole
-  crate, or else in all crates that it stands on.
-- What is imported from the toolchain is not counted. A name that is imported from a crate of the repository and not found is a fault.
+- A definition extends from its name to the next one: its signature and cases, a record with its fields, a data type with its
+  constructors. The comments directly above it are part of it. Blank lines and `use` lines do not count.
+- A type is its declaration, with the comments and attributes directly above it, and its `impl Model` block, which gives its meaning in
+  clauses. A constant counts as a type.
+- A word of a definition cites the definition of that name in its file, or the one that a `use` line imports. It may do so by `as`, or
+  with a module's name and a dot. A constructor or a variant cites its type. An operator is cited if all its parts occur; a `do` block cites the
+  operators that it stands for. A variable or field with the name of a definition counts as a citation, so the count may be too high
+  but never too low. A type in a declaration is searched by the `use` lines of its file, then in its crate, then in all crates below.
+- Imports from the toolchain do not count. A name that is imported from a crate of the repository must be found.
 
-It prints a line for each crate and the sum. With --list it prints each definition and type before that, crate after crate from the bottom
-up, with its number of lines and its place, and says which definitions docs/MODEL.md does not name. With --std it prints the names of
-the toolchain that are cited. The status is 0 only if all names were found and neither sum is past its limit.
+Prints a line for each crate and the sum. --list first prints each definition and type, from the lowest crate up, with its number of lines
+and its place, and marks definitions that docs/MODEL.md does not name. --std prints the names of the toolchain that are cited. The exit
+status is 0 if all names were found and neither sum exceeds its limit.
 """
 
 import collections
@@ -30,7 +29,7 @@ import sys
 
 TOP = os.path.dirname(os.path.dirname(os.path.abspath(__file__)))
 START = ("crates/mmdb_core/src/run_script.rt", "run")
-# More lines than these are too many. Whoever raises a limit should know for what a reader is asked to believe more.
+# The limits. A commit that raises one explains why readers must trust more definitions.
 MOST_LINES_OF_DEFINITIONS = 2040
 MOST_LINES_OF_TYPES = 770
 
@@ -42,7 +41,7 @@ NAME_INSIDE = re.compile(r"^\s+(?:(?:abbrev|pub|unfoldable) )*([^\s(){}:]+) :(?:
 TOKEN = re.compile(r"[^\s(){}\[\],;λ\"]+")
 TYPE = r"^(?:pub(?:\([a-z]+\))? )?(?:struct|enum|const|static|trait|type) (?!fn )"
 
-# What may be cited: `kind` is "definition" or "type", `text` is what is counted, `names` are those that cite it.
+# Something that can be cited: `kind` is "definition" or "type", `text` is the counted text, and `names` are the names that cite it.
 Thing = collections.namedtuple("Thing", "kind crate file line name names text")
 
 
@@ -58,7 +57,7 @@ def is_file(path):
 
 @functools.cache
 def crates():
-    """The crates from the bottom up, each with those that it stands on."""
+    """The crates from the lowest up, each with the crates that it uses."""
     lines = [line.partition(":") for line in read("crates.txt").splitlines() if not line.startswith("#")]
     left = {head.split()[0]: line.split() for head, _, line in lines if head}
     placed = {}
@@ -70,7 +69,7 @@ def crates():
 
 @functools.cache
 def below(crate):
-    """A crate and all that it stands on."""
+    """A crate and all crates below it."""
     return [crate] + sorted({found for other in crates()[crate] for found in below(other)})
 
 
@@ -83,7 +82,7 @@ def crate_of(path):
 
 @functools.cache
 def definitions_of(path):
-    """The definitions of a file of specs/, by each name that cites them."""
+    """The definitions of a file of specs/, by the names that cite them."""
     found, lines, above, is_import = [], None, [], False
     for number, line in enumerate(read(path).splitlines(), 1):
         if not line.strip():
@@ -137,7 +136,7 @@ def types_of(path):
 
 
 def end_of(lines, at):
-    """The place behind a declaration that begins at a place: behind its brace, or its semicolon if that comes first."""
+    """The line after a declaration that begins at a line: after its closing brace, or its semicolon if that comes first."""
     while not re.match(r".*;$|[)}\]]+;?$|.*\}$", lines[at]) or lines[at][0].isspace():
         at += 1
     return at + 1
@@ -145,7 +144,7 @@ def end_of(lines, at):
 
 @functools.cache
 def types_in(crate):
-    """The things of src/ of a crate, by name; a name may have several."""
+    """The types and constants of a crate by name; a name may have several."""
     found = collections.defaultdict(list)
     for folder, _, names in os.walk(os.path.join(TOP, "crates", crate, "src")):
         for name in sorted(names):
@@ -156,7 +155,7 @@ def types_in(crate):
 
 
 def types_below(crate, name):
-    """What has a name in a crate, or else in the crates that it stands on."""
+    """The types with a name in a crate, or in the crates below if it has none."""
     return types_in(crate).get(name) or [thing for other in below(crate) for thing in types_in(other).get(name, [])]
 
 
@@ -164,14 +163,14 @@ def types_below(crate, name):
 
 
 class Scope:
-    """What the words of a file or a block may cite: `names` has the things that a word means, or its full name in the toolchain, and
-    `modules` the modules that have a name of their own here."""
+    """The citations that the words of a file or block can make: `names` maps a word to what it cites, or to its full name in the
+    toolchain, and `modules` maps a local module name to the module."""
 
     def __init__(self, crate):
         self.crate, self.names, self.modules, self.faults = crate, {}, {}, []
 
     def add_imports(self, text, is_ghost):
-        """Takes the `use` lines of a text: those of specs/ and the ghost ones of src/, or else those of the code."""
+        """Adds the `use` lines of a text: those of specs/ and ghost ones of src/, or those of the code."""
         for line in IMPORT.finditer(text):
             if "::" in line[0] or (not is_ghost and "ghost use" not in line[0]):
                 self.add_code(line[1], line[2])
@@ -204,7 +203,7 @@ class Scope:
                 self.names[alias or name] = things
 
     def meaning(self, module, name):
-        """The things that a name of a module is, or its full name where that is the toolchain's."""
+        """What a name of a module cites, or its full name if the module is the toolchain's."""
         parts = module.split(".")
         if parts[0] != "Rattle" or parts[1] not in crates():
             return f"{module}.{name}"
@@ -214,7 +213,7 @@ class Scope:
         return found
 
     def own(self, crate, parts, name):
-        """What a name of a module of the repository's own is: of a type, of its variants, of the constants of a file, or of a file of specs/."""
+        """What a name of one of the repository's modules cites: a type, its variants, a constant, or a definition of specs/."""
         if parts[:2] == ["specs", "declared"]:
             *path, last = parts[2:]
             if last == "TheVariants":
@@ -231,7 +230,7 @@ class Scope:
         return []
 
     def cited(self, text):
-        """What the words of a text cite: things, and full names of the toolchain."""
+        """What the words of a text cite: definitions and types, and full names of the toolchain."""
         text = re.sub(r"\"[^\"]*\"|(--|//).*", " ", text)
         words = set(TOKEN.findall(text))
         parts = words | {part for word in words for part in word.split(".") + re.findall(r"\w+", word)}
@@ -250,7 +249,7 @@ class Scope:
 
 @functools.cache
 def scope_of(path):
-    """What the words of a file of specs/ or src/ may cite."""
+    """The scope of a file of specs/ or src/."""
     scope = Scope(crate_of(path))
     if path.endswith(".antt"):
         scope.add_imports(read(path), is_ghost=True)
@@ -262,14 +261,14 @@ def scope_of(path):
 
 
 def citations(thing, faults):
-    """What a thing cites."""
+    """What a definition or type cites."""
     scope = scope_of(thing.file)
     found = set(scope.cited(thing.text))
     if thing.kind == "type":
         inner = Scope(thing.crate).add_imports("\n".join(re.findall(r"^\s+ghost use.*$", thing.text, re.M)), is_ghost=False)
         text = re.sub(r"^\s+ghost use.*$", "", thing.text, flags=re.M)
         found = set(scope.cited(text)) | set(inner.cited(text))
-        # A type that no `use` line has, as one behind a path.
+        # A type that no `use` line imports, for example one with a path.
         for word in set(re.findall(r"\b[A-Z]\w*\b", re.sub(r"//.*", "", text))) - set(scope.names) - set(inner.names):
             found |= set(types_below(thing.crate, word))
         faults += inner.faults
@@ -278,14 +277,14 @@ def citations(thing, faults):
 
 
 def start():
-    """The contract, as a thing that is not counted."""
+    """The contract, which does not count itself."""
     path, name = START
     header = re.search(rf"^pub fn {name}\b.*?^\{{$", read(path), re.M | re.S)
     return Thing("contract", crate_of(path), path, 0, name, (), header[0].replace("->", " "))
 
 
 def followed():
-    """All things that are cited from the contract on, the toolchain's names, and the names that were not found."""
+    """Everything that the contract cites, directly or not; the toolchain's names; and the names that were not found."""
     first, faults, names = start(), [], set()
     seen, left = set(), [first]
     while left:
@@ -306,7 +305,7 @@ def lines_in(thing):
 
 
 def words_of_the_model():
-    """The words that docs/MODEL.md has between backticks."""
+    """The words between backticks in docs/MODEL.md."""
     return {word for span in re.findall(r"`([^`]+)`", read("docs/MODEL.md")) for word in re.findall(r"[^\s(){}\[\],.;:]+", span)}
 
 

@@ -1,38 +1,38 @@
 #!/usr/bin/env python3
-"""Tells which links and which code words of the documents have nothing behind them.
+"""Finds broken links in the documents, and code words that the repository does not have.
 
     tests/documents.py [FILE ...]
 
-It reads README.md, CONTRIBUTING.md, CHANGELOG.md, docs/*.md, crates/*/README.md, tests/README.md, clients/*/*.md and replica/*.md, or only
-the files that are given.
+Without arguments it reads README.md, CONTRIBUTING.md, CHANGELOG.md, docs/*.md, crates/*/README.md, tests/README.md, clients/*/*.md and
+replica/*.md.
 
-A relative link leads to a file or a folder that is there, and its anchor to a heading of that file, by GitHub's rule: in lower case,
-punctuation left out, a hyphen for each space, and a number behind a heading that stands twice.
+A relative link must lead to an existing file or folder, and its anchor to a heading of that file. An anchor follows GitHub's rule: lower
+case, no punctuation, a hyphen for each space, and a number at the end for a repeated heading.
 
-A code word is what stands between backticks on a line, outside fenced blocks. By its form it is the first of these that it can be:
+A code word is the text between backticks on a line, outside fenced blocks. The first rule that fits its form applies:
 
-- Signs and numbers alone, as `<=` or `-5`, or a path of the machine, as `/dev/null`: nothing is asked of it.
-- A shell command, by its first word (SHELL). Those of its words that begin with a folder of the repository are paths.
-- A line of the command language or a part of one: it begins with a keyword of mm_lang in capitals, or is made of keywords, names,
-  numbers, texts and symbols of that language, with a keyword or a comparison among them. Nothing more is asked of it, unless it is one
-  word alone, which has to be in the code.
-- `error` and a number: there is such a refusal in mm_value, and the words behind the number are its text.
-- A path, if there is a slash in it or it ends as a file does: the path of some file or folder of the repository ends so. `*` stands for
-  any name, and so does a word in capitals, as in `crates/NAME/edits`. What lies in a folder out/ is made, so only the folder around
-  that is asked for. A path may have arguments behind it.
-- `Type::name`: some one file of the code has both words, and the name behind `fn` if the type is the repository's own and the name is
-  in lower case. A crate may stand in place of the type.
-- Anything else: each identifier in it is a whole word of the code, or of a line of the command language in the same document, as the
-  name of a table of an example is. A placeholder, NUMBER, NAME, CRATE or FILE, may stand for one.
+- Only signs and numbers, such as `<=` or `-5`, or an absolute path, such as `/dev/null`: not checked.
+- A shell command, by its first word (SHELL): its words that begin with a folder of the repository must be paths.
+- A line of the command language or a part of one: it begins with a keyword of mm_lang in capitals, or consists of keywords, names,
+  numbers, texts and symbols of the language and contains a keyword or a comparison. Not checked, except that a single word must occur
+  in the code.
+- `error` and a number: mm_value must have this refusal, and any words after the number must be its text.
+- A path, if it contains a slash or has a known file ending: the path of a file or folder of the repository must end with it. `*` and a
+  word in capitals, as in `crates/NAME/edits`, stand for any name. A folder out/ contains build products, so only the folder that
+  contains it is checked. Arguments may follow the path.
+- `Type::name`: one file of the code must contain both words, and `fn name` if the type is the repository's and the name is in lower
+  case. A crate may take the type's place.
+- Anything else: each identifier must be a whole word of the code, or of a line of the command language in the same document, such as
+  the name of an example's table. The placeholders NUMBER, NAME, CRATE and FILE are allowed.
 
-The code is src/, specs/, proofs/, edits/ and must-fail/ of the crates without their comments, bench/, clients/, include/, replica/, tests/ and
-tools/, the programs of examples/, and the names of these files and folders, but for documents and for the programs that look at the
-repository alone (NO_CODE).
+The code consists of src/, specs/, proofs/, edits/ and must-fail/ of the crates, without comments; bench/, clients/, include/, replica/,
+tests/ and tools/; the programs of examples/; and the names of these files and folders. It excludes documents and the programs that check
+the repository itself (NO_CODE).
 
-Where code words stand beside a path, as in "`Order.antt`: `value_cmp`, `row_cmp`" or "`value_cmp` in `Order.antt`", each of them
-stands in a file of that path. Where the heading above names a crate and the path none, it is one of the heading's or the line's crates.
+Code words beside a path, as in "`Order.antt`: `value_cmp`, `row_cmp`" or "`value_cmp` in `Order.antt`", must occur in a file with that
+path. If the heading above names a crate and the path does not, the file must be in a crate of the heading or the line.
 
-In a fenced block a line that begins with a shell command or a folder of the repository is looked at as a shell command is.
+A line of a fenced block that begins with a shell command or a folder of the repository is checked like a shell command.
 """
 
 import collections
@@ -52,17 +52,17 @@ FOLDERS = ("bench/", "clients/", "crates/", "docs/", "examples/", "include/", "r
 SHELL = {"apt-get", "bash", "cargo", "cat", "cc", "cd", "curl", "git", "make", "python3", "rt", "rustc", "sh", "ulimit", "valgrind"}
 ENDINGS = (".antt", ".c", ".edit", ".in", ".md", ".mmdb", ".out", ".py", ".rs", ".rt", ".toml", ".txt", ".yml")
 PLACEHOLDERS = {"NUMBER", "NAME", "CRATE", "FILE"}
-# What no rule serves, each with its reason.
+# Exceptions to all rules, each with its reason.
 ALLOWED = {
     r"rattle-kit-\w+( logic \w+)?": "the name of a toolchain",
-    r"shrink_to_fit": "a method of the standard library that the program has no use for, as a document says",
-    r"MALLOC_TRIM_THRESHOLD_": "a variable of the C library, set for a measure",
+    r"shrink_to_fit": "a method of the standard library that the program does not use, as a document says",
+    r"MALLOC_TRIM_THRESHOLD_": "a variable of the C library, set for a measurement",
 }
 
 WORD = re.compile(r"[A-Za-z_][A-Za-z0-9_]*")
 SPAN = re.compile(r"(`+)(.+?)\1(?!`)")
 LINK = re.compile(r"\]\(\s*<?([^)\s>]+)>?(?:\s+\"[^\"]*\")?\s*\)|^\s*\[[^\]]+\]:\s*(\S+)")
-# A token of the command language: a word, a number, a text, or a symbol; two dots stand for what is left out.
+# A token of the command language: a word, a number, a text, or a symbol; two dots are an ellipsis.
 TOKEN = re.compile(r"\s+|[A-Za-z_][A-Za-z0-9_]*|\d+|'(?:[^']|'')*'|<=|>=|\.\.|[<>=(),.+-]")
 WORDS = r"(`[^`]+`(?:(?:, | and |, and )`[^`]+`)*)"
 BEHIND_PATH, BEFORE_PATH = re.compile(rf"`([^`]+)`: {WORDS}"), re.compile(rf"{WORDS} (?:in|of) `([^`]+)`")
@@ -75,7 +75,7 @@ def read(path):
 
 @functools.cache
 def files():
-    """The files of the repository, without what is made."""
+    """The files of the repository, without build products."""
     found = []
     for folder, folders, names in os.walk(TOP):
         folders[:] = sorted(name for name in folders if name not in (".git", "out", "__pycache__"))
@@ -85,7 +85,7 @@ def files():
 
 @functools.cache
 def files_by_end():
-    """The files that have a path or lie in it, for each path that ends as the path of a file or a folder does."""
+    """For each suffix of a file's or folder's path, the files with this suffix or in such a folder."""
     found = collections.defaultdict(set)
     for file in files():
         parts = file.split("/")
@@ -97,7 +97,7 @@ def files_by_end():
 
 @functools.cache
 def words_by_file():
-    """The words of each file of the code, those of its own path, and `fn NAME` or `struct NAME` for what it declares."""
+    """The words of each file of the code and of its path, and `fn NAME` or `struct NAME` for each declaration."""
     found = {}
     for path in files():
         if CODE.match(path) and path not in NO_CODE and not path.endswith(".md"):
@@ -127,7 +127,7 @@ def refusals():
 
 @functools.cache
 def files_of(path):
-    """The files that have a path or lie in it."""
+    """The files with a path or in the folder with that path."""
     made = re.match(r"(?:(.*?)/)?out(/|$)", path)
     path = (made[1] if made and made[1] else path).rstrip("/").removeprefix("./")
     pattern = re.sub(r"\b[A-Z][A-Z_]*\b(?!\.md)", "*", path)
@@ -142,19 +142,19 @@ def is_path(word):
 
 
 def path_fault(path):
-    """Why a path leads nowhere, or nothing."""
+    """The fault of a path, or None."""
     is_made = path.rstrip("/") == "out"
-    return None if path.startswith("/") or is_made or path in files() or files_of(path) else f"there is no {path}"
+    return None if path.startswith("/") or is_made or path in files() or files_of(path) else f"{path} does not exist"
 
 
 def shell_fault(words):
-    """Why one of the words of a shell command that begins with a folder of the repository leads nowhere."""
+    """The first fault of a shell command's words that begin with a folder of the repository, or None."""
     faults = (path_fault(word) for word in words if word.startswith(FOLDERS))
     return next((fault for fault in faults if fault), None)
 
 
 def is_of_language(span):
-    """It begins with a keyword in capitals, or is made of the language's tokens and has a keyword or a comparison among them."""
+    """Whether it begins with a keyword in capitals, or consists of tokens and contains a keyword or a comparison."""
     if span in keywords():
         return False
     tokens = TOKEN.findall(span)
@@ -165,13 +165,13 @@ def is_of_language(span):
 
 @functools.cache
 def names_of_examples(document):
-    """The words of the lines of the command language in a document."""
+    """The words of a document's lines of the command language."""
     spans = [span[2].strip() for _, line in lines_of(document, fenced=False) for span in SPAN.finditer(line)]
     return frozenset(word for span in spans if is_of_language(span) for word in WORD.findall(span))
 
 
 def fault_of(document, span):
-    """Why a code word has nothing behind it, or nothing."""
+    """The fault of a code word, or None."""
     if not WORD.search(span) or any(re.fullmatch(allowed, span) for allowed in ALLOWED):
         return None
     words = span.split()
@@ -182,17 +182,17 @@ def fault_of(document, span):
     refusal = re.fullmatch(r"error (\d+)(?: ([a-z ]+))?", span)
     if refusal:
         said = refusals().get(refusal[1])
-        return None if said and refusal[2] in (None, said) else "there is no such refusal"
+        return None if said and refusal[2] in (None, said) else "no refusal has this number or text"
     if is_path(words[0]):
         return path_fault(words[0]) or shell_fault(words[1:])
     if re.fullmatch(r"\w+(::\w+)+(\(\))?", span):
         *owners, name = WORD.findall(span)
         is_ours = owners[-1] in files_by_end() or any(f"{kind} {owners[-1]}" in all_words() for kind in ["struct", "enum", "trait"])
         wanted = {*owners, f"fn {name}" if is_ours and name.islower() else name}
-        return None if any(wanted <= found for found in words_by_file().values()) else "no file of the code has these words"
+        return None if any(wanted <= found for found in words_by_file().values()) else "no file of the code contains these words"
     known = [all_words(), names_of_examples(document), PLACEHOLDERS]
     missing = [word for word in WORD.findall(re.sub(r"'[^']*'", "", span)) if not any(word in words for words in known)]
-    return f"the code has no word {', '.join(missing)}" if missing else None
+    return f"the code does not contain {', '.join(missing)}" if missing else None
 
 
 def crates_in(line):
@@ -201,14 +201,14 @@ def crates_in(line):
 
 
 def fault_beside(path, crates, word):
-    """Why a code word is not in a file of the path beside it, or nothing."""
+    """The fault of a code word beside a path, or None."""
     if is_path(word) or is_of_language(word):
         return None
     files = files_of(path)
     if crates and path.split("/")[0] in ("src", "specs", "proofs", os.path.basename(path)):
         files = [file for file in files if file.split("/")[1] in crates]
     wanted = set(WORD.findall(word))
-    return None if any(wanted <= set(WORD.findall(read(file))) for file in files) else f"{path} has no such word"
+    return None if any(wanted <= set(WORD.findall(read(file))) for file in files) else f"{path} does not contain it"
 
 
 def anchors_of(path):
@@ -225,18 +225,18 @@ def anchors_of(path):
 
 
 def link_fault(document, link):
-    """Why a link leads nowhere, or nothing."""
+    """The fault of a link, or None."""
     if re.match(r"[a-z]+:", link):
         return None
     path, _, anchor = link.partition("#")
     target = os.path.normpath(os.path.join(os.path.dirname(document), path)) if path else document
     if not os.path.exists(os.path.join(TOP, target)):
-        return "leads to no file"
-    return "leads to no heading" if anchor and anchor not in anchors_of(target) else None
+        return "no such file"
+    return "no such heading" if anchor and anchor not in anchors_of(target) else None
 
 
 def lines_of(path, fenced):
-    """The lines of a document inside its fenced blocks, or outside, each with its number."""
+    """The lines of a document inside or outside its fenced blocks, with their numbers."""
     fence = None
     for number, line in enumerate(read(path).splitlines(), 1):
         mark = re.match(r"\s*(```+|~~~+)", line)
@@ -247,7 +247,7 @@ def lines_of(path, fenced):
 
 
 def checks_of(document):
-    """What is looked at in a document: the line's number, the words, and why they have nothing behind them, if they haven't."""
+    """All checks of a document: line number, text, and the fault or None."""
     above = []
     for number, line in lines_of(document, fenced=False):
         if line.startswith("#"):

@@ -1,26 +1,32 @@
 #!/usr/bin/env python3
-"""Checks the form of the repository: the length of lines, the graph of crates, and the README of each crate.
+"""Checks the form of the repository: the length of lines, the graph of crates, the README of each crate, and the tables of figures.
 
     tests/form.py
     tests/form.py --graph
     tests/form.py --long
 
-- A line of a .rt, .antt, .edit or .py file has at most 160 characters. Of each kind of file some lines are longer. MOST_LONG_LINES says
-  how many there may be: a number there may fall and not rise. Where a kind has more, each long line of it is printed.
-- docs/ARCHITECTURE.md has a graph of the crates between two marks. It is the one that is made of crates.txt: for each floor its crates,
-  each with those that it names and does not reach through another one that it names.
+- A line of a .rt, .antt, .edit or .py file has at most 160 characters. MOST_LONG_LINES gives the number of older lines that are longer,
+  by kind of file; a number there may fall but not rise. If a kind has more, the program prints each of its long lines.
+- The graph of crates between the two marks of docs/ARCHITECTURE.md is the one that crates.txt gives: for each floor its crates, each
+  with the crates that it uses and does not also reach through another one.
 - Each crate of crates.txt has a README.md.
+- docs/benchmarks/figures.md, and the table between marks in README.md, are those that bench/tables.py makes of figures.json.
 
-With --graph it prints the graph, and with --long each line that is too long. The status is 0 only if all holds. It takes a second.
+--graph prints the graph, and --long prints each line that is too long. The exit status is 0 if all checks pass. Takes a second.
 """
 
+import json
 import os
 import re
 import sys
 
+sys.dont_write_bytecode = True
 TOP = os.path.dirname(os.path.dirname(os.path.abspath(__file__)))
+sys.path.append(os.path.join(TOP, "bench"))
+import tables  # noqa: E402
+
 LONGEST_LINE = 160
-MOST_LONG_LINES = {".antt": 0, ".edit": 11, ".py": 0, ".rt": 39}
+MOST_LONG_LINES = {".antt": 0, ".edit": 11, ".py": 0, ".rt": 38}
 DOCUMENT, BEGINS, ENDS = "docs/ARCHITECTURE.md", "<!-- crates.txt -->", "<!-- end -->"
 FLOOR = re.compile(r"# ([A-Z][a-z]+(?: [a-z]+)*): ")
 
@@ -34,14 +40,14 @@ def read(path):
 
 
 def files():
-    """The files of the repository, without what is made."""
+    """The files of the repository, without build products."""
     for folder, folders, names in os.walk(TOP):
         folders[:] = sorted(name for name in folders if name not in (".git", "out", "__pycache__"))
         yield from (os.path.relpath(os.path.join(folder, name), TOP) for name in sorted(names))
 
 
 def long_lines():
-    """Of each kind of file the lines that are too long, each as the file, the number and the length."""
+    """The lines that are too long, by kind of file, each as file, line number and length."""
     found = {kind: [] for kind in MOST_LONG_LINES}
     for path in files():
         lines = found.get(os.path.splitext(path)[1])
@@ -52,21 +58,21 @@ def long_lines():
 
 
 def faults_of_lines():
-    """The long lines of each kind of file that has more of them than it may. Where a number can fall, that is printed."""
+    """The long lines of each kind of file that has more than allowed. Prints a note if a limit can be lowered."""
     for kind, lines in long_lines().items():
         most = MOST_LONG_LINES[kind]
         if len(lines) > most:
             yield from lines
-            yield f"{len(lines)} lines of {kind} files have more than {LONGEST_LINE} characters, and {most} may"
+            yield f"{len(lines)} lines of {kind} files have more than {LONGEST_LINE} characters; the limit is {most} lines"
         elif len(lines) < most:
-            print(f"{len(lines)} lines of {kind} files have more than {LONGEST_LINE} characters: MOST_LONG_LINES can say so")
+            print(f"{len(lines)} lines of {kind} files have more than {LONGEST_LINE} characters: lower MOST_LONG_LINES to this number")
 
 
 # ---- crates
 
 
 def floors():
-    """The floors of crates.txt, the lowest first, each with its crates in their order. A floor is a comment with a blank line below it."""
+    """The floors of crates.txt from the lowest up, each with its crates in order. A floor is a comment followed by a blank line."""
     lines = read("crates.txt").splitlines()
     found = {}
     for line, following in zip(lines, [*lines[1:], ""]):
@@ -79,19 +85,19 @@ def floors():
 
 
 def named():
-    """The crates of the repository that each crate names."""
+    """The crates of the repository that each crate uses directly."""
     lines = [line.partition(":") for line in read("crates.txt").splitlines() if line and not line.startswith("#")]
     below = {head.split()[0]: others.split() for head, _, others in lines}
     return {name: [other for other in others if other in below] for name, others in below.items()}
 
 
 def reached(crate, below):
-    """The crates that a crate names, and those that these reach."""
+    """All crates that a crate uses, directly or not."""
     return set(below[crate]).union(*(reached(other, below) for other in below[crate]))
 
 
 def graph():
-    """For each floor a line for each crate, with the crates that it names and does not reach through another one that it names."""
+    """The lines of the graph: for each crate of a floor, the crates that it uses directly and not also through another one."""
     below = named()
     width = max(map(len, below))
     lines = []
@@ -109,14 +115,22 @@ def faults_of_graph():
     between, end, _ = behind.partition(ENDS)
     shown = [line for line in between.strip().splitlines() if not line.startswith("```")]
     if not end:
-        yield f"{DOCUMENT} has not both marks, {BEGINS} and {ENDS}"
+        yield f"{DOCUMENT} lacks one of the marks {BEGINS} and {ENDS}"
     elif shown != graph():
         number = before.count("\n") + 1
-        yield f"{DOCUMENT}:{number}: the graph is not that of crates.txt, which 'tests/form.py --graph' prints"
+        yield f"{DOCUMENT}:{number}: the graph differs from that of crates.txt, which 'tests/form.py --graph' prints"
 
 
 def faults_of_readmes():
     return (f"crates/{crate} has no README.md" for crate in named() if not os.path.isfile(f"{TOP}/crates/{crate}/README.md"))
+
+
+def faults_of_figures():
+    figures = json.loads(read("docs/benchmarks/figures.json"))
+    texts = {"README.md": tables.readme(read("README.md"), figures), "docs/benchmarks/figures.md": tables.document(figures)}
+    for path, text in texts.items():
+        if read(path) != text:
+            yield f"{path}: the tables differ from docs/benchmarks/figures.json; run 'bench/all --part tables'"
 
 
 def main():
@@ -126,7 +140,7 @@ def main():
     if "--long" in sys.argv:
         print("\n".join(line for lines in long_lines().values() for line in lines))
         return 0
-    checks = [list(faults_of_lines()), list(faults_of_graph()), list(faults_of_readmes())]
+    checks = [list(faults_of_lines()), list(faults_of_graph()), list(faults_of_readmes()), list(faults_of_figures())]
     for fault in (fault for faults in checks for fault in faults):
         print(fault)
     failed = sum(1 for faults in checks if faults)

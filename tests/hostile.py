@@ -1,25 +1,24 @@
 #!/usr/bin/env python3
-"""Gives the program hostile input over the whole language, and compares each reply.
+"""Runs hostile input over the whole language through the program, and compares each reply.
 
     tests/hostile.py [PROGRAM]
 
-- Each command in its forms is changed at each of its bytes: it is cut there, the byte is left out, and each of some bytes is put in
-  before it and in its place. Then each of its tokens is left out, given twice and exchanged with the next one, and each keyword,
-  each symbol and some other tokens are put in before it and in its place.
-- It is cut there by the end of the input too, behind which there is no line feed.
-- Numbers of 4,000 digits, names and texts that are too long or hold odd bytes stand wherever one may stand, lines have the greatest
-  length and more, and of all that is limited there is as much as may be, and one more.
-- Savepoints are made and gone back to, many of one name, and indexes come and go in transactions that are kept or taken back.
-- Each byte stands alone on a line, in a text and between two words, and lines are made of random tokens and of random bytes.
-- Commands and refused lines are given one at a time, each when the reply to the one before it has come.
+- Each form of each command is changed at each byte: the line is cut there, the byte is removed, and some other bytes are inserted before
+  it and replace it. Each token is removed, repeated and exchanged with the next one, and each keyword, each symbol and some other tokens
+  are inserted before it and replace it.
+- Each form is also cut at each byte by the end of the input, without a line feed.
+- Numbers of 4,000 digits, and names and texts that are too long or contain odd bytes, occur wherever the language allows one. Lines have
+  the maximum length and more. Each limit is reached and exceeded by one.
+- Transactions set and roll back to savepoints, many with one name, and create and drop indexes, and then commit or roll back.
+- Each byte occurs alone on a line, in a text and between two words, and lines consist of random tokens and of random bytes.
+- Commands and refused lines are sent one at a time, each after the reply to the one before.
 
-The reply that each line should get is said by tests/language.py, which is written from docs/LANGUAGE.md and shares nothing with the
-program. Where a line is made to get a certain refusal, tests/language.py has to say that one. After some lines that change nothing,
-and after each that changes something, all that the database has is asked for. The status is 0 only if all replies were right and
-each run ended with status 0.
+tests/language.py gives the expected replies. It is written from docs/LANGUAGE.md and shares nothing with the program. If a line is made
+for a particular refusal, tests/language.py must give that one. After each line that changes something, and after some others, the script
+reads the whole database. The exit status is 0 if all replies are right and each run ends with status 0.
 
-A run has 1 GiB of memory. A query over four tables of 1,025 rows in which a test names the last one may want more, and may then be
-refused for want of memory instead of for its size. No other line may.
+A run has 1 GiB of memory. A query over four tables of 1,025 rows with a test on the last table may need more, and may then fail with
+`error 90` instead of the refusal for its size. No other line may.
 """
 
 import multiprocessing
@@ -209,12 +208,12 @@ def reply_of(number):
 
 
 def shown(value):
-    """The front of a line or a reply as it is printed."""
-    return f"{str(value)[1:120]}.. of {len(value)} bytes" if len(value) > 120 else str(value)[1:]
+    """The start of a line or a reply, for messages."""
+    return f"{str(value)[1:120]}.. ({len(value)} bytes)" if len(value) > 120 else str(value)[1:]
 
 
 class Script:
-    """Lines and the replies that they should get, from the tables on that stand above or from none."""
+    """Lines and their expected replies, starting with the tables above or an empty database."""
 
     def __init__(self, name, lines=()):
         self.name, self.lines, self.replies, self.faults = name, [], [], []
@@ -229,20 +228,20 @@ class Script:
         return other
 
     def say(self, text, wanted=None):
-        """Adds a line, or several with line feeds between them. The reply that is wanted may be told, or the number of a refusal."""
+        """Adds a line, or several separated by line feeds. `wanted` is the expected reply or the number of a refusal, if the caller knows it."""
         reply = b"".join(map(self.database.answer, text.split(b"\n")))
         wanted = reply_of(wanted) if isinstance(wanted, int) else wanted
         if wanted is not None and wanted != reply:
-            self.faults.append(f"{shown(text)} wants {shown(wanted)} and tests/language.py says {shown(reply)}")
+            self.faults.append(f"{shown(text)} must get {shown(wanted)}, but tests/language.py says {shown(reply)}")
         self.lines.append(text)
         self.replies.append(reply)
 
     def may_want_memory(self):
-        """The last line may take more memory than a run here has. Then it is answered by the refusal that says so."""
+        """Allows the last line to fail with `error 90`, since it may need more memory than a run has."""
         self.wanting.add(len(self.lines) - 1)
 
     def probe(self):
-        """Asks for all that the database has."""
+        """Reads the whole database."""
         self.say(b"TABLES")
         for name, table in list(self.database.tables.items()):
             self.say(b"SCAN " + name)
@@ -259,24 +258,24 @@ class Script:
         try:
             ran = subprocess.run([program], input=given, stdout=subprocess.PIPE, timeout=SECONDS, check=False)
         except subprocess.TimeoutExpired:
-            return f"no end within {SECONDS} seconds"
+            return f"the run did not end within {SECONDS} seconds"
         return self.difference(ran.stdout) or (f"the run ended with status {ran.returncode}" if ran.returncode else None)
 
     def difference(self, written):
-        """The first line with another reply than is wanted, or None."""
+        """The first line with a wrong reply, or None."""
         at = 0
         for place, (line, reply) in enumerate(zip(self.lines, self.replies)):
             if place in self.wanting and written.startswith(MEMORY, at):
                 reply = MEMORY
             if not written.startswith(reply, at):
                 got = written[at : at + max(len(reply), 80)]
-                return f"line {place + 1}, {shown(line)}, wants {shown(reply)} and got {shown(got)}"
+                return f"line {place + 1}, {shown(line)}: expected {shown(reply)}, got {shown(got)}"
             at += len(reply)
-        return f"behind the last reply stands {shown(written[at:])}" if at < len(written) else None
+        return f"output after the last reply: {shown(written[at:])}" if at < len(written) else None
 
 
 class Dialogue(Script):
-    """A script of which each line is given when the reply to the one before it has come."""
+    """A script whose lines are sent one at a time, each after the reply to the one before."""
 
     def fault(self, program):
         with subprocess.Popen([program], stdin=subprocess.PIPE, stdout=subprocess.PIPE, bufsize=0) as run:
@@ -287,14 +286,14 @@ class Dialogue(Script):
                     got += more
                 if got != reply:
                     run.kill()
-                    return f"{shown(line)} wants {shown(reply)} and got {shown(got)}"
+                    return f"{shown(line)}: expected {shown(reply)}, got {shown(got)}"
             run.stdin.close()
             rest = run.stdout.read()
-            return f"the run ended with status {run.returncode} and {shown(rest)}" if run.wait(SECONDS) or rest else None
+            return f"the run ended with status {run.returncode} and output {shown(rest)}" if run.wait(SECONDS) or rest else None
 
 
 class Changed:
-    """Scripts with changed lines. Those that change nothing stand in one script, each other one in a script of its own."""
+    """Scripts of changed lines. Lines that change nothing share one script, and each other line has its own."""
 
     def __init__(self, start):
         self.start, self.quiet, self.others = start, start.copy(), []
@@ -307,8 +306,7 @@ class Changed:
             self.quiet.probe()
 
     def take_back(self, text):
-        """Takes the last line out of the script of those that change nothing, and gives it a script of its own. A transaction that is
-        open behind it is then taken back."""
+        """Moves the last line from the shared script to its own, which rolls back a transaction that the line leaves open."""
         self.quiet.lines.pop()
         self.quiet.replies.pop()
         self.quiet.database = self.start.database.copy()
@@ -336,7 +334,7 @@ def with_changed_bytes(line):
 
 
 def with_changed_tokens(line):
-    """A line, changed at each of its tokens and behind the last."""
+    """A line, changed at each of its tokens and after the last."""
     tokens = [] if language.read(line) is None else language.tokens_of(line)[:-1]
     for token, following in zip(tokens, [*tokens[1:], None]):
         before, behind = line[: token.start], line[token.end :]
@@ -351,7 +349,7 @@ def with_changed_tokens(line):
 
 
 def form_scripts(line, opening):
-    """A form, changed everywhere, with other line ends, and cut by the end of the input."""
+    """A form, changed at each byte and token, with other line ends, and cut by the end of the input."""
     start = Script("", lines_of(TABLES + opening))
     changed = Changed(start)
     for text in [line, line + b"\r", line + b"\r\r", *with_changed_bytes(line), *with_changed_tokens(line)]:
@@ -369,7 +367,7 @@ def quoted(text):
 
 
 def number_scripts():
-    """Numbers that are too large, and numbers with very many zeros, wherever one may stand."""
+    """Numbers that are too large, and numbers with thousands of leading zeros, wherever the language allows a number."""
     changed = Changed(Script("", lines_of(TABLES)))
     nines, just, past, far_past = b"9" * 4000, b"9223372036854775807", b"9223372036854775808", b"9223372036854775809"
     for place in lines_of(PLACES_OF_NUMBERS):
@@ -391,7 +389,7 @@ def number_scripts():
 
 
 def text_scripts():
-    """Texts of the greatest length and longer ones, wherever one may stand."""
+    """Texts of the maximum length and longer ones, wherever the language allows a text."""
     changed = Changed(Script("", lines_of(TABLES)))
     for place in lines_of(PLACES_OF_TEXTS):
         for byte in (b"a", b"'", b"\0", b"\xff", b" ", b"-"):
@@ -405,7 +403,7 @@ def text_scripts():
 
 
 def name_scripts():
-    """Names of the greatest length, longer ones, and words that are no names, wherever one may stand."""
+    """Names of the maximum length, longer ones, and words that are not names, wherever the language allows a name."""
     changed = Changed(Script("", lines_of(TABLES)))
     for place in lines_of(PLACES_OF_NAMES):
         for name in (b"n" * 32, b"z_9" + b"0" * 29, b"x"):
@@ -416,7 +414,7 @@ def name_scripts():
 
 
 def line_scripts():
-    """Forms in lines of the greatest length, and in longer ones."""
+    """Forms in lines of the maximum length, and in longer ones."""
     changed = Changed(Script("", lines_of(TABLES)))
     for line in lines_of(FORMS):
         reply = changed.start.database.copy().answer(line)
@@ -434,7 +432,7 @@ def line_scripts():
 
 
 def byte_scripts():
-    """Each byte alone on a line, beside words and between them, and in texts."""
+    """Each byte alone on a line, before, after and between words, and in texts."""
     changed = Changed(Script("", lines_of(TABLES)))
     texts = Script("", [b"TABLE b (x TEXT KEY)"])
     for byte in (bytes([number]) for number in range(256)):
@@ -448,7 +446,7 @@ def byte_scripts():
 
 
 def random_scripts(seed):
-    """Lines of random tokens and of random bytes, and the front of a form with the back of another one."""
+    """Lines of random tokens and of random bytes, and the start of one form with the end of another."""
     rng = random.Random(seed)
     changed = Changed(Script("", lines_of(TABLES)))
     forms = lines_of(FORMS)
@@ -461,12 +459,12 @@ def random_scripts(seed):
 
 
 def many(text, count, between=b", "):
-    """A text so many times, with the numbers from 1 in it."""
+    """`count` copies of a text, with the numbers from 1 in place of each #."""
     return between.join(text.replace(b"#", b"%d" % number) for number in range(1, count + 1))
 
 
 def table_scripts():
-    """As many tables and columns as there may be, and one more."""
+    """The maximum number of tables and columns, and one more."""
     tables, columns = Script(""), Script("")
     for number in range(64):
         tables.say(b"TABLE n%d (id INT KEY)" % number, b"ok\n")
@@ -491,7 +489,7 @@ def table_scripts():
 
 
 def index_scripts():
-    """As many indexes of a table as there may be, and one more."""
+    """The maximum number of indexes of a table, and one more."""
     script = Script("", lines_of(TABLES))
     for number in range(15):
         script.say(b"INDEX n%d ON t (%s) %s" % (number, (b"id", b"k", b"s")[number % 3], (b"TREE", b"HASH")[number % 2]), b"ok\n")
@@ -509,7 +507,7 @@ def index_scripts():
 
 
 def standing_scripts():
-    """As many standing queries as there may be, and one more."""
+    """The maximum number of standing queries, and one more."""
     script = Script("", lines_of(TABLES))
     for number in range(30):
         script.say(b"WATCH n%d SELECT a.k, b.id FROM t a, t b WHERE a.k = b.k - %d" % (number, number), b"ok\n")
@@ -525,7 +523,7 @@ def standing_scripts():
 
 
 def savepoint_scripts():
-    """As many savepoints of a transaction as there may be, and one more. Of the 64 some have the names of earlier ones."""
+    """The maximum number of savepoints, and one more. Some of the 64 have names of earlier ones."""
     script = Script("", lines_of(TABLES))
     for end in (b"ROLLBACK", b"COMMIT"):
         script.say(b"SAVEPOINT n0", 51)
@@ -558,7 +556,7 @@ def savepoint_scripts():
 
 
 def rolled_back_index_scripts():
-    """Indexes that come and go in a transaction, between changes of rows, of which some or all are taken back."""
+    """Indexes created and dropped in a transaction, between changes of rows that are rolled back or committed."""
     scripts = []
     for ends in ((b"COMMIT",), (b"ROLLBACK",), (b"ROLLBACK TO p", b"COMMIT"), (b"ROLLBACK TO q", b"ROLLBACK TO p", b"ROLLBACK")):
         script = Script("", lines_of(TABLES + OPENED))
@@ -590,7 +588,7 @@ def rolled_back_index_scripts():
 
 
 def query_scripts():
-    """Queries and changes with as many tables, fields, tests and positions as there may be, and with more."""
+    """Queries and changes with the maximum number of tables, fields, tests and positions, and with more."""
     changed = Changed(Script("", lines_of(TABLES)))
 
     def say(wanted, fields, items, tests, order):
@@ -621,9 +619,8 @@ def query_scripts():
 
 
 def combination_scripts():
-    """Rows joined with themselves that are as many as may be, and one more. Of four tables the first three have 1,025 times 1,025
-    times 1,025 combinations. Where a test names the fourth, the program keeps them if there is memory for them, since it can't know
-    yet how many the test leaves."""
+    """Self-joins with the maximum number of combinations, and one row more. The first three of four tables have 1,025 cubed combinations. If a
+    test names the fourth table, the program stores them as far as memory allows, since it does not know yet how many pass the test."""
     script = Script("", [b"TABLE n (id INT KEY)", b"TABLE none (id INT KEY)", *(b"INSERT n (%d)" % number for number in range(1, 1026))])
     four = b"n a, n b, n c, n d"
     products = [(b"a.id", b"n a, n b"), (b"DISTINCT b.id", b"n a, n b"), (b"c.id", b"n a, n b, n c"), (b"a.id", four)]
@@ -654,7 +651,7 @@ def combination_scripts():
 
 
 def dialogue_scripts():
-    """Forms and refused lines, one at a time."""
+    """Forms and refused lines, sent one at a time."""
     dialogue = Dialogue("", lines_of(TABLES))
     for line in lines_of(FORMS):
         for text in (line, line[:-1], line + b"'", b"\0" + line, b"x" * 5000, b"-- " + line, line + b"\r"):
@@ -664,7 +661,7 @@ def dialogue_scripts():
 
 
 def cases():
-    """What is tested: a name, what makes its scripts, and of what."""
+    """The test cases: a name, the function that creates the scripts, and its arguments."""
     for line in lines_of(FORMS):
         yield f"{shown(line)} changed", form_scripts, (line, b"")
     for line in lines_of(FORMS_IN_A_TRANSACTION):
@@ -687,7 +684,7 @@ def cases():
 
 
 class Tried(NamedTuple):
-    """What came of a case."""
+    """The result of a case."""
 
     name: str
     faults: list
@@ -709,17 +706,17 @@ def tried(task):
 def main():
     path = os.path.abspath(sys.argv[1]) if len(sys.argv) > 1 else f"{TOP}/crates/mmdb/out/mmdb"
     if not os.access(path, os.X_OK):
-        sys.exit(f"There is no program at {path}. 'rt ci' at the top of the repository builds it.")
-    # The limit is handed down to the program, which else could take all that the machine has.
+        sys.exit(f"No program at {path}. 'tools/build' builds it.")
+    # The program inherits the limit, so it cannot use all memory of the machine.
     resource.setrlimit(resource.RLIMIT_AS, (MOST_MEMORY, MOST_MEMORY))
     found = []
     with multiprocessing.Pool(os.cpu_count()) as pool:
         for one in pool.imap(tried, [(path, case) for case in cases()]):
             found.append(one)
             if one.faults:
-                print(f"differs: {one.name}: {one.faults[0]}" + (f" (and {len(one.faults) - 1} more)" if one.faults[1:] else ""))
+                print(f"failed: {one.name}: {one.faults[0]}" + (f" (and {len(one.faults) - 1} more)" if one.faults[1:] else ""))
     failed = sum(1 for one in found if one.faults)
-    print(f"{sum(one.lines for one in found)} lines were given, in {sum(one.runs for one in found)} runs.")
+    print(f"{sum(one.lines for one in found)} lines in {sum(one.runs for one in found)} runs")
     print(f"{len(found) - failed} passed, {failed} failed")
     return 1 if failed else 0
 

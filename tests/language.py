@@ -1,7 +1,7 @@
-"""The command language as docs/LANGUAGE.md tells it: a reader of lines, and a database that answers them in the plainest way.
+"""A second implementation of the command language, written from docs/LANGUAGE.md alone and as simple as possible.
 
-`read` says what a line is, and `Database.answer` gives the whole reply to it, a refusal too. Nothing here is taken from the program:
-an index is only what is told of it, queries go over the product of their tables, and a standing query is asked anew each time.
+`read` returns the command of a line, and `Database.answer` its whole reply, also a refusal. Nothing here comes from the program: an index
+is only a declaration, a query tests all combinations of its tables' rows, and SHOW evaluates its query again.
 """
 
 import itertools
@@ -51,13 +51,13 @@ class Refused(Exception):
 
 
 def refuse(number, holds):
-    """Refuses where a condition holds. The conditions of a command are asked in the order in which they are told."""
+    """Raises a refusal if its condition holds. The calls for a command are in the order of its refusals."""
     if holds:
         raise Refused(number)
 
 
 class Column(NamedTuple):
-    """A column as it stands in a TABLE."""
+    """A column of a TABLE command."""
 
     name: bytes
     type: bytes
@@ -66,7 +66,7 @@ class Column(NamedTuple):
     cascades: bool
 
     def role(self):
-        """What it is for, as it stands in a TABLE behind its type."""
+        """The words after its type in the TABLE command."""
         if self.is_key:
             return b" KEY"
         return b" REF " + self.target + b" CASCADE" * self.cascades if self.target else b""
@@ -80,7 +80,7 @@ class Field(NamedTuple):
 
 
 class Value(NamedTuple):
-    """The right side of a test or an assignment: a literal, or a field with a shift or none."""
+    """The right side of a test or an assignment: a literal, or a field, perhaps with a shift."""
 
     literal: object
     field: Optional[Field] = None
@@ -88,7 +88,7 @@ class Value(NamedTuple):
 
 
 class Test(NamedTuple):
-    """A test, and by `=` an assignment too."""
+    """A test; an assignment is a test with `=`."""
 
     left: Field
     operator: bytes
@@ -106,7 +106,7 @@ class Query(NamedTuple):
 
 
 class Token(NamedTuple):
-    """A token of a line, with its kind and the places where it begins and ends."""
+    """A token of a line, with its kind and its start and end."""
 
     kind: str
     text: bytes
@@ -124,7 +124,7 @@ def kind_of_word(word):
 
 
 def tokens_of(line):
-    """The tokens of a line, and one that is its end."""
+    """The tokens of a line, and a last token for its end."""
     tokens, place, end = [], 0, len(line.rstrip(b" \t"))
     while place < end:
         found = TOKEN.match(line, place)
@@ -137,7 +137,7 @@ def tokens_of(line):
 
 
 class Reader:
-    """Reads the tokens of a line from the left. What it meets that no grammar has there is refused."""
+    """Reads the tokens of a line from left to right. A token that the grammar does not allow is a syntax error."""
 
     def __init__(self, line):
         self.tokens, self.at = tokens_of(line), 0
@@ -148,7 +148,7 @@ class Reader:
         return token.kind == "fixed" and token.text in texts
 
     def takes(self, text):
-        """Whether this keyword or symbol is next; then it is taken."""
+        """Consumes this keyword or symbol if it is next, and returns whether it was."""
         found = self.next_is(text)
         self.at += found
         return found
@@ -167,14 +167,14 @@ class Reader:
         return self.take_kind("name")
 
     def listed(self, read, between=b","):
-        """One or more of what is read, with a symbol or a keyword between them."""
+        """One or more phrases, separated by a symbol or a keyword."""
         found = [read()]
         while self.takes(between):
             found.append(read())
         return found
 
     def number(self, sign):
-        """The digits that are next as a number with this sign. A number past its limit is told when the whole line is read."""
+        """The next digits as a number with this sign. The whole line is read before a number past its limit is refused."""
         number = int(sign + self.take_kind("digits"))
         if not LEAST <= number <= GREATEST:
             self.faults.append(12)
@@ -259,7 +259,7 @@ class Reader:
         return table, self.listed(self.assign), self.where(self.own_field)
 
     def command(self):
-        """The command that is next: what it is called, and of what it is said."""
+        """The command: its keywords, and its arguments."""
         word = self.take_kind("fixed")
         if word in (b"DROP", b"SCAN") and self.takes(b"INDEX"):
             return word + b" INDEX", self.name()
@@ -291,7 +291,7 @@ class Reader:
 
 
 def read(line):
-    """The command of a line, or None where it is a comment or empty. Else it is refused, with 10, 11, 12 or 13."""
+    """The command of a line, or None for a comment or an empty line. Raises the refusal 10, 11, 12 or 13."""
     line = line.removesuffix(b"\r")
     refuse(10, len(line) > LONGEST_LINE)
     if line.startswith(b"--") or not line.strip(b" \t"):
@@ -317,14 +317,14 @@ def shown_rows(rows):
 
 
 class Table(NamedTuple):
-    """A table: its columns, its rows by their keys, and its indexes. A change makes a new one."""
+    """A table: its columns, its rows by key, and its indexes. It is immutable; a change creates a new one."""
 
     columns: tuple
     rows: dict
     indexes: tuple
 
     def place(self, name):
-        """The place of a column, or None."""
+        """The position of a column, or None."""
         return next((place for place, column in enumerate(self.columns) if column.name == name), None)
 
     def column(self, name):
@@ -337,7 +337,7 @@ class Table(NamedTuple):
         return [self.rows[key] for key in sorted(self.rows)]
 
     def index_on(self, name, kind):
-        """The name of the first index of a kind on a column, or None."""
+        """The name of the oldest index of a kind on a column, or None."""
         indexes = ((b"#key", self.columns[self.key()].name, b"TREE"), *self.indexes)
         return next((index for index, column, its_kind in indexes if (column, its_kind) == (name, kind)), None)
 
@@ -347,7 +347,7 @@ def aliases_of(test):
 
 
 def joins_of(query, place):
-    """The tests by which a table of FROM is joined: its own field, the field of a table before it, and whether there is no shift."""
+    """The tests that join a table of FROM: its own field, the field of an earlier table, and whether the test has no shift."""
     alias, earlier = query.items[place][1], [alias for _, alias in query.items[:place]]
     joins = []
     for left, operator, right in query.tests:
@@ -358,7 +358,7 @@ def joins_of(query, place):
 
 
 class Database:
-    """The tables, the standing queries, and in a transaction the rows as they were at its begin and at each of its savepoints."""
+    """The tables, the standing queries, and in a transaction the rows at its BEGIN and at each savepoint."""
 
     def __init__(self):
         self.tables, self.standing = {}, {}
@@ -375,7 +375,7 @@ class Database:
         return kept == others
 
     def answer(self, line):
-        """The reply to a line, with which its command is done."""
+        """Executes a line, and returns its reply."""
         try:
             command = read(line)
             if command is None:
@@ -416,15 +416,15 @@ class Database:
         return b"ok\n"
 
     def rows(self):
-        """The rows of each table, which no later change alters."""
+        """The rows of each table. Later changes do not alter them."""
         return {name: table.rows for name, table in self.tables.items()}
 
     def go_back(self, rows):
-        """Gives each table the rows that it had. Indexes that came or went since then are no part of that."""
+        """Restores the rows of each table, but not its indexes."""
         self.tables = {name: table._replace(rows=rows[name]) for name, table in self.tables.items()}
 
     def is_mismatch(self, tables, test):
-        """Whether the sides of a test or an assignment differ in type, or a text is shifted."""
+        """Whether the sides of a test or an assignment differ in type, or a text has a shift."""
         left = tables[test.left.alias].column(test.left.column).type
         named = test.right.field
         right = tables[named.alias].column(named.column).type if named else type_of(test.right.literal)
@@ -497,7 +497,7 @@ class Database:
         return b"ok %d\n" % len(met)
 
     def checked_table(self, name, assigns, tests):
-        """The table of an UPDATE or a DELETE, where its names and types are right."""
+        """The table of an UPDATE or a DELETE. Raises the refusals for its names and types."""
         refuse(20, name not in self.tables)
         table, every = self.tables[name], [*assigns, *tests]
         fields = [test.left for test in every] + [test.right.field for test in every if test.right.field]
@@ -512,7 +512,7 @@ class Database:
         return [combination[b""] for combination in self.combinations(query)]
 
     def change(self, name, pairs):
-        """Puts new rows in the places of old ones, where an old one may be None."""
+        """Replaces old rows by new ones. An old row of None makes it an insert."""
         table = self.tables[name]
         key, old_keys = table.key(), {old[table.key()] for old, _ in pairs if old}
         new = [row for _, row in pairs]
@@ -528,7 +528,7 @@ class Database:
         return b"ok %d\n" % len(pairs)
 
     def put(self, rows):
-        """Gives some tables these rows, unless a standing query would get too large by that."""
+        """Replaces the rows of some tables, unless a standing query would become too large."""
         before = self.tables
         self.tables = {name: table._replace(rows=rows.get(name, table.rows)) for name, table in before.items()}
         if any(self.is_too_large(query) for query in self.standing.values() if rows.keys() & dict(query.items).keys()):
@@ -536,11 +536,11 @@ class Database:
             raise Refused(47)
 
     def rows_without(self, name, keys):
-        """The rows of a table, by their keys, but those of some keys."""
+        """The rows of a table by key, without some keys."""
         return {key: row for key, row in self.tables[name].rows.items() if key not in keys}
 
     def referred_keys(self, name, gone):
-        """The keys of a table to which rows of other tables refer, where some rows of each table, by their keys, count as gone."""
+        """The keys of a table that rows of other tables refer to, without the rows with the keys in `gone`."""
         keys = set()
         for other, table in self.tables.items():
             places = [place for place, column in enumerate(table.columns) if column.target == name]
@@ -548,8 +548,7 @@ class Database:
         return keys
 
     def with_referring(self, name, keys):
-        """The keys of the rows that go with those of a table, for each table. A row goes if a column with CASCADE refers to one
-        that goes."""
+        """For each table, the keys of the rows deleted with those of one table: the rows whose CASCADE columns refer to a deleted row."""
         gone = {other: set(keys if other == name else ()) for other in self.tables}
         while more := [(other, key) for other in self.tables for key in self.referring_keys(other, gone) - gone[other]]:
             for other, key in more:
@@ -557,7 +556,7 @@ class Database:
         return gone
 
     def referring_keys(self, name, gone):
-        """The keys of the rows of a table that refer to a row that goes by a column with CASCADE."""
+        """The keys of a table's rows that refer to a row in `gone` by a CASCADE column."""
         table = self.tables[name]
         targets = [(place, gone[column.target]) for place, column in enumerate(table.columns) if column.cascades]
         return {key for key, row in table.rows.items() if any(row[place] in keys for place, keys in targets)}
@@ -574,7 +573,7 @@ class Database:
         return shown_rows(sorted(table.in_order(), key=lambda row: row[place]))
 
     def check_query(self, query, is_taken=False, is_one_too_many=False):
-        """Refuses a query. That of a new standing query is also refused where the name is taken or there are too many."""
+        """Raises the refusals of a query, and those of a new standing query's name and number."""
         refuse(20, any(name not in self.tables for name, _ in query.items))
         tables = {alias: self.tables[name] for name, alias in reversed(query.items)}
         fields = [*query.fields, *(test.left for test in query.tests), *(test.right.field for test in query.tests if test.right.field)]
@@ -588,7 +587,7 @@ class Database:
         refuse(48, len(query.tests) > MOST_TESTS or len(query.order) > MOST_PLACES)
 
     def value(self, value, tables, rows):
-        """The right side of a test or an assignment, for a row of each alias."""
+        """The value of the right side of a test or an assignment, given a row for each alias."""
         if value.field is None:
             return value.literal
         found = rows[value.field.alias][tables[value.field.alias].place(value.field.column)]
@@ -599,7 +598,7 @@ class Database:
         return OPERATORS[test.operator](left, self.value(test.right, tables, rows))
 
     def combinations(self, query):
-        """The combinations of rows that meet the tests of a query, each a row for each alias."""
+        """The combinations of rows that satisfy the tests of a query, each with a row for each alias."""
         tables = {alias: self.tables[name] for name, alias in query.items}
         found = iter([{}])
         for place, (name, alias) in enumerate(query.items):
@@ -609,7 +608,7 @@ class Database:
         return found
 
     def extended(self, combinations, alias, tables, tests):
-        """The combinations with each row of one more table that meets these tests."""
+        """The combinations extended by each row of one more table that satisfies these tests."""
         for combination in combinations:
             for row in tables[alias].in_order():
                 rows = {**combination, alias: row}
@@ -664,7 +663,7 @@ class Database:
         return b"".join(alias + b" " + step + b"\n" for (_, alias), step in zip(query.items, steps)) + b"steps %d\n" % len(steps)
 
     def first_access(self, query):
-        """How the first table of a query is gone along."""
+        """The access path of the first table of a query."""
         name, alias = query.items[0]
         constants = [(test.operator == b"=", test.left.column) for test in query.tests if test.left.alias == alias and not test.right.field]
         for is_equality, kind, step in ((True, b"HASH", b"hash %s"), (True, b"TREE", b"tree %s ="), (False, b"TREE", b"tree %s range")):
@@ -675,7 +674,7 @@ class Database:
         return b"scan"
 
     def next_access(self, query, place, is_first_scanned):
-        """How a further table of a query is gone along."""
+        """The join method of a further table of a query."""
         names = {alias: name for name, alias in query.items}
         first, name = query.items[0][0], query.items[place][0]
         table, joins = self.tables[name], joins_of(query, place)

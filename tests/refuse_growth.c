@@ -1,26 +1,25 @@
-/* Preloaded, it refuses a program of one thread one growth of its memory, as a system that has no more would:
+/* A preloaded library that makes one growth of memory of a single-threaded program fail, as if memory had run out:
 
      cc -shared -fPIC -o refuse_growth.so refuse_growth.c
      LD_PRELOAD=./refuse_growth.so REFUSE_GROWTH=7 REFUSE_GROWTH_REPORT=3 PROGRAM < INPUT > OUTPUT 3> REPORT
 
-   A growth is a call of malloc or calloc, or of realloc to a greater size than was asked for the block before. Growths
-   are counted from 1. The one that REFUSE_GROWTH names gets no memory, and ENOMEM; all others go to the C library. With
-   7+ in place of 7 those behind the seventh are refused too, until standard output has grown. With 0, or where it is
-   left out, none is refused. When the program ends, a line is written to the descriptor that REFUSE_GROWTH_REPORT names:
+   A growth is a call of malloc or calloc, or of realloc to a larger size than the block was requested with. Growths are
+   counted from 1. The growth with the number REFUSE_GROWTH returns NULL with ENOMEM. With 7+ instead of 7, all growths
+   from the seventh fail until the program has written to standard output. With 0 or without the variable, none fails. At
+   its end the program writes a line to the descriptor REFUSE_GROWTH_REPORT:
 
      GROWTHS READ WRITTEN
 
-   That is the number of growths, and the bytes of standard input and of standard output up to the first growth that was
-   refused, both -1 where none was. Input and output have to be files for that.
+   These are the number of growths, and the bytes of standard input and standard output up to the first growth that
+   failed, or -1 if none failed. Input and output must be files for this.
 
-   Only growths of the program itself are counted. The dynamic linker may take memory by these functions too, but no more
-   once it has run the constructor of this library, and the program's own code comes after that. The C library takes none
-   of its own where a program only reads and writes descriptors, as mmdb and the test programs do: the first growth of
-   mmdb is what its main asks for as the output's buffer, and the second comes after the first read; the first growth of a
-   test program is one of the test that it runs.
+   Only growths of the program itself count. The dynamic linker may allocate by these functions, but not after it has run
+   the constructor of this library, which is before the program's own code. The C library allocates nothing for a program
+   that only reads and writes descriptors, as mmdb and the test programs do. So the first growth of mmdb is the buffer of
+   its output, and the second comes after the first read; the first growth of a test program is one of its test.
 
-   They take memory by malloc and realloc alone. Nothing is known here of posix_memalign and the like; a block of theirs
-   must not be given to realloc. */
+   The programs allocate only with malloc and realloc. The library does not support posix_memalign and the like: a block
+   from them must not be passed to realloc. */
 #include <errno.h>
 #include <malloc.h>
 #include <stdint.h>
@@ -29,7 +28,7 @@
 #include <string.h>
 #include <unistd.h>
 
-/* The C library's own functions by their second names. To look up the first ones by dlsym may take memory itself. */
+/* The C library's functions by their internal names. Looking up the public names with dlsym may allocate. */
 void *__libc_malloc(size_t size);
 void *__libc_calloc(size_t count, size_t size);
 void *__libc_realloc(void *block, size_t size);
@@ -41,7 +40,7 @@ static unsigned long growths = 0;
 static long bytes_read = -1;
 static long bytes_written = -1;
 
-/* Counts a growth, and tells whether it is to be refused. */
+/* Counts a growth, and returns whether it fails. */
 static int is_refused(void) {
   if (!counts || ++growths < refused || refused == 0) return 0;
   long written = lseek(STDOUT_FILENO, 0, SEEK_CUR);
@@ -55,8 +54,8 @@ static int is_refused(void) {
   return 1;
 }
 
-/* The size that was asked for stands in the last bytes of a block, which is made greater by that much. The C library
-   knows only what it has rounded the size up to, and by that a small growth would be none. */
+/* The last bytes of each block, which is larger by that much, store the requested size. The C library knows only the
+   rounded size, by which a small growth would not be one. */
 static size_t with_room(size_t size) { return size > SIZE_MAX - sizeof size ? SIZE_MAX : size + sizeof size; }
 
 static char *place_of_size(void *block) { return (char *)block + malloc_usable_size(block) - sizeof(size_t); }

@@ -1,40 +1,37 @@
 #!/usr/bin/env python3
-"""Runs scripts through the program, and typed tests, where in each run one growth of memory is refused.
+"""Runs scripts and typed tests with failing allocations: in each run, one growth of memory fails.
 
     tests/refused_growths.py [PROGRAM]
     tests/refused_growths.py --scripts PROGRAM
     tests/refused_growths.py --tests CRATE..
 
-The second form runs the scripts alone, and the third one the typed tests of some crates.
+The second form runs only the scripts, and the third only the typed tests of some crates. A growth is an allocation, or a reallocation to
+a larger block (refuse_growth.c).
 
-The scripts are those of tests/rows, in all its folders, and of examples, and for transactions and standing queries some that are
-made here. Each is run as many times as its run has growths of memory, and in the nth run the nth of them is refused. The replies
-must be those of the run in which none is refused, but that the line whose growth it was may be answered by 'error 90 memory', if it
-is a line that takes memory. Then
+Scripts. They are those of tests/rows and examples, and some with transactions and standing queries that are generated here. Each script
+runs once for each growth of its run, and the nth growth fails in the nth run. The replies must be those of the run without failures,
+except that the line whose growth failed may get 'error 90 memory' if it is a line that allocates. Then
 
-- the lines behind it must be answered as if it did not stand in the script: it has changed nothing;
-- in one run more it stands there twice, and all replies but the 90 must be right: it can be given again.
+- the later lines must get the replies that they get without the failed line, since a failed line changes nothing;
+- in another run the failed line occurs twice, and all replies but the 90 must be right, since the line can be repeated.
 
-Where no reply tells of the refusal, since the program has asked again or can do without, all growths from the nth up to the
-reply are refused in one run more, of which the same must hold. Where the output's buffer is refused, before anything is read,
-the run must end with status 2 and write nothing.
+If no reply shows the failure, because the program retries or does without the memory, another run fails all growths from the nth up to
+the reply, and the same must hold. If the buffer of the output cannot be allocated, the run must end with status 2 and write nothing.
 
-Each transaction is also cut off behind each of its lines, and the script that is left is tested so too, with the growths from
-BEGIN on, since those in front of it are refused in the runs of the whole script. With ROLLBACK there, scans, queries and
-standing queries must then answer what they did before BEGIN, but along indexes that came or went in the transaction; with COMMIT
-there, a further transaction must begin. Of the scripts that are made here, a savepoint stands in the middle of what is left too, with
-ROLLBACK TO at the end: then they must answer what they did at the savepoint. A line of the output says whether the program knows
-transactions. If it doesn't, though README.md has BEGIN among the commands, that fails.
+Transactions. Each transaction is also cut after each of its lines, and the shorter script is tested in the same way, with the growths
+from BEGIN on; the runs of the whole script cover the earlier ones. If the cut transaction ends with ROLLBACK, scans, queries and standing
+queries must then return what they returned before BEGIN, except by indexes that the transaction created or dropped. If it ends with
+COMMIT, another transaction must be able to begin. The generated scripts also set a savepoint in the middle of the shorter transaction
+and end with ROLLBACK TO: they must then return what they returned at the savepoint. A program without transactions fails.
 
-The typed tests are the #[test] functions of the crates whose names end in _growths. The test program that 'rt ci' leaves in a
-crate's out/, CRATE_tests, runs each by itself, as many times as its run has growths, and in the nth run the nth of them is refused;
-the program takes no memory of its own. Each run must pass. Where a call that is tested was refused, the test writes the line
-'refused' before it sees that nothing has changed and gives the call again. Where it writes no such line, since a list has asked
-again or the call can do without, all growths from the nth up to that line are refused in one run more. A test that writes it in no
-run shows nothing, and fails, and so does one that its crate's program doesn't have.
+Typed tests. They are the #[test] functions whose names end in _growths. The test program that 'rt ci' leaves in a crate's out/,
+CRATE_tests, runs each test alone, once for each growth of its run, and the nth growth fails in the nth run; the program itself allocates
+nothing. Each run must pass. If the call under test fails, the test prints the line 'refused', checks that nothing has changed, and repeats
+the call. If it prints no such line, because a list retries or the call does without the memory, another run fails all growths from the
+nth up to that line. A test that prints it in no run proves nothing, and fails. So does a test that its crate's program does not have.
 
-The C compiler, cc, makes the library that refuses, in a temporary folder: refuse_growth.c, which says what a growth is. The status
-is 0 only if there was some of all that is to be run, and all passed.
+The C compiler, cc, builds the library that fails growths, refuse_growth.c, in a temporary folder. The exit status is 0 if there were
+scripts and tests to run, and all passed.
 """
 
 import glob
@@ -60,24 +57,24 @@ INDEX_COMMAND = re.compile(rb"[ \t]*(?:DROP[ \t]+)?INDEX[ \t]+([a-z][a-z0-9_]*)"
 QUESTION = {b"TABLE": b"SCAN ", b"INDEX": b"SCAN INDEX ", b"WATCH": b"SHOW "}
 SECONDS = 60
 
-# A typed test in a source file, in the list of a test program, and what it writes of a refused call and at its end.
+# A typed test in a source file and in the list of a test program, and what it prints after a failed call and at its end.
 TYPED_TEST = re.compile(r"#\[test\]\s+(?:#\[[^{}]*?\]\s+)*fn (\w+_growths)\(")
 LISTED_TEST = re.compile(r"^(\S+_growths): test$", re.MULTILINE)
 WAS_REFUSED = b"refused\n"
 TEST_PASSED = b"\ntest result: ok\n"
 
-# Where a run has very many growths, each of the first so many is refused, and then one in so many.
+# A run with very many growths fails each of the first ones, and then one in THEN_ONE_IN.
 EACH_OF_THE_FIRST = 2000
 THEN_ONE_IN = 37
 GROWTHS_OF_A_TASK = 25
 
 
 def rows(first, last):
-    """Rows with the keys from first to last, each with a number and a text that other rows have too."""
+    """Rows with the keys from first to last, whose numbers and texts repeat."""
     return ", ".join(f"({key}, {key * 7 % 23}, 'text {key % 9}')" for key in range(first, last + 1))
 
 
-# A table with an index of each kind: rows come, get other keys and other values in the indexes, and go.
+# A table with an index of each kind. Rows are inserted, get other keys and other indexed values, and are deleted.
 INDEXED = f"""
 TABLE t (id INT KEY, k INT, s TEXT)
 INDEX by_k ON t (k) TREE
@@ -100,8 +97,8 @@ SELECT x.id FROM t x WHERE x.k >= 5 AND x.k < 9
 SELECT x.k FROM t x WHERE x.id = 17
 """
 
-# Two tables, of which one refers to the other. The queries follow the references, and behind them stand lines that are refused
-# before BEGIN by what refers to what, so they have to be refused after ROLLBACK.
+# Two tables, one of which refers to the other. The queries follow the references. The lines after them are refused before BEGIN because of
+# references, so they must be refused after ROLLBACK.
 REFERRING = f"""
 TABLE a (id INT KEY, k INT, name TEXT)
 TABLE b (id INT KEY, r INT REF a)
@@ -131,8 +128,7 @@ INSERT b (8, 9)
 INSERT a (8, 1, 'again')
 """
 
-# Standing queries over one table, over two, and over one table twice. Most changes concern several lists, and rows of them come
-# again that went.
+# Standing queries over one table, over two, and over one table twice. Most changes affect several lists, and insert rows that were deleted.
 STANDING = f"""
 TABLE t (id INT KEY, k INT, s TEXT)
 TABLE u (id INT KEY, r INT REF t)
@@ -160,8 +156,8 @@ SELECT a.s, b.id FROM t a, u b WHERE b.r = a.id
 SELECT DISTINCT a.k, b.s FROM t a, t b WHERE a.k = b.k AND a.id < b.id
 """
 
-# Savepoints, of which two have one name, and indexes that come and go between them. A new index has to find room for the rows that
-# went before it was made, since these may come back.
+# Savepoints, two of which have one name, and indexes created and dropped between them. A new index must reserve capacity for rows that were
+# deleted before it was created, since a rollback may restore them.
 DIVIDED = f"""
 TABLE t (id INT KEY, k INT, s TEXT)
 TABLE u (id INT KEY, r INT REF t)
@@ -204,12 +200,12 @@ def lines_of(text):
 
 
 def words(line):
-    """A line without the carriage return that may end it and without the blanks around it."""
+    """A line without a final carriage return and without the blanks around it."""
     return line.removesuffix(b"\r").strip(b" \t")
 
 
 def takes_no_memory(line):
-    """Whether the line begins or ends a transaction, or goes back to a savepoint."""
+    """Whether the line begins or ends a transaction, or rolls back to a savepoint."""
     return words(line) in BEGINS_OR_ENDS or GOES_BACK.fullmatch(words(line)) is not None
 
 
@@ -222,7 +218,7 @@ def has_reply(line):
 
 
 def replies_in(written):
-    """The replies that are whole in what was written, and what stands behind them."""
+    """The complete replies in the output, and the rest after them."""
     replies, reply = [], b""
     for line in io.BytesIO(written):
         reply += line
@@ -233,34 +229,34 @@ def replies_in(written):
 
 
 def shown(value):
-    """The front of a line or a reply as it is printed."""
+    """The start of a line or a reply, for messages."""
     return str(value)[1:160]
 
 
 def difference(lines, wanted, replies):
-    """The first line of a script with another reply than is wanted, or None."""
+    """The first line of a script with a wrong reply, or None."""
     answered = [line for line in lines if has_reply(line)]
     for line, one, other in itertools.zip_longest(answered, wanted, replies, fillvalue=b"(nothing)"):
         if one != other:
-            return f"{shown(line)} wants {shown(one)} and got {shown(other)}"
+            return f"{shown(line)}: expected {shown(one)}, got {shown(other)}"
     return None
 
 
 class Run:
-    """What a run of the program wrote, and how far it was when the growth was refused."""
+    """The output of a run, and how far it was when the growth failed."""
 
     def __init__(self, written, ended, report):
         self.growths, self.bytes_read, bytes_written = map(int, report.split() or [0, -1, -1])
         self.lines_answered = len(replies_in(written[: max(bytes_written, 0)])[0])
         self.replies, rest = replies_in(written)
-        # Half a reply and a status that is not 0 are compared with the replies, as if they were some.
+        # An incomplete reply and an exit status other than 0 count as replies, so comparisons find them.
         self.replies += [rest] if rest else []
         self.replies += [ended] if ended != b"status 0" else []
 
 
 def ran(command, library, refused="0", given=b"", **files):
-    """What a command wrote, how it ended, and the library's report, where a growth is refused, or with '+' behind its number all
-    from there to the next output."""
+    """The output of a command, how it ended, and the library's report. `refused` is the number of the growth that fails; with a final '+', all
+    growths from it to the next output fail."""
     with tempfile.TemporaryFile() as script, tempfile.TemporaryFile() as written, tempfile.TemporaryFile() as report:
         script.write(given)
         script.seek(0)
@@ -270,7 +266,7 @@ def ran(command, library, refused="0", given=b"", **files):
         try:
             ended = b"status %d" % subprocess.run(command, env=names, timeout=SECONDS, check=False, **files).returncode
         except subprocess.TimeoutExpired:
-            ended = b"no end within %d seconds" % SECONDS
+            ended = b"did not end within %d seconds" % SECONDS
         written.seek(0)
         report.seek(0)
         return written.read(), ended, report.read()
@@ -282,13 +278,13 @@ class Program:
         self.knows_transactions = self.run([b"BEGIN", b"ROLLBACK"]).replies != [b"error 11 syntax\n"] * 2
 
     def run(self, lines, refused="0"):
-        """The run on some lines where a growth is refused, or with '+' behind its number all from there to the reply."""
+        """The run of some lines in which a growth fails; with a final '+', all growths from it to the reply."""
         return Run(*ran([self.path], self.library, refused, b"\n".join(lines)))
 
 
 class Script:
-    """A script and the replies to it. Lines are meant by their places: some have to be granted, and some of those behind a
-    transaction have to be answered as others before it are. Growths are refused from the line at a place on."""
+    """A script and its replies. `granted` are the lines that must get `ok`, and `same` pairs of lines that must get the same reply, by their
+    numbers. Growths fail from the line `start` on."""
 
     def __init__(self, program, name, lines, granted=(), same=(), start=0):
         self.program, self.name, self.lines = program, name, lines
@@ -305,20 +301,20 @@ class Script:
         return [*range(self.growths_before + 1, min(self.growths, each) + 1), *behind]
 
     def fault(self):
-        """What is wrong with the run in which nothing is refused, or None."""
+        """What is wrong with the run without failures, or None."""
         if not self.growths:
-            return "the run broke off, or the library was not loaded"
+            return "the run ended early, or the library was not loaded"
         if len(self.replies) != len(self.answered):
             return f"{len(self.answered)} lines got {len(self.replies)} replies"
         return self.broken_promise(self.replies)
 
     def fault_where_refused(self, refused):
-        """What is wrong with the run in which a growth is refused, or None."""
+        """What is wrong with the run in which a growth fails, or None."""
         run = self.program.run(self.lines, refused)
         if run.bytes_read == 0:
-            return None if run.replies == [b"status 2"] else f"there was no buffer, and the run gave {run.replies}"
+            return None if run.replies == [b"status 2"] else f"the output has no buffer, but the run wrote {run.replies}"
         if run.bytes_read < 0:
-            return difference(self.lines, self.replies, run.replies) or "there was no such growth"
+            return difference(self.lines, self.replies, run.replies) or "the run has no such growth"
         if run.replies == self.replies:
             return None if refused.endswith("+") else self.fault_where_refused(refused + "+")
         at = run.lines_answered
@@ -326,7 +322,7 @@ class Script:
             wrong = difference(self.lines, self.replies, run.replies)
         else:
             wrong = self.fault_behind(run.replies, at) or self.fault_given_twice(refused, at) or self.broken_promise(run.replies)
-        return wrong and f"refused to {shown(self.line_of_reply(at))}: {wrong}"
+        return wrong and f"at {shown(self.line_of_reply(at))}: {wrong}"
 
     def line_of_reply(self, at):
         return self.lines[self.answered[at]] if at < len(self.answered) else b"(nothing)"
@@ -337,7 +333,7 @@ class Script:
         return not takes_none and not is_too_long(line)
 
     def fault_behind(self, replies, at):
-        """What is wrong with replies of which one is a 90, so that its line must have changed nothing."""
+        """What is wrong with the replies after a 90, whose line must have changed nothing."""
         if at not in self.replies_without:
             place = self.answered[at]
             self.replies_without[at] = self.program.run(self.lines[:place] + self.lines[place + 1 :]).replies
@@ -345,31 +341,31 @@ class Script:
         return difference(self.lines, others[:at] + [MEMORY] + others[at:], replies)
 
     def fault_given_twice(self, refused, at):
-        """What is wrong where the line of a reply stands in the script twice."""
+        """What is wrong with the run in which the failed line occurs twice."""
         place = self.answered[at]
         lines = self.lines[: place + 1] + self.lines[place:]
         wrong = difference(lines, self.replies[:at] + [MEMORY] + self.replies[at:], self.program.run(lines, refused).replies)
-        return wrong and f"given twice, {wrong}"
+        return wrong and f"with the line repeated: {wrong}"
 
     def broken_promise(self, replies):
-        """The first line that had to be granted, or answered as another one, and was not, or None."""
+        """The first line that did not get the `ok` or the repeated reply that it must get, or None."""
         reply_to = dict(zip(self.answered, replies))
         for place in self.granted:
-            # Where memory was refused to a SAVEPOINT, there is none to go back to.
+            # If SAVEPOINT failed, there is no savepoint to roll back to.
             if reply_to[place] != b"ok\n" and not (reply_to[place] == NO_SUCH_SAVEPOINT and MEMORY in replies):
                 return f"{shown(self.lines[place])} got {shown(reply_to[place])}"
-        # Without a table that refers to it, a row can be changed before BEGIN. Then there is nothing to compare.
+        # If no table refers to a row, the lines before BEGIN can change it. Then there is nothing to compare.
         if any(reply_to[place].startswith(b"ok") for place, _ in self.same):
             return None
         for place, other in self.same:
             both = reply_to[place], reply_to[other]
             if MEMORY not in both and both[0] != both[1]:
-                return f"{shown(self.lines[place])} got {shown(both[0])} at first and {shown(both[1])} after the rollback"
+                return f"{shown(self.lines[place])} got {shown(both[0])} before and {shown(both[1])} after the rollback"
         return None
 
 
 def transactions(script):
-    """The places of each BEGIN that was granted, and of the line that ended its transaction, or of the script's end."""
+    """The places of each successful BEGIN and of the end of its transaction or of the script."""
     begin = None
     for place, reply in zip(script.answered, script.replies):
         if reply == b"ok\n" and words(script.lines[place]) in BEGINS_OR_ENDS:
@@ -381,21 +377,21 @@ def transactions(script):
 
 
 def questions(before, queries=()):
-    """Lines that ask for all that the lines before them have defined."""
+    """Lines that read everything that the lines before them have defined."""
     defined = dict.fromkeys(found.groups() for found in map(DEFINITION.match, before) if found)
     return [*(QUESTION[kind] + name for kind, name in defined), b"TABLES", *queries]
 
 
 def compared(asked, first, then, inside):
-    """The places of questions that are asked twice, between which some lines stand, and that must then have one answer: all but
-    those that tell of an index that such a line makes or drops."""
+    """The pairs of places of queries that run twice, with some lines in between, and must get the same reply: all except those about an index
+    that such a line creates or drops."""
     indexes = [found.group(1) for found in map(INDEX_COMMAND.match, inside) if found]
     left_out = [QUESTION[b"INDEX"] + name for name in indexes] + ([b"TABLES"] if indexes else [])
     return [(first + number, then + number) for number, line in enumerate(asked) if line not in left_out]
 
 
 def cuts(script, queries=()):
-    """Two scripts for each line of a script's transactions, which end the transaction behind it."""
+    """Two scripts for each line of a script's transactions, which end the transaction after that line."""
     for begin, end in transactions(script):
         before = script.lines[:begin]
         asked = questions(before, queries)
@@ -413,8 +409,8 @@ def cuts(script, queries=()):
 
 
 def divisions(script, queries):
-    """A script for each line of a script's transactions: it has a savepoint in the middle of the transaction's lines up to there, and
-    goes back to it behind them. Where they go back by themselves in between, it may be gone, so there is none."""
+    """A script for each line of a script's transactions: it sets a savepoint in the middle of the lines up to there, and rolls back to it after
+    them. Skips lines that roll back in between, since they may remove the savepoint."""
     for begin, end in transactions(script):
         asked = questions(script.lines[:begin], queries)
         for behind in range(begin + 1, end):
@@ -431,14 +427,14 @@ def divisions(script, queries):
 
 
 def kept_scripts(program):
-    """The scripts of tests/rows, in all its folders, and of examples."""
+    """The scripts of tests/rows and examples."""
     for path in sorted(glob.glob(f"{TOP}/tests/rows/**/*.in", recursive=True)) + sorted(glob.glob(f"{TOP}/examples/*.mmdb")):
         with open(path, "rb") as file:
             yield Script(program, os.path.relpath(path, TOP), file.read().split(b"\n"))
 
 
 def made_scripts(program):
-    """The scripts with transactions that are made here, whole and cut off."""
+    """The generated scripts with transactions, whole and cut."""
     made = [
         ("indexed", INDEXED, INDEXED_QUERIES),
         ("referring", REFERRING, REFERRING_QUERIES),
@@ -454,7 +450,7 @@ def made_scripts(program):
 
 
 def all_scripts(program):
-    """The scripts to be run; transactions are cut off and made only if the program knows them."""
+    """All scripts. Transactions are generated and cut only if the program knows them."""
     scripts = list(kept_scripts(program))
     if program.knows_transactions:
         scripts += [cut for script in scripts for cut in cuts(script)]
@@ -463,23 +459,23 @@ def all_scripts(program):
 
 
 def tasks_of(script):
-    """The growths of a script's run that are to be refused, in parts."""
+    """The growths of a script's run that fail, in batches."""
     growths, all_growths = script.chosen_growths(), script.growths - script.growths_before
     if len(growths) < all_growths:
         chosen = f"the first {EACH_OF_THE_FIRST} and then one in {THEN_ONE_IN}"
-        print(f"{script.name}: of {all_growths} growths {chosen} are refused.")
+        print(f"{script.name}: of {all_growths} growths, {chosen} fail")
     return [(script, growths[start : start + GROWTHS_OF_A_TASK]) for start in range(0, len(growths), GROWTHS_OF_A_TASK)]
 
 
 def faults_of(task):
-    """The name of a script, and its faults where some growths are refused."""
+    """The name of a script, and what is wrong when these growths fail."""
     script, growths = task
     faults = [(growth, script.fault_where_refused(str(growth))) for growth in growths]
     return script.name, [f"growth {growth}, {fault}" for growth, fault in faults if fault]
 
 
 def failures(scripts):
-    """How many scripts fail. The first fault of each is told, and how many more growths lead to one."""
+    """The number of scripts that fail. Prints the first fault of each, and the number of further faults."""
     faults = {script.name: [fault] if (fault := script.fault()) else [] for script in scripts}
     tasks = [task for script in scripts for task in tasks_of(script)]
     with multiprocessing.Pool(os.cpu_count()) as pool:
@@ -487,39 +483,35 @@ def failures(scripts):
             faults[name] += found
     for name, found in faults.items():
         if found:
-            print(f"differs: {name}: {found[0]}" + (f" (and {len(found) - 1} more)" if found[1:] else ""))
-    print(f"{sum(len(growths) for _, growths in tasks)} growths were refused, in runs of {len(scripts)} scripts.")
+            print(f"failed: {name}: {found[0]}" + (f" (and {len(found) - 1} more)" if found[1:] else ""))
+    print(f"{sum(len(growths) for _, growths in tasks)} growths failed, in runs of {len(scripts)} scripts")
     return sum(1 for found in faults.values() if found)
 
 
 def lacks_transactions(program):
-    """Whether README.md has commands for transactions and the program none, and tells whether these are tested."""
-    with open(f"{TOP}/README.md", encoding="utf-8") as readme:
-        are_promised = any(line.startswith("|") and "`BEGIN" in line for line in readme)
-    if program.knows_transactions:
-        print("The program knows BEGIN, so transactions are tested.")
-        return False
-    print("The program doesn't know BEGIN, so no transaction is tested" + (", though README.md has it." if are_promised else "."))
-    return are_promised
+    """Whether the program has no transactions, which is a failure. Prints it."""
+    if not program.knows_transactions:
+        print("failed: the program does not know BEGIN, so no transaction is tested")
+    return not program.knows_transactions
 
 
 class TypedTest:
-    """A test of a crate, which its test program runs by itself."""
+    """A test of a crate, which its test program runs alone."""
 
     def __init__(self, crate, name, library):
         self.name, self.library = f"{crate} {name}", library
         self.command = [test_program(crate), name]
 
     def run(self, refused):
-        """Whether a growth was refused, whether a tested call was, and what is wrong, or None."""
+        """Whether a growth failed, whether a call under test failed, and what is wrong, or None."""
         written, ended, report = ran(self.command, self.library, refused, stderr=subprocess.STDOUT)
         was_refused = int((report.split() or [0, -1])[1]) >= 0
         if ended != b"status 0" or not written.endswith(TEST_PASSED):
-            return was_refused, False, f"growth {refused}: it ended with {ended.decode()} and wrote {shown(written)}"
+            return was_refused, False, f"growth {refused}: the test ended with {ended.decode()} and wrote {shown(written)}"
         return was_refused, WAS_REFUSED in written, None
 
     def refusals(self):
-        """How many growths are refused in runs of the test until one fails, and what is wrong, or None."""
+        """The number of growths that failed in runs of the test, up to the first fault, and the fault, or None."""
         calls_refused = 0
         for growth in itertools.count(1):
             was_refused, call_refused, fault = self.run(str(growth))
@@ -531,9 +523,9 @@ class TypedTest:
                 break
             calls_refused += call_refused
         if not fault and call_refused:
-            fault = "it says of a call that it was refused where no growth was"
+            fault = "a call under test failed although no growth did"
         if not fault and not calls_refused:
-            fault = f"no call was refused by want of any of {growth - 1} growths"
+            fault = f"no call under test failed in {growth - 1} runs"
         return growth - 1, fault
 
 
@@ -542,7 +534,7 @@ def test_program(crate):
 
 
 def tests_in_sources(crate):
-    """The names of the typed tests in a crate's sources, as its test program has them: with their modules."""
+    """The names of the typed tests in a crate's sources, with their modules, as its test program names them."""
     sources = f"{TOP}/crates/{crate}/src"
     for path in glob.glob(f"{sources}/**/*.rt", recursive=True):
         module = os.path.relpath(path, sources).removesuffix(".rt").replace("/", "::")
@@ -551,7 +543,7 @@ def tests_in_sources(crate):
 
 
 def tests_in_program(crate):
-    """The names of the typed tests in a crate's test program, and none where there is no such program."""
+    """The names of the typed tests in a crate's test program: none if there is no such program."""
     try:
         listed = subprocess.run([test_program(crate), "--list"], check=True, capture_output=True, text=True).stdout
     except (OSError, subprocess.CalledProcessError):
@@ -560,13 +552,13 @@ def tests_in_program(crate):
 
 
 def typed_tests(crates, library):
-    """The typed tests that the programs of some crates have, and how many they should have and don't, which are told."""
+    """The typed tests in the programs of some crates, and the number of tests that these lack. Prints the missing ones."""
     tests, missing = [], 0
     for crate in crates:
         wanted, found = set(tests_in_sources(crate)), set(tests_in_program(crate))
         tests += [TypedTest(crate, name, library) for name in sorted(found)]
         for name in sorted(wanted - found):
-            print(f"differs: {crate} {name}: {test_program(crate)} doesn't have it. 'rt ci' at the top of the repository builds it.")
+            print(f"failed: {crate} {name}: not in {test_program(crate)}, which 'rt ci' at the top of the repository builds")
             missing += 1
     return tests, missing
 
@@ -576,34 +568,34 @@ def refusals_of(test):
 
 
 def failed_tests(tests):
-    """How many typed tests fail. What is wrong with each is told."""
+    """The number of typed tests that fail. Prints what is wrong with each."""
     growths, failed = 0, 0
     with multiprocessing.Pool(os.cpu_count()) as pool:
         for name, refused, fault in pool.imap(refusals_of, tests):
             growths += refused
             if fault:
-                print(f"differs: {name}: {fault}")
+                print(f"failed: {name}: {fault}")
                 failed += 1
-    print(f"{growths} growths were refused, in runs of {len(tests)} typed tests.")
+    print(f"{growths} growths failed, in runs of {len(tests)} typed tests")
     return failed
 
 
 def library_in(folder):
-    """The library that refuses, made in a folder."""
+    """Builds the library that fails growths in a folder, and returns its path."""
     library = f"{folder}/refuse_growth.so"
     try:
         subprocess.run(["cc", "-O2", "-shared", "-fPIC", "-o", library, f"{TOP}/tests/refuse_growth.c"], check=True)
     except FileNotFoundError:
-        sys.exit("There is no C compiler cc, so no growth of memory can be refused.")
+        sys.exit("No C compiler cc, so no allocation can be made to fail.")
     except subprocess.CalledProcessError:
-        sys.exit("The C compiler made no library of tests/refuse_growth.c, so no growth of memory can be refused.")
+        sys.exit("The C compiler cannot build tests/refuse_growth.c, so no allocation can be made to fail.")
     return library
 
 
 def run_scripts(path, library):
-    """How many scripts there are, with the question after transactions, and how many fail."""
+    """The number of checks of scripts, with that of transactions, and the number that fail."""
     if not os.access(path, os.X_OK):
-        sys.exit(f"There is no program at {path}. 'rt ci' at the top of the repository builds it.")
+        sys.exit(f"No program at {path}. 'tools/build' builds it.")
     program = Program(path, library)
     scripts = all_scripts(program)
     if not scripts:
@@ -612,7 +604,7 @@ def run_scripts(path, library):
 
 
 def run_tests(crates, library):
-    """How many typed tests some crates have, and how many fail."""
+    """The number of typed tests of some crates, and the number that fail."""
     tests, missing = typed_tests(crates, library)
     if not tests and not missing:
         sys.exit("There are no typed tests.")
@@ -620,7 +612,7 @@ def run_tests(crates, library):
 
 
 def main():
-    # A test that fails aborts, and would leave a file of what it had in memory.
+    # A failing test aborts, and would leave a core file.
     resource.setrlimit(resource.RLIMIT_CORE, (0, 0))
     arguments = sys.argv[1:]
     with tempfile.TemporaryDirectory() as folder:
