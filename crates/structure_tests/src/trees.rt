@@ -152,7 +152,7 @@ fn assert_shrunk(rt: &impl Abort, tree: &TTree)
     assert_that(rt, tree.height() <= 4);
     let (at, questions) = found(tree, 1925);
     assert_same(rt, at, Some(numbered(1925)));
-    assert_that(rt, questions <= 9);
+    assert_that(rt, questions <= 11);
     assert_same(rt, found(tree, 5).0, None);
 }
 
@@ -487,6 +487,45 @@ fn assert_built(
     );
     assert_goes_over(rt, &tree, &refs);
     Ok(tree)
+}
+
+/// Asserts that a tree of one node finds the numbers below `count` and no others, with one comparison on the way down and seven inside.
+fn assert_found_in_one_node(rt: &impl Abort, tree: &TTree, count: u32)
+    requires { IsByPlace tree.now.refs }
+{
+    for number in 0..count {
+        assert_same(rt, found(tree, number), (Some(numbered(number)), 8));
+    }
+    assert_same(rt, found(tree, count), (None, 8));
+}
+
+#[test]
+fn each_entry_is_found_in_a_node_of_any_length(rt: HostRuntime) -> Result<(), Fail> {
+    for count in 1..17 {
+        let tree = assert_built(&rt, rt.alloc(), count, 1)?;
+        assert_found_in_one_node(&rt, &tree, count);
+    }
+    Ok(())
+}
+
+/// Removes the odd numbers from a tree of one node, and asserts that each is no longer found.
+fn remove_odd_numbers(rt: &impl Abort, tree: &mut TTree)
+    requires { IsByPlace tree.old.refs }
+{
+    for half in 0..8 {
+        let number = 2 * half + 1;
+        assert_that(rt, tree.remove(&ByPlace, numbered(number)));
+        assert_same(rt, found(tree, number), (None, 8));
+        assert_same(rt, found(tree, 2 * half), (Some(numbered(2 * half)), 8));
+    }
+}
+
+#[test]
+fn no_entry_is_found_between_two(rt: HostRuntime) -> Result<(), Fail> {
+    let mut tree = assert_built(&rt, rt.alloc(), 16, 1)?;
+    remove_odd_numbers(&rt, &mut tree);
+    assert_same(&rt, (tree.height(), tree.len()), (1, 8));
+    Ok(())
 }
 
 #[test]

@@ -13,7 +13,7 @@ use mm_order::{Probe, RefOrder, Seek};
 use mm_value::RowRef;
 use ttree_node::Node;
 
-/// An entry that fits the probe, by one question a node and five inside one.
+/// An entry that fits the probe, by one question a node and seven inside one.
 pub(crate) fn find_in<O: RefOrder, P: Probe>(
     tree: Option<&Node>,
     order: &O,
@@ -25,7 +25,7 @@ pub(crate) fn find_in<O: RefOrder, P: Probe>(
     ensures fits { IfSome result (λ r. P.place_of seek.old.probe r ≡ Equal) }
     ensures none { IfNone result (All (λ a. P.place_of seek.old.probe a ≢ Equal) (in_order (tree_of (option_copied tree.entry)))) }
     ensures probe { seek.new.probe ≡ seek.old.probe }
-    ensures steps { seek.new.count ≤ seek.old.count + height_of (tree_of (option_copied tree.entry)) + 5 }
+    ensures steps { seek.new.count ≤ seek.old.count + height_of (tree_of (option_copied tree.entry)) + 7 }
 {
     let node = bounding_node(tree, order, seek)?;
     find_fitting(node, seek)
@@ -65,7 +65,7 @@ fn find_fitting<P: Probe>(node: &Node, seek: &mut Seek<P>) -> Option<RowRef>
     requires covered { All (P.covers seek.old.probe) node.now.entries }
     requires rising { IsNonDecreasingBy (λ a. ordering_index (P.place_of seek.old.probe a)) node.now.entries }
     ensures probe { seek.new.probe ≡ seek.old.probe }
-    ensures five { seek.new.count ≤ seek.old.count + 5 }
+    ensures seven { seek.new.count ≤ seek.old.count + 7 }
     ensures held { IfSome result (Contains node.now.entries) }
     ensures fits { IfSome result (λ r. P.place_of seek.old.probe r ≡ Equal) }
     ensures none { IfNone result (All (λ a. P.place_of seek.old.probe a ≢ Equal) node.now.entries) }

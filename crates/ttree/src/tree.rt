@@ -101,7 +101,7 @@ impl TTree {
     }
 
     /// An entry that fits the probe of the search, none where none does. It asks one question a
-    /// node and five inside one, so at most 33 where the tree has at most 1,048,576 references.
+    /// node and seven inside one, so at most 35 where the tree has at most 1,048,576 references.
     #[tactic(auto, using(crate::proofs::Sizes::height_at_most_28))]
     pub fn find<O: RefOrder, P: Probe>(&self, order: &O, seek: &mut Seek<P>) -> Option<RowRef>
         requires ordered { IsOrdered (O.covers order.now) (O.cmp order.now) self.now.refs }
@@ -110,8 +110,8 @@ impl TTree {
         ensures fits { IfSome result (λ r. P.place_of seek.old.probe r ≡ Equal) }
         ensures none { IfNone result (All (λ a. P.place_of seek.old.probe a ≢ Equal) self.now.refs) }
         ensures probe { seek.new.probe ≡ seek.old.probe }
-        ensures steps { seek.new.count ≤ seek.old.count + self.now.height + 5 }
-        ensures at_most_33 { length self.now.refs ≤ 1048576 → seek.new.count ≤ seek.old.count + 33 }
+        ensures steps { seek.new.count ≤ seek.old.count + self.now.height + 7 }
+        ensures at_most_35 { length self.now.refs ≤ 1048576 → seek.new.count ≤ seek.old.count + 35 }
     {
         find_in(root_of(&self.root), order, seek)
     }
