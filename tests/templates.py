@@ -3,7 +3,8 @@
 
     tests/templates.py [PROGRAM [FIRST_SEED [SEEDS]]]
 
-The program keeps the template of a SELECT, an UPDATE or a DELETE that comes more than once with other literals, and runs its bound form.
+The program keeps the template of a SELECT, an INSERT, an UPDATE or a DELETE that comes more than once with other literals, and runs its
+bound form.
 Each seed writes a script that repeats some forms with other literals: small, negative and very large numbers, numbers with leading zeros,
 numbers beyond the limit, texts with quotes, question marks and minus signs, texts of the maximum length and longer ones, and values of the
 wrong type. In between the script creates and drops indexes, standing queries and a table whose columns change, and transactions commit,
@@ -111,6 +112,13 @@ INSERT w ($, #)
 INSERT v (#, #)
 INSERT v ($, #)
 INSERT v ($, #, #)
+INSERT t (#, #, $), (#, #, $)
+INSERT t(#,#,$)
+INSERT u (#, #, #), (#, #, #), (#, #, #)
+INSERT w ($, #), ($, #), ($, #), ($, #), ($, #), ($, #), ($, #), ($, #)
+INSERT w ($, #), ($, #), ($, #), ($, #), ($, #), ($, #), ($, #), ($, #), ($, #)
+INSERT t (#, #)
+INSERT zz (#)
 """
 OTHERS = b"""
 TABLES
@@ -185,7 +193,7 @@ def renamed(rng, form):
 
 def burst(rng, has_many_forms):
     """Lines of one kind: mostly one form, several times, with other literals."""
-    kind = rng.choices(["query", "change", "insert", "other", "definition", "transaction"], [40, 22, 12, 8, 12, 6])[0]
+    kind = rng.choices(["query", "change", "insert", "other", "definition", "transaction"], [36, 20, 18, 8, 12, 6])[0]
     if kind == "transaction":
         return [rng.choice(TRANSACTIONS)]
     form = rng.choice(FORMS[kind])

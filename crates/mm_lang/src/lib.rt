@@ -11,7 +11,7 @@ pub use read::keyword::Keyword;
 pub use read::places::{PlacedName, names_in, place_of_limit, place_of_syntax_error};
 pub use read::reading::{MAX_LINE_BYTES, parse};
 pub use read::template::{Template, holes_are_in_no_definition, prepare, templates_read_as_lines};
-pub use read::token::{Symbol, Token, split_token};
+pub use read::token::{Symbol, Token, begins_word, blank_len, split_token, word_len};
 pub use write::buffered_rows::write_buffered_rows;
 pub use write::reply_text::{
     definitions_are_listed_as_written, refusals_are_recognized, write_reply,

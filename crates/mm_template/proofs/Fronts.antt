@@ -1,5 +1,5 @@
 -- Bytes that are one token, whatever follows them that begins alike.
-use Rattle.std.proofs.Common.{◌≡◌, ◌<◌, ◌≤◌, ◌+◌, inl, inr, ⊎_elim, ℕ, suc, true, false, ◌&&◌, eqb, List, [], ◌∷◌, ◌++◌, length, take, drop, get_or}
+use Rattle.std.proofs.Common.{◌≡◌, ◌<◌, ◌≤◌, ◌+◌, inl, inr, ⊎_elim, ℕ, suc, Bool, true, false, ◌&&◌, eqb, List, [], ◌∷◌, ◌++◌, length, take, drop, get_or}
 use Rattle.std.proofs.Common.{one-add, refl, sym, ap, subst, ◌∙◌, arith}
 use Rattle.std.specs.List.{list_all, prefix_len}
 use Rattle.std.proofs.lemmas.Bool.{and_parts, cases_Bool, false≢true}
@@ -40,16 +40,16 @@ word_front b (c ∷ cs) tail all ends =
     let behind = (c ∷ cs) ++ tail in
     word_step b behind p.0 ∙ ap (λ joins. onto_word b joins (tokens behind)) q.0 ∙ ap (onto_word b true) (word_front c cs tail p.1 ends)
 
--- The longest run of word bytes has word bytes alone, and ends where no further one follows.
-run_all : (bytes : List ℕ) → list_all is_word_byte (take (prefix_len is_word_byte bytes) bytes) ≡ true
-run_all [] = refl
-run_all (b ∷ bs) =
+-- The longest run of word bytes has word bytes alone, as each longest run has, and ends where no further one follows.
+pub run_all : (p : ℕ → Bool) (bytes : List ℕ) → list_all p (take (prefix_len p bytes) bytes) ≡ true
+run_all p [] = refl
+run_all p (b ∷ bs) =
     ⊎_elim
-    (λ word.
-    ap (λ n. list_all is_word_byte (take n (b ∷ bs))) (run_yes is_word_byte b bs word)
-    ∙ ap (λ is. is && list_all is_word_byte (take (prefix_len is_word_byte bs) bs)) word ∙ run_all bs)
-    (λ other. ap (λ n. list_all is_word_byte (take n (b ∷ bs))) (run_no is_word_byte b bs other))
-    (cases_Bool (is_word_byte b))
+    (λ passes.
+    ap (λ n. list_all p (take n (b ∷ bs))) (run_yes p b bs passes)
+    ∙ ap (λ is. is && list_all p (take (prefix_len p bs) bs)) passes ∙ run_all p bs)
+    (λ fails. ap (λ n. list_all p (take n (b ∷ bs))) (run_no p b bs fails))
+    (cases_Bool (p b))
 
 run_ends : (bytes : List ℕ) → begins_word (drop (prefix_len is_word_byte bytes) bytes) ≡ false
 run_ends [] = refl
@@ -58,27 +58,6 @@ run_ends (b ∷ bs) =
     (λ word. ap (λ n. begins_word (drop n (b ∷ bs))) (run_yes is_word_byte b bs word) ∙ run_ends bs)
     (λ other. ap (λ n. begins_word (drop n (b ∷ bs))) (run_no is_word_byte b bs other) ∙ other)
     (cases_Bool (is_word_byte b))
-
--- A word.
-pub word_token : (bytes : List ℕ) (n : ℕ) → 0 < length bytes → is_word_byte (get_or bytes 0 0) ≡ true → n ≡ prefix_len is_word_byte bytes
-    → (0 < n) × IsOneToken false (take n bytes) (drop n bytes)
-word_token [] n some word run = absurd (omega arith)
-word_token (b ∷ bs) n some word run =
-    subst (λ k. (0 < k) × IsOneToken false (take k (b ∷ bs)) (drop k (b ∷ bs))) (sym (run ∙ run_yes is_word_byte b bs word)) (omega arith, one)
-  where
-    rest : List ℕ
-    rest = drop (prefix_len is_word_byte bs) bs
-
-    front : List ℕ
-    front = take (prefix_len is_word_byte bs) bs
-
-    one : IsOneToken false (b ∷ front) rest
-    one = record {
-      token = Word (b ∷ front);
-      is = λ tail begins. word_front b front tail (ap (λ is. is && list_all is_word_byte front) word ∙ run_all bs) (no_word tail rest begins (run_ends bs));
-      no_hole = refl;
-      no_sign = λ isnt. refl;
-    }
 
 -- ---- a minus
 
@@ -118,7 +97,9 @@ signed_token (b ∷ c ∷ cs) n some minus run long =
     one : is_word_byte c ≡ true → IsOneToken false (45 ∷ c ∷ front) rest
     one word = record {
       token = Signed (c ∷ front);
-      is = λ tail begins. signed_front c front tail (ap (λ is. is && list_all is_word_byte front) word ∙ run_all cs) (no_word tail rest begins (run_ends cs));
+      is = λ tail begins.
+          signed_front c front tail (ap (λ is. is && list_all is_word_byte front) word ∙ run_all is_word_byte cs)
+          (no_word tail rest begins (run_ends cs));
       no_hole = refl;
       no_sign = λ isnt. refl;
     }

@@ -1,5 +1,7 @@
 pub mod Cuts
 pub mod Fronts
+pub mod KeptBytes
 pub mod Pieces
 pub mod Readings
-pub mod WordBytes
+pub mod Runs
+pub mod Tokens

@@ -1,12 +1,11 @@
 //! Cutting of lines.
-ghost use Rattle.std.specs.Prelude.{◌≡◌, ◌≤◌, [], ◌∷◌, ◌++◌, IfSome, length, true};
+ghost use Rattle.std.specs.Prelude.{◌≡◌, [], ◌∷◌, ◌++◌, IfSome, true};
 ghost use Rattle.mm_template.specs.Cutting.{IsCut};
-ghost use Rattle.mm_template.specs.steps.Pieces.{CutsLiteral, Keeps, begins_keyword, cuts, is_sign_kind};
-ghost use Rattle.mm_template.specs.steps.Progress.{IsWhole, Skips};
+ghost use Rattle.mm_template.specs.steps.Pieces.{CutsLiteral, Keeps, begins_keyword};
+ghost use Rattle.mm_template.specs.steps.Progress.{IsWhole};
 
-use crate::piece::{
-    Kind, begins_text, begins_word, is_blank, is_letter, is_mark, other_piece, word_len,
-};
+use crate::piece::{begins_text, literal_len, operator_at, skip_blanks, skip_kept};
+use mm_lang::begins_word;
 use mm_value::{Value, read_literal};
 use std::alloc::Global;
 use std::marker::Model;
@@ -42,11 +41,12 @@ impl Cutter {
         }
     }
 
-    /// Cuts a line, without its line feed, and returns whether it was cut. A line is cut that begins with `SELECT`, `UPDATE` or
-    /// `DELETE`, has at most 512 bytes and 1 to 16 literals to be cut, no `?` outside a text, no byte of no token and no literal past
-    /// its limit. The template is the line with a `?` in place of each literal: of each number and text before `ORDER`, except a
-    /// minus and its digits after a word or a sign, which are the number of a shift. Allocates only where the line or a text is longer
-    /// than those before it, or the literals are more; returns false if an allocation fails.
+    /// Cuts a line, without its line feed, and returns whether it was cut. A line is cut that begins with `SELECT`, `INSERT`, `UPDATE`
+    /// or `DELETE`, has at most 512 bytes and 1 to 16 literals to be cut, no `?` outside a text, no text that is not to be cut, no byte
+    /// of no token and no literal past its limit. The template is the line with a `?` in place of each literal after a comparison, of
+    /// each number after a sign, and of each value of an INSERT. A minus directly before digits is cut with them, except after a word or
+    /// a sign, where both remain. Allocates only where the line or a text is longer than those before it, or the literals are more;
+    /// returns false if an allocation fails.
     pub fn cut(&mut self, alloc: Global, line: &[u8]) -> bool
         ensures { result ≡ true → IsCut line.now self.new.template self.new.values }
     {
@@ -84,17 +84,21 @@ impl Cutter {
         requires values { self.old.values ≡ [] }
         ensures { IfSome result (λ _. IsWhole line.now self.new.template self.new.values) }
     {
+        let is_insert = matches!(line, [b'I', ..]);
         let mut left = line;
-        let mut skipped = skip_kept(line, true, true);
-        while !skipped.rest.is_empty() {
-            let piece = other_piece(skipped.rest)?;
-            let (bytes, behind) = skipped.rest.split_at(piece.len);
-            if is_cut(piece.kind, skipped.is_before_order, skipped.may_be_signed)? {
-                let kept = &left[..left.len() - skipped.rest.len()];
-                self.cut_literal(alloc, kept, bytes, behind)?;
-                left = behind;
+        let mut rest = skip_kept(line, is_insert);
+        while !rest.is_empty() {
+            let operator = operator_at(rest)?;
+            let (_, behind) = rest.split_at(operator.len);
+            let operand = skip_blanks(behind);
+            let len = literal_len(operand, operator.takes_any)?;
+            let (literal, after) = operand.split_at(len);
+            if len > 0 {
+                let kept = &left[..left.len() - operand.len()];
+                self.cut_literal(alloc, kept, literal, after)?;
+                left = after;
             }
-            skipped = skip_kept(behind, skipped.is_before_order, !is_sign(piece.kind));
+            rest = skip_kept(after, is_insert);
         }
         self.keep(left)
     }
@@ -144,83 +148,10 @@ fn begins_as_cut_line(line: &[u8]) -> bool
 {
     let behind = match line {
         [b'S', b'E', b'L', b'E', b'C', b'T', behind @ ..] => behind,
+        [b'I', b'N', b'S', b'E', b'R', b'T', behind @ ..] => behind,
         [b'U', b'P', b'D', b'A', b'T', b'E', behind @ ..] => behind,
         [b'D', b'E', b'L', b'E', b'T', b'E', behind @ ..] => behind,
         _ => return false,
     };
     !begins_word(behind)
-}
-
-// What is left of a line after bytes that are kept.
-#[derive(Clone, Copy)]
-struct Skipped<'l> {
-    rest: &'l [u8],
-    // No word ORDER stands before the rest.
-    is_before_order: bool,
-    // A number with a minus may be cut at the front of the rest.
-    may_be_signed: bool,
-}
-
-// Skips blanks, words that begin with a letter or `_`, and symbols of one byte. Apart from its caller, so that its variables are in
-// registers.
-#[inline(never)]
-fn skip_kept(bytes: &[u8], is_before_order: bool, may_be_signed: bool) -> Skipped<'_>
-    ensures kept { Skips may_be_signed bytes.now result.may_be_signed result.rest.now }
-    ensures shorter { length result.rest.now ≤ length bytes.now }
-{
-    let mut rest = bytes;
-    let mut is_before_order = is_before_order;
-    let mut may_be_signed = may_be_signed;
-    while !rest.is_empty() {
-        let first = rest[0];
-        if is_letter(first) {
-            let (word, behind) = rest.split_at(word_len(rest));
-            is_before_order = is_before_order_after(word, is_before_order);
-            rest = behind;
-            may_be_signed = false;
-            continue;
-        }
-        if is_blank(first) {
-            rest = &rest[1..];
-            continue;
-        }
-        if !is_mark(first) {
-            break;
-        }
-        rest = &rest[1..];
-        may_be_signed = true;
-    }
-    Skipped {
-        rest,
-        is_before_order,
-        may_be_signed,
-    }
-}
-
-// Whether a piece is cut. Positions of ORDER are none of a template's holes, and no text is one: `None`. After a word a number with a
-// minus is a shift, whose hole needs a sign of its own.
-#[inline(always)]
-fn is_cut(kind: Kind, is_before_order: bool, may_be_signed: bool) -> Option<bool>
-    ensures { result ≡ cuts kind is_before_order may_be_signed }
-{
-    match kind {
-        Kind::Number => Some(is_before_order),
-        Kind::Signed => Some(is_before_order && may_be_signed),
-        Kind::Text if is_before_order => Some(true),
-        Kind::Text => None,
-        Kind::Sign | Kind::Comparison => Some(false),
-    }
-}
-
-#[inline(always)]
-fn is_sign(kind: Kind) -> bool
-    ensures { result ≡ is_sign_kind kind }
-{
-    matches!(kind, Kind::Sign)
-}
-
-// Whether no word ORDER stands before what follows a word.
-#[inline(always)]
-fn is_before_order_after(word: &[u8], is_before_order: bool) -> bool {
-    is_before_order && word != b"ORDER".as_slice()
 }

@@ -1,42 +1,32 @@
-//! The pieces of a line: blanks and tokens, as far as a cut has to tell them apart.
-ghost use Rattle.std.specs.Prelude.{◌≡◌, ◌<◌, ◌≤◌, IfSome, false, length, slice_index, slice_index_or, true};
+//! The pieces of a line: what a cut keeps, operators, and how long literals are.
+ghost use Rattle.std.specs.Prelude.{◌≡◌, ◌<◌, ◌≤◌, IfSome, drop, false, length, slice_index, slice_index_or, true};
 ghost use Rattle.std.specs.List.{prefix_len};
-ghost use Rattle.mm_lang.specs.Tokens.{begins_word, is_blank, is_word_byte};
-ghost use Rattle.mm_template.specs.steps.Pieces.{IsOneOf, IsPiece, begins_text, is_mark};
+ghost use Rattle.mm_lang.specs.Tokens.{is_blank};
+ghost use Rattle.mm_template.specs.steps.Pieces.{IsOneOf, IsOperator, MayBeCut, begins_text, is_kept_byte, is_passed};
 
-/// What a piece of a line is that is no blank, no word that begins with a letter or `_`, and no symbol of one byte.
-#[derive(Clone, Copy)]
-pub(crate) enum Kind {
-    /// A word that begins with a digit.
-    Number,
-    /// A minus and the word directly after it.
-    Signed,
-    /// A quote, and the bytes up to the closing one.
-    Text,
-    /// A plus, or a minus with no word directly after it.
-    Sign,
-    /// `<`, `<=`, `>` or `>=`.
-    Comparison,
-}
+use mm_lang::{blank_len, word_len};
 
-/// A piece at the front of some bytes.
+/// An operator at the front of some bytes.
 #[derive(Clone, Copy)]
-pub(crate) struct Piece {
-    pub(crate) kind: Kind,
+pub(crate) struct Operator {
+    /// Any literal may be cut behind it: it is a comparison, or in an INSERT a comma or an opening parenthesis. Else it is a sign, or a
+    /// minus and the word directly after it, and only a number without a minus may be cut.
+    pub(crate) takes_any: bool,
     pub(crate) len: usize,
 }
 
-/// Whether each byte may stand in a word: a letter, a digit or `_`.
-static WORD_BYTES: [bool; 256] = [
+/// Whether each byte remains in the template wherever it is outside texts, operators and the literals after them: a letter, a digit,
+/// `_`, a blank, `.`, `,`, `(` or `)`.
+static KEPT_BYTES: [bool; 256] = [
+    false, false, false, false, false, false, false, false, false, true, false, false, false,
     false, false, false, false, false, false, false, false, false, false, false, false, false,
-    false, false, false, false, false, false, false, false, false, false, false, false, false,
-    false, false, false, false, false, false, false, false, false, false, false, false, false,
-    false, false, false, false, false, false, false, false, false, true, true, true, true, true,
-    true, true, true, true, true, false, false, false, false, false, false, false, true, true,
+    false, false, false, false, false, false, true, false, false, false, false, false, false,
+    false, true, true, false, false, true, false, true, false, true, true, true, true, true, true,
+    true, true, true, true, false, false, false, false, false, false, false, true, true, true,
     true, true, true, true, true, true, true, true, true, true, true, true, true, true, true, true,
-    true, true, true, true, true, true, true, true, false, false, false, false, true, false, true,
+    true, true, true, true, true, true, true, false, false, false, false, true, false, true, true,
     true, true, true, true, true, true, true, true, true, true, true, true, true, true, true, true,
-    true, true, true, true, true, true, true, true, true, false, false, false, false, false, false,
+    true, true, true, true, true, true, true, true, false, false, false, false, false, false,
     false, false, false, false, false, false, false, false, false, false, false, false, false,
     false, false, false, false, false, false, false, false, false, false, false, false, false,
     false, false, false, false, false, false, false, false, false, false, false, false, false,
@@ -49,47 +39,75 @@ static WORD_BYTES: [bool; 256] = [
     false, false, false, false, false, false, false, false, false, false,
 ];
 
-/// The piece at the front of some bytes. `None` where no line is cut: at a `?`, a text that no quote closes, and a byte of no token.
+/// The rest of some bytes after names, keywords, other words, blanks, points, closing parentheses and, except in an INSERT, commas and
+/// opening parentheses. Most of a line is skipped here, so four bytes are tested at a time.
+pub(crate) fn skip_kept(bytes: &[u8], is_insert: bool) -> &[u8]
+    ensures rest { result.now ≡ drop (prefix_len (is_passed is_insert) bytes.now) bytes.now }
+    ensures shorter { length result.now ≤ length bytes.now }
+{
+    let mut rest = bytes;
+    while let [first, second, third, fourth, behind @ ..] = rest {
+        let are_kept = is_passed(*first, is_insert)
+            & is_passed(*second, is_insert)
+            & is_passed(*third, is_insert)
+            & is_passed(*fourth, is_insert);
+        if !are_kept {
+            break;
+        }
+        rest = behind;
+    }
+    &rest[passed_len(rest, is_insert)..]
+}
+
+/// The rest of some bytes after blanks.
 #[inline(always)]
-pub(crate) fn other_piece(bytes: &[u8]) -> Option<Piece>
+pub(crate) fn skip_blanks(bytes: &[u8]) -> &[u8]
+    ensures rest { result.now ≡ drop (prefix_len is_blank bytes.now) bytes.now }
+    ensures shorter { length result.now ≤ length bytes.now }
+{
+    &bytes[blank_len(bytes)..]
+}
+
+/// The operator at the front of some bytes. `None` where no line is cut: at a `?`, a text that follows no comparison, and a byte of
+/// no token.
+#[inline(always)]
+pub(crate) fn operator_at(bytes: &[u8]) -> Option<Operator>
     requires { 0 < length bytes.now }
-    ensures { IfSome result (λ piece. IsPiece bytes.now piece.kind piece.len) }
+    ensures { IfSome result (λ operator. IsOperator bytes.now operator.takes_any operator.len) }
 {
     match bytes[0] {
-        b'0'..=b'9' => Some(Piece {
-            kind: Kind::Number,
-            len: word_len(bytes),
-        }),
-        b'\'' => Some(Piece {
-            kind: Kind::Text,
-            len: text_len(bytes)?,
-        }),
-        b'-' => Some(minus_piece(bytes)),
-        b'+' => Some(Piece {
-            kind: Kind::Sign,
+        b'=' => Some(Operator {
+            takes_any: true,
             len: 1,
         }),
-        b'<' | b'>' => Some(comparison_piece(bytes)),
+        b'<' | b'>' => Some(comparison(bytes)),
+        b'+' => Some(Operator {
+            takes_any: false,
+            len: 1,
+        }),
+        b'-' => Some(minus(bytes)),
+        b',' => Some(Operator {
+            takes_any: true,
+            len: 1,
+        }),
+        b'(' => Some(Operator {
+            takes_any: true,
+            len: 1,
+        }),
         _ => None,
     }
 }
 
-/// The length of the longest run of letters, digits and `_` at the front.
+/// The length of the literal at the front of some bytes that follow an operator and blanks: 0 if none is to be cut there. `None` if no
+/// quote closes a text.
 #[inline(always)]
-pub(crate) fn word_len(bytes: &[u8]) -> usize
-    ensures run { result ≡ prefix_len is_word_byte bytes.now }
-    ensures in_range { result ≤ length bytes.now }
+pub(crate) fn literal_len(bytes: &[u8], takes_any: bool) -> Option<usize>
+    ensures { IfSome result (λ len. MayBeCut bytes.now takes_any len) }
 {
-    bytes.iter().take_while(|byte| is_word_byte(**byte)).count()
-}
-
-/// Whether some bytes begin with a letter, a digit or `_`.
-pub(crate) fn begins_word(bytes: &[u8]) -> bool
-    ensures { result ≡ begins_word bytes.now }
-{
-    match bytes.first() {
-        Some(byte) => is_word_byte(*byte),
-        None => false,
+    match bytes {
+        [b'0'..=b'9', ..] => Some(word_len(bytes)),
+        _ if takes_any => compared_len(bytes),
+        _ => Some(0),
     }
 }
 
@@ -100,36 +118,31 @@ pub(crate) fn begins_text(bytes: &[u8]) -> bool
     matches!(bytes, [b'\'', ..])
 }
 
-/// Whether a byte is a space or a tab.
-#[inline(always)]
-pub(crate) fn is_blank(byte: u8) -> bool
-    ensures { result ≡ is_blank byte }
+// The length of the longest run of bytes that are passed.
+fn passed_len(bytes: &[u8], is_insert: bool) -> usize
+    ensures run { result ≡ prefix_len (is_passed is_insert) bytes.now }
+    ensures in_range { result ≤ length bytes.now }
 {
-    matches!(byte, b' ' | b'\t')
+    bytes
+        .iter()
+        .take_while(|byte| is_passed(**byte, is_insert))
+        .count()
 }
 
-/// Whether a byte is a symbol of its own, whatever follows it, and no sign.
+// Whether a byte is kept, and nothing is looked for behind it. In an INSERT a value follows a comma or an opening parenthesis.
 #[inline(always)]
-pub(crate) fn is_mark(byte: u8) -> bool
-    ensures { result ≡ is_mark byte }
+fn is_passed(byte: u8, is_insert: bool) -> bool
+    ensures { result ≡ is_passed is_insert byte }
 {
-    matches!(byte, b'=' | b'.' | b',' | b'(' | b')')
+    is_kept_byte(byte) && !(is_insert && matches!(byte, b',' | b'('))
 }
 
-/// Whether a byte is a letter or `_`. No other byte of a token or blank is as great as `A`, so most are told apart by one comparison.
+// Whether a byte is kept.
 #[inline(always)]
-pub(crate) fn is_letter(byte: u8) -> bool
-    ensures { result ≡ true → is_word_byte byte ≡ true }
+fn is_kept_byte(byte: u8) -> bool
+    ensures { result ≡ is_kept_byte byte }
 {
-    byte >= b'A' && is_word_byte(byte)
-}
-
-// Whether a byte is a letter, a digit or `_`.
-#[inline(always)]
-fn is_word_byte(byte: u8) -> bool
-    ensures { result ≡ is_word_byte byte }
-{
-    is_marked(&WORD_BYTES, byte)
+    is_marked(&KEPT_BYTES, byte)
 }
 
 // Whether a table of all bytes marks this one.
@@ -140,40 +153,48 @@ fn is_marked(table: &[bool; 256], byte: u8) -> bool
     table[byte as usize]
 }
 
-// The piece of bytes that begin with a comparison.
-fn comparison_piece(bytes: &[u8]) -> Piece
+// The operator of bytes that begin with `<` or `>`.
+fn comparison(bytes: &[u8]) -> Operator
     requires some { 0 < length bytes.now }
     requires comparison { IsOneOf 60 62 (slice_index bytes.now 0) }
-    ensures { IsPiece bytes.now result.kind result.len }
+    ensures { IsOperator bytes.now result.takes_any result.len }
 {
     match bytes {
-        [_, b'=', ..] => Piece {
-            kind: Kind::Comparison,
+        [_, b'=', ..] => Operator {
+            takes_any: true,
             len: 2,
         },
-        _ => Piece {
-            kind: Kind::Comparison,
+        _ => Operator {
+            takes_any: true,
             len: 1,
         },
     }
 }
 
-// The piece of bytes that begin with a minus.
-fn minus_piece(bytes: &[u8]) -> Piece
+// The operator of bytes that begin with a minus.
+fn minus(bytes: &[u8]) -> Operator
     requires some { 0 < length bytes.now }
     requires minus { slice_index bytes.now 0 ≡ 45 }
-    ensures { IsPiece bytes.now result.kind result.len }
+    ensures { IsOperator bytes.now result.takes_any result.len }
 {
     let word = word_len(&bytes[1..]);
-    if word == 0 {
-        return Piece {
-            kind: Kind::Sign,
-            len: 1,
-        };
-    }
-    Piece {
-        kind: Kind::Signed,
+    Operator {
+        takes_any: false,
         len: 1 + word,
+    }
+}
+
+// The length of the text, or of the number with a minus, at the front of bytes that follow a comparison.
+fn compared_len(bytes: &[u8]) -> Option<usize>
+    ensures { IfSome result (λ len. len ≤ length bytes.now) }
+{
+    match bytes {
+        [b'\'', ..] => text_len(bytes),
+        [b'-', digits @ ..] => match word_len(digits) {
+            0 => Some(0),
+            word => Some(1 + word),
+        },
+        _ => Some(0),
     }
 }
 

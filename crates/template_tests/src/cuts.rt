@@ -99,6 +99,24 @@ fn numbers_with_a_minus_are_cut_with_it(rt: HostRuntime) -> Result<(), Fail> {
 }
 
 #[test]
+fn rows_are_cut(rt: HostRuntime) -> Result<(), Fail> {
+    expect_cut(
+        &rt,
+        b"INSERT t (1, -2, 'it''s')",
+        b"INSERT t (?, ?, ?)",
+        b"#1|-2|it's|",
+    );
+    expect_cut(
+        &rt,
+        b"INSERT t (1,'a'),(2,''), ( 3 , '?' )",
+        b"INSERT t (?,?),(?,?), ( ? , ? )",
+        b"#1|a|#2||#3|?|",
+    );
+    expect_cut(&rt, b"INSERT t5 (-0)", b"INSERT t5 (?)", b"#0|");
+    Ok(())
+}
+
+#[test]
 fn texts_are_cut(rt: HostRuntime) -> Result<(), Fail> {
     expect_cut(
         &rt,
@@ -189,13 +207,29 @@ fn positions_of_order_are_not_cut(rt: HostRuntime) -> Result<(), Fail> {
 }
 
 #[test]
+fn literals_elsewhere_are_not_cut(rt: HostRuntime) -> Result<(), Fail> {
+    expect_cut(
+        &rt,
+        b"SELECT 7, a.k FROM t5 a WHERE a.k3 = 1",
+        b"SELECT 7, a.k FROM t5 a WHERE a.k3 = ?",
+        b"#1|",
+    );
+    expect_whole(&rt, b"SELECT 7 FROM t a");
+    expect_whole(&rt, b"DELETE t WHERE 'a' = s AND k = 1");
+    expect_whole(&rt, b"UPDATE t SET n = k + 'a', m = 1");
+    Ok(())
+}
+
+#[test]
 fn other_lines_are_not_cut(rt: HostRuntime) -> Result<(), Fail> {
     expect_whole(&rt, b"");
     expect_whole(&rt, b"--SELECT 5");
     expect_whole(&rt, b" SELECT a.k FROM t a WHERE a.k = 1");
     expect_whole(&rt, b"SELECT a.k FROM t a");
     expect_whole(&rt, b"SELECT");
-    expect_whole(&rt, b"INSERT t (1)");
+    expect_whole(&rt, b"INSERT t");
+    expect_whole(&rt, b"INSERT_ t (1)");
+    expect_whole(&rt, b"SCAN t");
     expect_whole(&rt, b"EXPLAIN SELECT a.k FROM t a WHERE a.k = 1");
     expect_whole(&rt, b"WATCH w SELECT a.k FROM t a WHERE a.k = 1");
     expect_whole(&rt, b"select a.k FROM t a WHERE a.k = 1");
@@ -300,7 +334,7 @@ fn a_cutter_is_used_again(rt: HostRuntime) -> Result<(), Fail> {
     let second = cutter.cut(rt.alloc(), b"DELETE t WHERE k = 2");
     let is_template = cutter.template() == b"DELETE t WHERE k = ?".as_slice();
     let are_values = are_written_so(cutter.values(), b"#2|");
-    let third = cutter.cut(rt.alloc(), b"INSERT t (1)");
+    let third = cutter.cut(rt.alloc(), b"SCAN t");
     drop(cutter);
     assert!(rt; first);
     assert!(rt; second);

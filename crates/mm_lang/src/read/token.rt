@@ -91,8 +91,8 @@ fn skip_blanks(bytes: &[u8]) -> &[u8]
     &bytes[blank_len(bytes)..]
 }
 
-// The length of the longest run of blanks at the front.
-fn blank_len(bytes: &[u8]) -> usize
+/// The length of the longest run of blanks at the front.
+pub fn blank_len(bytes: &[u8]) -> usize
     ensures run { result ≡ prefix_len is_blank bytes.now }
     ensures in_range { result ≤ length bytes.now }
 {
@@ -114,12 +114,22 @@ fn split_first_token(bytes: &[u8]) -> (Token<'_>, &[u8])
     (Token::Word(word), rest)
 }
 
-// The length of the longest run of letters, digits and `_` at the front.
-fn word_len(bytes: &[u8]) -> usize
+/// The length of the longest run of letters, digits and `_` at the front.
+pub fn word_len(bytes: &[u8]) -> usize
     ensures run { result ≡ prefix_len is_word_byte bytes.now }
     ensures in_range { result ≤ length bytes.now }
 {
     bytes.iter().take_while(|b| is_word_byte(**b)).count()
+}
+
+/// Whether some bytes begin with a letter, a digit or `_`.
+pub fn begins_word(bytes: &[u8]) -> bool
+    ensures { result ≡ begins_word bytes.now }
+{
+    match bytes.first() {
+        Some(byte) => is_word_byte(*byte),
+        None => false,
+    }
 }
 
 // Of bytes whose first is no blank, quote or byte of a word.

@@ -1,14 +1,11 @@
 -- The pieces of a line, and what a cut does with each.
-use Rattle.std.specs.Prelude.{◌≡◌, ◌⊎◌, ℕ, ◌<◌, ◌≤◌, ◌==◌, Bool, true, false, ◌&&◌, ◌||◌, if◌then◌else◌, List, [], ◌∷◌, ◌++◌, Option, Some, None}
-use Rattle.std.specs.Prelude.{length, take, drop, slice_index}
+use Rattle.std.specs.Prelude.{◌≡◌, ◌⊎◌, ℕ, ◌<◌, ◌≤◌, ◌==◌, Bool, true, false, not, ◌&&◌, ◌||◌, List, [], ◌∷◌, ◌++◌, length, take, drop, slice_index}
 use Rattle.mm_value.specs.Literal.{Spells}
 use Rattle.mm_value.specs.declared.values.Value.{Value}
-use Rattle.mm_lang.specs.Tokens.{Token, Mark, begins_word, is_hole, tokens}
+use Rattle.mm_lang.specs.Tokens.{Token, Mark, begins_word, is_blank, is_hole, is_word_byte, tokens}
 use Rattle.mm_lang.specs.declared.read.token.Symbol.TheVariants.{Plus, Minus}
 use Rattle.mm_statement.specs.Texts.{begins_minus}
 use Rattle.mm_template.specs.Cutting.{Cut}
-use Rattle.mm_template.specs.declared.piece.Kind.{Kind as PieceKind}
-use Rattle.mm_template.specs.declared.piece.Kind.TheVariants as kind
 
 -- The token is a sign.
 abbrev pub is_sign : Token → Bool
@@ -16,9 +13,21 @@ is_sign (Mark Plus) = true
 is_sign (Mark Minus) = true
 is_sign token = false
 
--- The byte is a symbol of its own, whatever follows it.
+-- The byte is a symbol of its own, whatever follows it: `.`, `,`, `(` or `)`.
 abbrev pub is_mark : ℕ → Bool
-is_mark b = (b == 61) || (b == 46) || (b == 44) || (b == 40) || (b == 41)
+is_mark b = (b == 46) || (b == 44) || (b == 40) || (b == 41)
+
+-- The byte stands in a word, is a blank, or is such a symbol.
+abbrev pub is_kept_byte : ℕ → Bool
+is_kept_byte b = is_word_byte b || is_blank b || is_mark b
+
+-- The byte is a symbol that a value of an INSERT follows: `,` or `(`.
+abbrev pub is_before_value : ℕ → Bool
+is_before_value b = (b == 44) || (b == 40)
+
+-- The byte is kept, and nothing is looked for behind it: in an INSERT it is no symbol that a value follows.
+abbrev pub is_passed : Bool → ℕ → Bool
+is_passed is_insert b = is_kept_byte b && not (is_insert && is_before_value b)
 
 -- One of two bytes.
 abbrev pub IsOneOf : ℕ → ℕ → ℕ → Type 0
@@ -40,37 +49,21 @@ pub record IsOneToken (may_be_sign : Bool) (front rest : List ℕ) : Type 0 wher
   pub no_hole : is_hole token ≡ false
   pub no_sign : may_be_sign ≡ false → is_sign token ≡ false
 
--- The bytes at the front, before the rest, are a piece of this kind.
-abbrev pub IsOfKind : PieceKind → List ℕ → List ℕ → Type 0
-IsOfKind kind.Number front rest = IsOneToken false front rest × (begins_minus front ≡ false)
-IsOfKind kind.Signed front rest = IsOneToken false front rest
-IsOfKind kind.Text front rest = begins_minus front ≡ false
-IsOfKind kind.Sign front rest = IsOneToken true front rest
-IsOfKind kind.Comparison front rest = IsOneToken false front rest
-
--- The first bytes, as many as this, are a piece of this kind.
-pub record IsPiece (bytes : List ℕ) (kind : PieceKind) (len : ℕ) : Type 0 where
+-- The first bytes, as many as this, are an operator: one token, and no sign if any literal may be cut behind it.
+pub record IsOperator (bytes : List ℕ) (takes_any : Bool) (len : ℕ) : Type 0 where
   pub some : 0 < len
   pub fits : len ≤ length bytes
-  pub stands : IsOfKind kind (take len bytes) (drop len bytes)
+  pub is : IsOneToken (not takes_any) (take len bytes) (drop len bytes)
 
--- Whether a piece is cut; none is where it stands in no line that is cut.
-abbrev pub cuts : PieceKind → Bool → Bool → Option Bool
-cuts kind.Number is_before_order may_be_signed = Some is_before_order
-cuts kind.Signed is_before_order may_be_signed = Some (is_before_order && may_be_signed)
-cuts kind.Text is_before_order may_be_signed = if is_before_order then Some true else None
-cuts kind.Sign is_before_order may_be_signed = Some false
-cuts kind.Comparison is_before_order may_be_signed = Some false
-
--- The piece is a sign.
-abbrev pub is_sign_kind : PieceKind → Bool
-is_sign_kind kind.Sign = true
-is_sign_kind kind = false
+-- The first bytes, as many as this, may be cut as a literal: they begin with a minus only if any literal may be cut there.
+pub record MayBeCut (bytes : List ℕ) (takes_any : Bool) (len : ℕ) : Type 0 where
+  pub fits : len ≤ length bytes
+  pub unsigned : takes_any ≡ false → begins_minus (take len bytes) ≡ false
 
 -- The first byte of a keyword whose lines are cut.
 abbrev pub begins_keyword : List ℕ → Bool
 begins_keyword [] = false
-begins_keyword (b ∷ bs) = (b == 83) || (b == 85) || (b == 68)
+begins_keyword (b ∷ bs) = (b == 83) || (b == 73) || (b == 85) || (b == 68)
 
 -- A cut goes on with bytes that are kept, and then with a literal that is cut.
 pub record CutsLiteral (old new : Cut) (kept bytes rest : List ℕ) : Type 0 where

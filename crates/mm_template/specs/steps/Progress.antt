@@ -34,9 +34,3 @@ pub record IsCutTo (line left rest template : List ℕ) (values : List Value) (m
   pub are_texts : AllZip IsText texts values
   pub goes_on : (tail : List ℕ) (others : List Token) → Agrees may_be_signed rest tail others
       → Agrees true line ((template ++ kept) ++ tail) (texts ++ others)
-
--- Of some bytes a front is skipped, which is kept. With each template of the rest, the front and that template agree with the bytes.
-pub record Skips (signed_before : Bool) (bytes : List ℕ) (signed_after : Bool) (rest : List ℕ) : Type 0 where
-  pub front : List ℕ
-  pub split : bytes ≡ front ++ rest
-  pub agrees : (tail : List ℕ) (others : List Token) → Agrees signed_after rest tail others → Agrees signed_before bytes (front ++ tail) others

@@ -1,7 +1,7 @@
 use Rattle.std.proofs.Common.{arith}
 use Rattle.std.proofs.lemmas.List.{get_or_past}
 use Rattle.mm_template.proofs.Pieces.{comparison_alone, comparison_joined, not_joined}
-use Rattle.mm_template.proofs.piece.comparison_piece.Goals as goal
+use Rattle.mm_template.proofs.piece.comparison.Goals as goal
 
 pub returns-in-61 : goal.returns-in-61
 returns-in-61 c = comparison_joined c.args.bytes.now (omega arith) c.requires.comparison (omega arith)
