@@ -1,11 +1,9 @@
 -- Refusals that are due are steps.
-use Rattle.std.proofs.Common.{◌≡◌, ◌⊎◌, ◌++◌, Option, Ok, Some, None, IsTrue, inl, inr, ⊎_elim, refl, sym, ap, subst}
-use Rattle.std.specs.Prelude.{IfSome}
+use Rattle.std.proofs.Common.{◌≡◌, ◌⊎◌, ◌++◌, Ok, Some, IsTrue, inl, inr, ⊎_elim, refl, sym, ap}
 use Rattle.mm_value.specs.declared.refusal.Refusal.{Refusal}
 use Rattle.mm_value.specs.declared.refusal.Refusal.TheVariants.{Memory}
 use Rattle.mm_schema.proofs.Dues.{due_in_front}
 use Rattle.mm_schema.specs.Refused.{first_refusal}
-use Rattle.mm_schema.specs.Schema.{Schema}
 use Rattle.mm_query.proofs.Due.{step-refused}
 use Rattle.mm_query.specs.Binding.{binding_conditions}
 use Rattle.mm_query.specs.Edits.{changed_table, edits, value_conditions}
@@ -14,17 +12,13 @@ use Rattle.mm_query.specs.Resolving.{bag_in, query_conditions}
 use Rattle.mm_query.specs.Queries.{size_conditions}
 use Rattle.mm_query.specs.Standing.{growth_conditions}
 use Rattle.mm_query.specs.State.{State}
-use Rattle.mm_query.specs.declared.bind.BoundChange.{BoundChange}
 use Rattle.mm_query.specs.declared.command.Command.{Command}
 use Rattle.mm_query.specs.declared.command.Command.TheVariants.{Change, Select}
 use Rattle.mm_query.specs.declared.command.Mutation.{Mutation}
 use Rattle.mm_query.specs.declared.query.Query.{Query}
 use Rattle.mm_lang.specs.Answering.{MayLeadTo}
 use Rattle.mm_lang.specs.Reading.{command_takes_memory}
-use Rattle.mm_txn.specs.Bound.{IsBoundChange}
 use Rattle.mm_txn.specs.Steps.{IsStep}
-use Rattle.mm_session.specs.declared.bound_form.BoundForm.{BoundForm}
-use Rattle.mm_session.specs.steps.Forms.{IsBoundForm, KeepsChange}
 
 due_leads : (command : Command) (state : State) (refusal : Refusal) → IsTrue (command_takes_memory command)
     → (first_refusal (conditions command state) ≡ Some refusal) ⊎ (refusal ≡ Memory)
@@ -53,14 +47,7 @@ change_refused mutation state refusal due =
     (value_conditions mutation state ++ (row_conditions (changed_table mutation) (edits mutation state) (after_change mutation state)
     ++ growth_conditions (after_change mutation state))) refusal h)) (λ m. inr m) due)
 
--- A step of a change of rows leads on, ..
+-- A step of a change of rows leads on.
 pub change_leads : (mutation : Mutation) (state : State) (outcome : Outcome) → IsStep (Change mutation) state outcome
     → MayLeadTo (Ok (Change mutation)) state outcome
 change_leads mutation state outcome stepped = ⊎_elim (λ is. inl is) (λ h. inr (h.0, refl)) stepped
-
--- .. and the bound form that is kept of it stays good.
-pub change_kept : (mutation : Mutation) (before after : Schema) (bound : BoundChange) (kept : Option BoundForm) → after ≡ before
-    → IsBoundChange before mutation bound → IfSome kept (KeepsChange bound) → IfSome kept (IsBoundForm after (Change mutation))
-change_kept mutation before after bound None same binds keeps = tt
-change_kept mutation before after bound (Some form) same binds keeps =
-    subst (IsBoundForm after (Change mutation)) (sym keeps) (subst (λ (schema : Schema). IsBoundChange schema mutation bound) (sym same) binds)

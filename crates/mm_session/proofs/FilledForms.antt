@@ -1,5 +1,5 @@
 -- Bound forms with values in their holes, and the lines that they are run for.
-use Rattle.std.proofs.Common.{◌≡◌, ℕ, Bool, true, false, List, Option, Some, None, Result, Ok, ◌<◌, is_some, length, set, refl, ap, subst, ◌∙◌}
+use Rattle.std.proofs.Common.{◌≡◌, ℕ, Bool, false, List, Option, Some, None, Result, Ok, ◌<◌, length, set, refl, sym, ap, subst, ◌∙◌}
 use Rattle.std.specs.Option.{option_and_then}
 use Rattle.std.specs.Prelude.{IfSome}
 use Rattle.mm_value.specs.declared.refusal.Refusal.{Refusal}
@@ -10,19 +10,19 @@ use Rattle.mm_query.specs.declared.command.Command.TheVariants.{Change, Select}
 use Rattle.mm_lang.specs.Reading.{reading}
 use Rattle.mm_lang.specs.Templates.{holes_of, template_of}
 use Rattle.mm_statement.specs.Filling.{IsFilling}
-use Rattle.mm_statement.specs.Holes.{hole_count}
-use Rattle.mm_session.proofs.FormLemmas.{filled_of, form_with}
-use Rattle.mm_session.proofs.ReadyStatements.{flags, has_form, is_filled}
+use Rattle.mm_session.proofs.FormLemmas.{filled_of}
+use Rattle.mm_session.proofs.ReadyStatements.{flags, has_form}
 use Rattle.mm_session.proofs.SlotLemmas.{put_there}
 use Rattle.mm_session.specs.Templates.{IsBoundAt, IsBoundLine}
 use Rattle.mm_session.specs.declared.bound_form.BoundForm.{BoundForm}
 use Rattle.mm_session.specs.declared.bound_line.BoundLine.{BoundLine}
 use Rattle.mm_session.specs.declared.bound_line.BoundLine.TheVariants as lent
+use Rattle.mm_session.specs.declared.refilling.Refilled.{Refilled}
 use Rattle.mm_session.specs.declared.statement.Statement.{Statement}
 use Rattle.mm_session.specs.declared.templates.Templates.{Templates}
-use Rattle.mm_session.specs.steps.Filled.{IsFilledAt, IsFilledIn, IsFilledStatement, IsLent, can_be_lent, form_in}
-use Rattle.mm_session.specs.steps.Forms.{HasForm, IsBoundForm, IsFormWith, IsReadyStatement}
-use Rattle.mm_session.specs.steps.Readings.{FillsLine, is_definition}
+use Rattle.mm_session.specs.steps.Filled.{IsFilledAt, IsFilledIn, IsFilledStatement, IsLent, IsToRun, form_in}
+use Rattle.mm_session.specs.steps.Forms.{HasForm, IsFormOf, IsReadyStatement}
+use Rattle.mm_session.specs.steps.Readings.{is_definition}
 
 -- What holds of a value that may be there implies more of it.
 pub some_more : {X : Type 0} (P Q : X → Type 0) (o : Option X) → ((x : X) → P x → Q x) → IfSome o P → IfSome o Q
@@ -31,63 +31,65 @@ some_more P Q (Some x) more holds = more x holds
 
 -- ---- statements
 
--- A ready statement whose bound form was filled again stays ready, ..
-module _ (schema : Schema) (statement : Statement) (ready : IsReadyStatement schema statement) (values : List Value) (old new : BoundForm)
-    (is : statement.bound ≡ Some old)
-    (refilled : (schema : Schema) (command : Command) → HasForm schema statement.holes command old
-    → IsFormWith schema statement.holes.are_holes values command new) where
-  form_again : IsFormWith schema (holes_of statement.line.items) values ready.command new
-  form_again =
-      subst (λ (h : List Bool). IsFormWith schema h values ready.command new) (flags schema statement ready)
-      (refilled schema ready.command (has_form schema statement ready old is))
+-- A ready statement whose bound form has new values stays ready, ..
+module _ (schema : Schema) (statement : Statement) (ready : IsReadyStatement schema statement) (old new : BoundForm) (is : statement.bound ≡ Some old) where
+  pub refilled_ready : ((schema : Schema) (command : Command) → HasForm schema statement.holes command old
+      → IsFormOf schema statement.holes.are_holes command new) → IsReadyStatement schema (record statement { bound = Some new })
+  refilled_ready kept = record {
+    command = ready.command;
+    read = ready.read;
+    holes = ready.holes;
+    kind = ready.kind;
+    bound = subst (λ (h : List Bool). IsFormOf schema h ready.command new) (flags schema statement ready)
+        (kept schema ready.command (has_form schema statement ready old is));
+  }
 
-  pub refilled_ready : IsReadyStatement schema (record statement { bound = Some new })
-  refilled_ready = record { command = ready.command; read = ready.read; holes = ready.holes; kind = ready.kind; bound = (values, form_again) }
+  -- .. and has a form to run.
+  pub refilled_filled : (values : List Value) (filled : Refilled) → ((schema : Schema) (command : Command) → HasForm schema statement.holes command old
+      → IsToRun schema statement.holes.are_holes values command new filled)
+      → IsFilledStatement schema statement.line.items values (record statement { bound = Some new }) filled
+  refilled_filled values filled runs = record {
+    same = refl;
+    form = new;
+    is = refl;
+    command = ready.command;
+    read = ready.read;
+    runs = subst (λ (h : List Bool). IsToRun schema h values ready.command new filled) (flags schema statement ready)
+        (runs schema ready.command (has_form schema statement ready old is));
+  }
 
-  -- .. and has the values.
-  pub refilled_filled : can_be_lent new ≡ true → IsFilledStatement schema statement.line.items values (record statement { bound = Some new })
-  refilled_filled lent =
-      record { same = refl; form = new; is = refl; lent = lent; command = ready.command; read = ready.read; binds = form_again }
-
--- A statement whose line was read and bound has the values.
-pub bound_filled : (schema : Schema) (statement : Statement) (values : List Value) (filled : Command) (ready : IsReadyStatement schema statement)
-    → length values ≡ hole_count (holes_of statement.line.items) → FillsLine statement.line.items values (Ok filled)
-    → (bound : Option BoundForm) → IfSome bound (IsBoundForm schema filled) → IfSome bound (λ form. can_be_lent form ≡ true) → is_some bound ≡ true
-    → IsFilledStatement schema statement.line.items values (record statement { bound = bound })
-bound_filled schema statement values filled ready count fills None binds lent some = absurd (cc)
-bound_filled schema statement values filled ready count fills (Some form) binds lent some =
-    let own = is_filled schema statement values filled ready count fills in
-    record {
-      same = refl;
-      form = form;
-      is = refl;
-      lent = lent;
-      command = fills.command;
-      read = fills.read;
-      binds = form_with schema (holes_of statement.line.items) values fills.command filled form count own.0 own.1 binds;
-    }
+-- The bound form of a filled statement is to be run.
+pub form_filled : (schema : Schema) (line : List ℕ) (values : List Value) (statement : Statement) (filled : Refilled)
+    (own : IsFilledStatement schema line values statement filled) (bound : BoundForm) → statement.bound ≡ Some bound
+    → IsToRun schema (holes_of line) values own.command bound filled
+form_filled schema line values statement filled own bound is =
+    let both : ◌≡◌ {A = Option BoundForm} (Some own.form) (Some bound) = sym own.is ∙ is in
+    let same : own.form ≡ bound = cc in
+    subst (λ (b : BoundForm). IsToRun schema (holes_of line) values own.command b filled) same own.runs
 
 -- A slot that is filled and put back stands in its place.
-pub filled_there : (schema : Schema) (template : List ℕ) (values : List Value) (slots : List (Option Statement)) (number : ℕ) (slot : Option Statement)
-    → number < length slots → IsFilledIn schema template values slot → IsFilledAt schema template values number (set slots number slot)
-filled_there schema template values slots number slot within filled =
-    (filled.0, put_there slots number slot within ∙ ap (λ o. Some o) filled.1, filled.2)
+pub filled_there : (schema : Schema) (template : List ℕ) (values : List Value) (filled : Refilled) (slots : List (Option Statement)) (number : ℕ)
+    (slot : Option Statement) → number < length slots → IsFilledIn schema template values filled slot
+    → IsFilledAt schema template values number filled (set slots number slot)
+filled_there schema template values filled slots number slot within own =
+    (own.0, put_there slots number slot within ∙ ap (λ o. Some o) own.1, own.2)
 
 -- ---- lines
 
 -- The template of a line that is filled with the line's values is bound for the line, where the line reads as its filling.
-pub filled_found : (schema : Schema) (line template : List ℕ) (values : List Value) (number : ℕ) (templates : Templates)
-    → IsFilledAt schema template values number templates.slots.items
+pub filled_found : (schema : Schema) (line template : List ℕ) (values : List Value) (number : ℕ) (filled : Refilled) (templates : Templates)
+    → IsFilledAt schema template values number filled templates.slots.items
     → ((command : Command) (result : Result Command Refusal) → template_of template ≡ Ok command
     → IsFilling (holes_of template) values command result → reading line ≡ result)
-    → IsBoundAt number schema line templates
-filled_found schema line template values number templates at reads =
+    → IsBoundAt (record { number = number; filled = filled }) schema line templates
+filled_found schema line template values number filled templates at reads =
     let statement = at.2 in
-    let own = filled_of schema (holes_of template) values statement.command statement.form statement.binds in
+    let own = filled_of schema (holes_of template) values statement.command statement.runs.ran statement.runs.binds in
     record {
       form = statement.form;
       is = ap (option_and_then form_in) at.1 ∙ statement.is;
-      lent = statement.lent;
+      ran = statement.runs.ran;
+      runs = statement.runs.is;
       command = own.filled;
       read = reads statement.command (Ok own.filled) statement.read (own.fills, own.within);
       binds = own.binds;

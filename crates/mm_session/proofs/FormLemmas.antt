@@ -1,6 +1,10 @@
 -- Bound forms that are good, and what running them leads to.
-use Rattle.std.proofs.Common.{◌≡◌, ℕ, Bool, false, List, Option, Some, None, Ok, IsTrue, length, inl, inr, ⊎_elim, refl, sym, ap, subst, ◌∙◌}
-use Rattle.std.specs.Prelude.{IfSome}
+use Rattle.std.proofs.Common.{◌≡◌, ℕ, Bool, false, List, Option, Some, None, Result, Ok, Err, IsTrue, length, inl, inr, ⊎_elim, refl, sym, ap, subst, ◌∙◌}
+use Rattle.std.specs.Borrow.{Bor}
+use Rattle.std.specs.Option.{option_map}
+use Rattle.std.specs.Prelude.{IfOk, IfSome, IsSome}
+use Rattle.std.specs.Result.{result_ok}
+use Rattle.mm_value.specs.declared.refusal.Refusal.{Refusal}
 use Rattle.mm_value.specs.declared.refusal.Refusal.TheVariants.{Memory}
 use Rattle.mm_value.specs.declared.values.Value.{Value}
 use Rattle.mm_schema.specs.Schema.{Schema}
@@ -17,18 +21,20 @@ use Rattle.mm_lang.specs.Answering.{MayLeadTo}
 use Rattle.mm_lang.specs.Reading.{command_takes_memory, first_fault, literals_of}
 use Rattle.mm_lang.specs.Templates.{holes_of, template_of}
 use Rattle.mm_statement.proofs.FilledAnew.{change_anew, query_anew}
-use Rattle.mm_statement.specs.Filling.{Filled, blank}
+use Rattle.mm_statement.specs.Filling.{AnswersFilling, Filled, IsFilling, blank}
 use Rattle.mm_statement.specs.Holes.{HolePlaces, hole_count, hole_places}
 use Rattle.mm_statement.specs.Refilling.{RefillsChange, RefillsQuery}
-use Rattle.mm_txn.specs.Bound.{IsBoundChange, IsBoundQuery}
-use Rattle.mm_txn.specs.Steps.{IsStep}
+use Rattle.mm_txn.specs.Bound.{IsBoundChange, IsBoundQuery, bound_of}
+use Rattle.mm_txn.specs.declared.bound.ChangeToRun.{ChangeToRun}
 use Rattle.mm_session.proofs.Catalogs.{leads_keep}
-use Rattle.mm_session.proofs.DueSteps.{change_leads}
 use Rattle.mm_session.proofs.LineReadings.{takes_alike}
 use Rattle.mm_session.specs.Statements.{Runs}
 use Rattle.mm_session.specs.declared.bound_form.BoundForm.{BoundForm}
 use Rattle.mm_session.specs.declared.bound_form.BoundForm.TheVariants as form
-use Rattle.mm_session.specs.steps.Forms.{HasForm, IsBoundForm, IsChangeForm, IsFormOf, IsFormWith, IsQueryForm, Reruns}
+use Rattle.mm_session.specs.declared.bound_line.BoundLine.TheVariants as line
+use Rattle.mm_session.specs.declared.refilling.Refilled.{Refilled}
+use Rattle.mm_session.specs.steps.Filled.{IsLent, IsToRun, RefillsToRun, change_to_run, form_to_run}
+use Rattle.mm_session.specs.steps.Forms.{HasForm, IsBoundForm, IsChangeForm, IsFormOf, IsFormWith, IsQueryForm}
 use Rattle.mm_session.specs.steps.Readings.{is_definition}
 
 -- What differs in literals alone from a SELECT is one, ..
@@ -77,6 +83,23 @@ form_with schema holes values command (Change mutation) (form.Change bound) coun
     }
 form_with schema holes values command (Select query) (form.Change bound) count fills within binds = absurd binds
 form_with schema holes values command _ _ count fills within binds = absurd binds
+
+-- A call that gives a filling gives one.
+pub filling_of : (holes : List Bool) (values : List Value) (command filled : Command) (result : Result Command Refusal)
+    → Some filled ≡ result_ok result → AnswersFilling holes values command result → IsFilling holes values command (Ok filled)
+filling_of holes values command filled (Ok c) is answers =
+    let same : c ≡ filled = cc in
+    subst (λ (d : Command). IsFilling holes values command (Ok d)) same
+    (⊎_elim
+    (λ (f : IsFilling holes values command (Ok c)). f)
+    (λ (m : Ok c ≡ Err Memory). absurd (cc))
+    answers)
+filling_of holes values command filled (Err e) is answers = absurd (cc)
+
+-- What holds of a call's value, where it gives one.
+pub of_ok : {X E : Type 0} (P : X → Type 0) (result : Result X E) (x : X) → Some x ≡ result_ok result → IfOk result P → P x
+of_ok P (Ok y) x is holds = let same : y ≡ x = cc in subst P same holds
+of_ok P (Err e) x is holds = absurd (cc)
 
 -- The same of a form that is kept or not.
 pub forms_with : (schema : Schema) (holes : List Bool) (values : List Value) (command filled : Command) (kept : Option BoundForm)
@@ -152,49 +175,81 @@ filled_of schema holes values command (form.Change bound) with_values = record {
   binds = bound_change schema holes values command bound with_values;
 }
 
-module _ (holes : HolePlaces) (values : List Value) (command : Command) (before : State) (outcome : Outcome) where
-  -- Running a bound form that was filled leads to what the command with these values leads to, ..
-  pub reruns_filled : (ran kept : BoundForm) (own : HasFilled before.schema holes.are_holes values command ran)
-      → IsFormOf before.schema holes.are_holes command kept → MayLeadTo (Ok own.filled) before outcome
-      → Reruns holes values command before kept outcome
-  reruns_filled ran kept own form leads =
-      record { filled = own.filled; fills = own.fills; within = own.within; other = own.other; leads = leads; form = form }
-
-  -- It is what running the statement may lead to, ..
-  pub runs_again : (line : List ℕ) (bound : BoundForm) → template_of line ≡ Ok command → holes.are_holes ≡ holes_of line
-      → Reruns holes values command before bound outcome → Runs line values before outcome
-  runs_again line bound read flags again =
-      let fills = subst (λ (h : List Bool). Filled h values command again.filled) flags again.fills in
-      record {
-        command = command;
-        read = read;
-        leads =
-            ⊎_elim
-            (λ (is : outcome ≡ step again.filled before). inl (Ok again.filled, (fills, again.within), is))
-            (λ (h : (outcome ≡ refused_outcome Memory before) × IsTrue (command_takes_memory again.filled)).
-            inr (h.0, takes_alike command again.filled again.fills.same h.1))
-            again.leads;
-      }
+-- Running the bound form of a command with values leads to what a statement of the command with these values leads to, ..
+module _ (line : List ℕ) (values : List Value) (command : Command) (ran : BoundForm) (before : State) (outcome : Outcome)
+    (own : HasFilled before.schema (holes_of line) values command ran) (leads : MayLeadTo (Ok own.filled) before outcome) where
+  pub runs_form : template_of line ≡ Ok command → Runs line values before outcome
+  runs_form read = record {
+    command = command;
+    read = read;
+    leads =
+        ⊎_elim
+        (λ (is : outcome ≡ step own.filled before). inl (Ok own.filled, (own.fills, own.within), is))
+        (λ (h : (outcome ≡ refused_outcome Memory before) × IsTrue (command_takes_memory own.filled)).
+        inr (h.0, takes_alike command own.filled own.fills.same h.1))
+        leads;
+  }
 
   -- .. and leaves the catalog as it is.
-  pub again_keeps : (bound : BoundForm) → Reruns holes values command before bound outcome → outcome.state.schema ≡ before.schema
-  again_keeps bound again = leads_keep again.filled before outcome again.other again.leads
+  pub form_keeps : outcome.state.schema ≡ before.schema
+  form_keeps = leads_keep own.filled before outcome own.other leads
 
--- What a run of an INSERT with new values owes, and what it gives. The form before is kept.
-module _ (before : State) (holes : HolePlaces) (values : List Value) (command : Command) (count : length values ≡ hole_count holes.are_holes) where
-  pub change_due : (old new : BoundChange) → HasForm before.schema holes command (form.Change old) → RefillsChange holes values old new
-      → (mutation : Mutation) × IsBoundChange before.schema mutation new
-  change_due old new has refills =
-      let again = change_again before.schema holes values command count old new has refills in
-      (again.mutation, bound_change before.schema holes.are_holes values command new again)
+-- ---- forms to run
 
-  pub copy_done : (old new : BoundChange) (outcome : Outcome) → HasForm before.schema holes command (form.Change old) → RefillsChange holes values old new
-      → ((mutation : Mutation) → IsBoundChange before.schema mutation new → IsStep (Change mutation) before outcome)
-      → Reruns holes values command before (form.Change old) outcome
-  unfolding filled_of
-  copy_done old new outcome has refills steps =
-      let again = change_again before.schema holes values command count old new has refills in
-      let bound = bound_change before.schema holes.are_holes values command new again in
-      reruns_filled holes values command before outcome (form.Change new) (form.Change old)
-      (filled_of before.schema holes.are_holes values command (form.Change new) again) has.form
-      (change_leads again.mutation before outcome (steps again.mutation bound))
+-- A form that is run has a bound change that is run, where it is a change of rows, ..
+pub change_of_run : (bound : BoundChange) (filled : Refilled) → IsSome (form_to_run (form.Change bound) filled) → IsSome (change_to_run bound filled)
+change_of_run bound filled some = by (change_to_run bound filled) some
+  where
+    by : (o : Option BoundChange) → IsSome (option_map (λ (change : BoundChange). form.Change change) o) → IsSome o
+    by None some = some
+    by (Some change) some = some
+
+-- .. and is lent as that.
+pub lent_change : (schema : Schema) (command : Command) (bound : BoundChange) (filled : Refilled) (ran : BoundForm) (lent : ChangeToRun)
+    → form_to_run (form.Change bound) filled ≡ Some ran → ((own : BoundChange) → change_to_run bound filled ≡ Some own → bound_of lent ≡ own)
+    → IsBoundForm schema command ran → IsLent schema command (line.Change lent)
+lent_change schema command bound filled ran lent is lends binds = by (change_to_run bound filled) refl is
+  where
+    of_change : (c : Command) (own : BoundChange) → bound_of lent ≡ own → IsBoundForm schema c (form.Change own) → IsLent schema c (line.Change lent)
+    of_change (Change mutation) own same is = subst (IsBoundChange schema mutation) (sym same) is
+    of_change (Select query) own same is = absurd is
+    of_change _ own same is = absurd is
+
+    by : (o : Option BoundChange) → change_to_run bound filled ≡ o → option_map (λ (change : BoundChange). form.Change change) o ≡ Some ran
+        → IsLent schema command (line.Change lent)
+    by None own is = absurd (cc)
+    by (Some change) own is =
+        let same : form.Change change ≡ ran = cc in
+        of_change command change (lends change own) (subst (IsBoundForm schema command) (sym same) binds)
+
+-- A query that is run is lent.
+pub lent_query : (schema : Schema) (command : Command) (bound : Bor Bound) (filled : Refilled) (ran : BoundForm)
+    → form_to_run (form.Query bound.now) filled ≡ Some ran → IsBoundForm schema command ran → IsLent schema command (line.Query bound)
+lent_query schema command bound filled ran is binds =
+    let same : form.Query bound.now ≡ ran = cc in
+    of_query command (subst (IsBoundForm schema command) (sym same) binds)
+  where
+    of_query : (c : Command) → IsBoundForm schema c (form.Query bound.now) → IsLent schema c (line.Query bound)
+    of_query (Select query) is = is
+    of_query (Change mutation) is = absurd is
+    of_query _ is = absurd is
+
+module _ (schema : Schema) (holes : HolePlaces) (values : List Value) (command : Command) (count : length values ≡ hole_count holes.are_holes)
+    (old new : BoundChange) (filled : Refilled) (has : HasForm schema holes command (form.Change old))
+    (refills : RefillsToRun holes values old new filled) where
+  -- A bound change with new values is to be run, ..
+  pub change_filled : IsToRun schema holes.are_holes values command (form.Change new) filled
+  change_filled = record {
+    ran = form.Change refills.ran;
+    is = ap (option_map (λ (change : BoundChange). form.Change change)) refills.is;
+    binds = change_again schema holes values command count old refills.ran has refills.refills;
+  }
+
+  -- .. and what is kept of it is still a bound form of its command.
+  pub change_stays : IsFormOf schema holes.are_holes command (form.Change new)
+  change_stays =
+      ⊎_elim
+      (λ (same : new ≡ old). subst (λ (b : BoundChange). IsFormOf schema holes.are_holes command (form.Change b)) (sym same) has.form)
+      (λ (same : new ≡ refills.ran). subst (λ (b : BoundChange). IsFormOf schema holes.are_holes command (form.Change b)) (sym same)
+      (values, change_again schema holes values command count old refills.ran has refills.refills))
+      refills.kept

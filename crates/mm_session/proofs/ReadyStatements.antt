@@ -22,18 +22,23 @@ use Rattle.mm_lang.specs.Templates.{holes_of, template_of}
 use Rattle.mm_statement.specs.Filling.{IsFilling}
 use Rattle.mm_statement.specs.Holes.{HolePlaces, hole_count, hole_places}
 use Rattle.mm_session.proofs.Catalogs.{leads_keep}
-use Rattle.mm_session.proofs.FormLemmas.{again_keeps, forms_with, runs_again}
+use Rattle.mm_session.proofs.FormLemmas.{forms_with}
 use Rattle.mm_session.proofs.KindLemmas.{kind_defines}
 use Rattle.mm_session.proofs.LineReadings.{defines_alike}
 use Rattle.mm_session.specs.Session.{AnswersLine, Finalizes, SessionState, TakesNumber, changes_after, outcome_in}
-use Rattle.mm_session.specs.Statements.{Runs, line_at}
+use Rattle.mm_session.specs.Statements.{line_at}
 use Rattle.mm_session.specs.declared.bound_form.BoundForm.{BoundForm}
 use Rattle.mm_session.specs.declared.misuse.Misuse.{Misuse}
 use Rattle.mm_session.specs.declared.misuse.Misuse.TheVariants.{NoSuchStatement}
 use Rattle.mm_session.specs.declared.statement.Statement.{Statement}
-use Rattle.mm_session.specs.steps.Forms.{HasForm, IsBoundForm, IsFormOf, IsReady, IsReadyStatement, Reruns}
+use Rattle.mm_session.specs.steps.Forms.{HasForm, IsBoundForm, IsFormOf, IsReady, IsReadyStatement}
 use Rattle.mm_session.specs.steps.Places.{PutsStatement, forgotten, line_in}
 use Rattle.mm_session.specs.steps.Readings.{FillsLine, is_definition, is_of_catalog}
+
+-- What holds of a refusal that may be there implies more of it.
+pub if_err : {X E : Type 0} (P Q : E → Type 0) (result : Result X E) → ((e : E) → P e → Q e) → IfErr result P → IfErr result Q
+if_err P Q (Ok x) more holds = tt
+if_err P Q (Err e) more holds = more e holds
 
 -- ---- one statement
 
@@ -86,26 +91,16 @@ has_form schema statement ready bound is = record {
       (subst (λ (o : Option BoundForm). IfSome o (IsFormOf schema (holes_of statement.line.items) ready.command)) is ready.bound);
 }
 
-module _ (before : State) (statement : Statement) (ready : IsReadyStatement before.schema statement) where
-  module _ (values : List Value) (bound : BoundForm) (outcome : Outcome) (again : Reruns statement.holes values ready.command before bound outcome) where
-    -- .. that is what the statement may lead to, ..
-    pub rerun_runs : Runs statement.line.items values before outcome
-    rerun_runs =
-        runs_again statement.holes values ready.command before outcome statement.line.items bound ready.read (flags before.schema statement ready) again
-
-    pub rerun_keeps : outcome.state.schema ≡ before.schema
-    rerun_keeps = again_keeps statement.holes values ready.command before outcome bound again
-
-    -- .. and the statement stays ready.
-    pub rerun_ready : IsReadyStatement outcome.state.schema (record statement { bound = Some bound })
-    rerun_ready = record {
-      command = ready.command;
-      read = ready.read;
-      holes = ready.holes;
-      kind = ready.kind;
-      bound = subst (λ (schema : Schema). IsFormOf schema (holes_of statement.line.items) ready.command bound) (sym rerun_keeps)
-          (subst (λ (h : List Bool). IsFormOf before.schema h ready.command bound) (flags before.schema statement ready) again.form);
-    }
+-- A statement with no bound form is ready whatever the catalog.
+pub ready_unbound : (schema after : Schema) (statement : Statement) → IsReadyStatement schema statement → statement.bound ≡ None
+    → IsReadyStatement after statement
+ready_unbound schema after statement ready none = record {
+  command = ready.command;
+  read = ready.read;
+  holes = ready.holes;
+  kind = ready.kind;
+  bound = subst (λ (o : Option BoundForm). IfSome o (IsFormOf after (holes_of statement.line.items) ready.command)) (sym none) tt;
+}
 
 -- A statement is ready whatever the catalog once its bound form is forgotten.
 unbound_ready : (schema after : Schema) (slot : Option Statement) → IsReady schema slot → IsReady after (forgotten slot)

@@ -97,3 +97,8 @@ pub put_there : {X : Type 0} (slots : List (Option X)) (number : ℕ) (slot : Op
 put_there slots number slot within =
     slice_get-get_or (set slots number slot) number slot (omega (arith, length-set slots number slot, within))
     ∙ ap (λ o. Some o) (get_or-set_same slots number slot slot within)
+
+-- A statement that stands in a place has its line there.
+pub line_of_statement : (slots : List (Option Statement)) (number : ℕ) (statement : Statement) → slice_get slots number ≡ Some (Some statement)
+    → line_at number (map line_in slots) ≡ Some statement.line.items
+line_of_statement slots number statement is = ap line_found (slice_get-map line_in slots number ∙ ap (option_map line_in) is)

@@ -1,5 +1,5 @@
 -- Templates of lines, kept with their bound forms.
-use Rattle.std.specs.Prelude.{◌≡◌, ℕ, List, Some, Ok, true}
+use Rattle.std.specs.Prelude.{◌≡◌, ℕ, List, Some, Ok}
 use Rattle.std.specs.List.{All}
 use Rattle.mm_schema.specs.Schema.{Schema}
 use Rattle.mm_query.specs.declared.command.Command.{Command}
@@ -11,8 +11,9 @@ use Rattle.mm_txn.specs.Bound.{IsBoundChange, IsBoundQuery, bound_of}
 use Rattle.mm_session.specs.declared.bound_form.BoundForm.{BoundForm}
 use Rattle.mm_session.specs.declared.bound_line.BoundLine.{BoundLine}
 use Rattle.mm_session.specs.declared.bound_line.BoundLine.TheVariants as lent
+use Rattle.mm_session.specs.declared.templates.FoundLine.{FoundLine}
 use Rattle.mm_session.specs.declared.templates.Templates.{Templates}
-use Rattle.mm_session.specs.steps.Filled.{can_be_lent, form_at}
+use Rattle.mm_session.specs.steps.Filled.{form_at, form_to_run}
 use Rattle.mm_session.specs.steps.Forms.{IsBoundForm, IsReady}
 
 -- Each kept template reads as a command, and its bound form, if any, is one in this catalog.
@@ -25,11 +26,12 @@ IsBoundLine schema line (lent.Query bound) = (query : Query) × (reading line �
 IsBoundLine schema line (lent.Change change) =
     (mutation : Mutation) × (reading line ≡ Ok (Change mutation)) × IsBoundChange schema mutation (bound_of change)
 
--- The template with this number has the bound form, in a catalog, of the command that the line reads as, and that is no INSERT.
-pub record IsBoundAt (number : ℕ) (schema : Schema) (line : List ℕ) (templates : Templates) : Type 0 where
+-- The line was found: the form to run, in a catalog, of the template with this number is that of the command that the line reads as.
+pub record IsBoundAt (found : FoundLine) (schema : Schema) (line : List ℕ) (templates : Templates) : Type 0 where
   pub form : BoundForm
-  pub is : form_at number templates.slots.items ≡ Some form
-  pub lent : can_be_lent form ≡ true
+  pub is : form_at found.number templates.slots.items ≡ Some form
+  pub ran : BoundForm
+  pub runs : form_to_run form found.filled ≡ Some ran
   pub command : Command
   pub read : reading line ≡ Ok command
-  pub binds : IsBoundForm schema command form
+  pub binds : IsBoundForm schema command ran

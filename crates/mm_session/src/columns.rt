@@ -128,14 +128,14 @@ fn find_item<'f>(from: &'f [FromItem], alias: &NameRef<'_>) -> Option<&'f FromIt
 }
 
 /// Returns the first column with a name.
-fn find_column<'c>(columns: &'c [Column], name: &NameRef<'_>) -> Option<&'c Column>
+pub(crate) fn find_column<'c>(columns: &'c [Column], name: &NameRef<'_>) -> Option<&'c Column>
     ensures { option_copied result ≡ column_named name.now columns.now }
 {
     columns.iter().find(|column| *name == column.name.as_ref())
 }
 
 /// Returns the column that a field names, or `None` if its alias or column does not exist.
-fn column_of_field<'c>(
+pub(crate) fn column_of_field<'c>(
     catalog: &'c Catalog,
     from: &[FromItem],
     field: &FieldName<NameRef<'_>>,

@@ -89,8 +89,8 @@ impl Session {
         ensures { AnswersLine line.now self.old self.new }
     {
         match self.templates.find(alloc, &self.database, line) {
-            Some(number) => {
-                let bound = self.templates.bound(number);
+            Some(found) => {
+                let bound = self.templates.bound(found);
                 self.reply = run_bound(alloc, &mut self.database, &mut self.rows, bound);
                 count_changes(&mut self.changes, &self.reply);
             }
@@ -128,7 +128,7 @@ impl Session {
     pub fn prepare(&mut self, alloc: Global, line: &[u8]) -> Result<usize, Refusal>
         ensures { IsPrepared line.now self.old self.new result }
     {
-        let statement = Statement::read(alloc, line)?;
+        let statement = Statement::read(alloc, &self.database, line)?;
         let number = add(&mut self.statements, statement)?;
         Ok(number)
     }

@@ -1,7 +1,8 @@
 //! Prepared statements.
-ghost use Rattle.std.specs.Prelude.{◌≡◌, IfOk, IfSome, None, false, length, true};
 ghost use Rattle.std.specs.Option.{IfNone};
+ghost use Rattle.std.specs.Prelude.{◌≡◌, IfErr, IfOk, IfSome, None, false, length, true};
 ghost use Rattle.mm_lang.specs.Templates.{holes_of};
+ghost use Rattle.mm_query.specs.Machine.{refused_outcome};
 ghost use Rattle.mm_schema.specs.Schema.{Schema};
 ghost use Rattle.mm_statement.specs.Holes.{hole_count};
 ghost use Rattle.mm_session.specs.Statements.{Explains, Runs};
@@ -11,13 +12,15 @@ ghost use Rattle.mm_session.specs.steps.Kept.{outcome_kept};
 ghost use Rattle.mm_session.specs.Kinds.{has_plan};
 ghost use Rattle.mm_session.specs.steps.Readings.{is_of_catalog};
 
-use crate::bound_form::{BoundForm, bind, bind_and_run};
+use crate::bound_form::{BoundForm, bind_into};
+use crate::bound_line::{lend, run_bound};
+use crate::early_form::bind_template;
 use crate::reading::{read_explain, read_filled};
+use crate::refilling::{Refilled, refill};
 use crate::replies::Kept;
-use crate::rerun::{refill, rerun};
 use crate::responding::respond;
 use crate::statement_kind::StatementKind;
-use mm_lang::{Template, prepare};
+use mm_lang::{Template, prepare, templates_read_as_lines};
 use mm_query::{Reply, RowBuffer};
 use mm_statement::Holes;
 use mm_txn::Db;
@@ -33,29 +36,32 @@ pub(crate) struct Statement {
     pub(crate) holes: Holes,
     /// The kind of its command.
     pub(crate) kind: StatementKind,
-    /// The bound form of the last run, until the catalog changes.
+    /// The bound form of its command, with the values of the last run, until the catalog changes.
     pub(crate) bound: Option<BoundForm>,
 }
 
 impl Statement {
-    /// Reads a line, and returns its statement. Fails as [`prepare`] does, and with `Memory` if an allocation fails.
-    pub(crate) fn read(alloc: Global, line: &[u8]) -> Result<Statement, Refusal>
-        ensures { ReadsStatement line.now result }
+    /// Reads a line, and returns its statement. Binds it, unless the catalog refuses it or an allocation for the form fails; it is then
+    /// bound when it is run. Fails as [`prepare`] does, and with `Memory` if an allocation fails.
+    pub(crate) fn read(alloc: Global, database: &Db, line: &[u8]) -> Result<Statement, Refusal>
+        ensures { ReadsStatement database.now.schema line.now result }
     {
+        templates_read_as_lines();
         let copy = Vec::from_slice(alloc, line)?;
         let Template { command, holes } = prepare(alloc, line)?;
         let kind = StatementKind::of(&command);
-        let holes = Holes::of(alloc, &command, holes);
-        drop(command);
+        let places = Holes::of(alloc, &command, holes)?;
+        let bound = bind_template(alloc, database, command, &places);
         Ok(Statement {
             line: copy,
-            holes: holes?,
+            holes: places,
             kind,
-            bound: None,
+            bound,
         })
     }
 
-    /// Runs the statement with a value for each hole, and returns the reply. Uses the bound form if there is one, and the line otherwise.
+    /// Runs the statement with a value for each hole, and returns the reply. Runs its bound form if it has one, and reads its line
+    /// otherwise.
     pub(crate) fn run(
         &mut self,
         alloc: Global,
@@ -68,38 +74,91 @@ impl Statement {
         ensures runs { Runs self.old.line.items values.now database.old (outcome_kept rows.new result database.new) }
         ensures ready { IsReadyStatement database.new.schema self.new }
         ensures line { self.new.line ≡ self.old.line }
-        ensures kind { self.new.kind ≡ self.old.kind }
         ensures schema { is_of_catalog self.old.kind ≡ false → database.new.schema ≡ database.old.schema }
     {
-        match self.rerun(alloc, database, rows, values) {
-            Some(reply) => reply,
-            None => self.run_line(alloc, database, rows, values),
+        match self.fill(alloc, database, values) {
+            Ok(Some(filled)) => self.run_filled(alloc, database, rows, values, filled),
+            Ok(None) => self.run_line(alloc, database, rows, values),
+            Err(refusal) => Kept::Other(Reply::Refused(refusal)),
         }
     }
 
-    /// Runs the bound form with new values, and returns the reply. Returns `None` if there is no bound form, or if it does not fit the
-    /// values; the database is then unchanged, and the bound form is dropped.
-    fn rerun(
-        &mut self,
+    /// Runs the bound form, which has the values, and returns the reply.
+    fn run_filled(
+        &self,
         alloc: Global,
         database: &mut Db,
         rows: &mut RowBuffer,
         values: &[Value],
-    ) -> Option<Kept>
-        requires ready { IsReadyStatement database.old.schema self.old }
+        filled: Refilled,
+    ) -> Kept
+        requires { IsFilledStatement database.old.schema self.now.line.items values.now self.now filled }
+        ensures runs { Runs self.now.line.items values.now database.old (outcome_kept rows.new result database.new) }
+        ensures schema { database.new.schema ≡ database.old.schema }
+    {
+        match &self.bound {
+            Some(form) => run_bound(alloc, database, rows, lend(form, filled)),
+            None => unreachable!(),
+        }
+    }
+
+    /// Reads the line again and runs its command. Drops no bound form.
+    fn run_line(
+        &self,
+        alloc: Global,
+        database: &mut Db,
+        rows: &mut RowBuffer,
+        values: &[Value],
+    ) -> Kept
+        requires ready { IsReadyStatement database.old.schema self.now }
+        requires values { length values.now ≡ hole_count (holes_of self.now.line.items) }
+        ensures runs { Runs self.now.line.items values.now database.old (outcome_kept rows.new result database.new) }
+        ensures schema { is_of_catalog self.now.kind ≡ false → database.new.schema ≡ database.old.schema }
+    {
+        match read_filled(alloc, self.line.as_slice(), self.holes.count(), values) {
+            Ok(command) => respond(alloc, database, rows, command),
+            Err(refusal) => Kept::Other(Reply::Refused(refusal)),
+        }
+    }
+
+    /// Writes values into the holes of the bound form, and tells where they are. Reads and binds the line if there is no form. Returns
+    /// `None` for a command that has no bound form, and if the values do not fit the form, which is then dropped. Fails if the values or the
+    /// catalog refuse the command, or if an allocation fails.
+    pub(crate) fn fill(
+        &mut self,
+        alloc: Global,
+        database: &Db,
+        values: &[Value],
+    ) -> Result<Option<Refilled>, Refusal>
+        requires ready { IsReadyStatement database.now.schema self.old }
         requires values { length values.now ≡ hole_count (holes_of self.old.line.items) }
-        ensures runs { IfSome result (λ reply. Runs self.old.line.items values.now database.old (outcome_kept rows.new reply database.new)) }
-        ensures ready { IsReadyStatement database.new.schema self.new }
+        ensures ready { IsReadyStatement database.now.schema self.new }
         ensures line { self.new.line ≡ self.old.line }
         ensures kind { self.new.kind ≡ self.old.kind }
-        ensures schema { database.new.schema ≡ database.old.schema }
-        ensures kept { IfNone result (database.new ≡ database.old) }
+        ensures filled { IfOk result (λ filled. IfSome filled (IsFilledStatement database.now.schema self.old.line.items values.now self.new)) }
+        ensures unbound { IfOk result (λ filled. IfNone filled (self.new.bound ≡ None)) }
+        ensures refused { IfErr result (λ refusal. Runs self.old.line.items values.now database.now (refused_outcome refusal database.now)) }
+    {
+        self.bind_line(alloc, database, values)?;
+        Ok(self.refill(alloc, values))
+    }
+
+    /// Writes values into the holes of the bound form, and tells where they are. Drops the form if they do not fit.
+    fn refill(&mut self, alloc: Global, values: &[Value]) -> Option<Refilled>
+        requires ready { (schema : Schema) × IsReadyStatement schema self.old }
+        requires values { length values.now ≡ hole_count (holes_of self.old.line.items) }
+        ensures ready { (schema : Schema) → IsReadyStatement schema self.old → IsReadyStatement schema self.new }
+        ensures line { self.new.line ≡ self.old.line }
+        ensures kind { self.new.kind ≡ self.old.kind }
+        ensures filled { IfSome result (λ filled. (schema : Schema) → IsReadyStatement schema self.old
+            → IsFilledStatement schema self.old.line.items values.now self.new filled) }
+        ensures unbound { IfNone result (self.new.bound ≡ None) }
     {
         let Some(form) = &mut self.bound else {
             return None;
         };
-        match rerun(alloc, database, rows, &self.holes, values, form) {
-            Some(reply) => Some(reply),
+        match refill(alloc, &self.holes, values, form) {
+            Some(filled) => Some(filled),
             None => {
                 forget(&mut self.bound);
                 None
@@ -107,80 +166,23 @@ impl Statement {
         }
     }
 
-    /// Reads the line again, runs its command, and stores the bound form.
-    fn run_line(
-        &mut self,
-        alloc: Global,
-        database: &mut Db,
-        rows: &mut RowBuffer,
-        values: &[Value],
-    ) -> Kept
-        requires ready { IsReadyStatement database.old.schema self.old }
+    /// Reads the line, and binds its command with the values, unless there is a bound form or the command has none. Fails as
+    /// [`read_filled`] and [`bind_into`] do.
+    fn bind_line(&mut self, alloc: Global, database: &Db, values: &[Value]) -> Result<(), Refusal>
+        requires ready { IsReadyStatement database.now.schema self.old }
         requires values { length values.now ≡ hole_count (holes_of self.old.line.items) }
-        ensures runs { Runs self.old.line.items values.now database.old (outcome_kept rows.new result database.new) }
-        ensures ready { IsReadyStatement database.new.schema self.new }
+        ensures ready { IsReadyStatement database.now.schema self.new }
         ensures line { self.new.line ≡ self.old.line }
         ensures kind { self.new.kind ≡ self.old.kind }
-        ensures schema { is_of_catalog self.old.kind ≡ false → database.new.schema ≡ database.old.schema }
+        ensures refused { IfErr result (λ refusal. Runs self.old.line.items values.now database.now (refused_outcome refusal database.now)) }
     {
-        let line = self.line.as_slice();
-        match read_filled(alloc, line, self.holes.count(), values) {
-            Ok(command) => bind_and_run(alloc, database, rows, command, &mut self.bound),
-            Err(refusal) => Kept::Other(Reply::Refused(refusal)),
+        if self.bound.is_some() || !self.kind.has_form() {
+            return Ok(());
         }
-    }
-
-    /// Fills the holes of the bound form with values, and returns whether it has all of them. Reads and binds the line if there is no
-    /// form. If the values do not fit the form, the form is dropped. Fails as [`read_filled`] and [`bind`] do.
-    pub(crate) fn fill(
-        &mut self,
-        alloc: Global,
-        database: &Db,
-        values: &[Value],
-    ) -> Result<bool, Refusal>
-        requires ready { IsReadyStatement database.now.schema self.old }
-        requires values { length values.now ≡ hole_count (holes_of self.old.line.items) }
-        ensures ready { IsReadyStatement database.now.schema self.new }
-        ensures filled { IfOk result (λ is_filled. is_filled ≡ true
-            → IsFilledStatement database.now.schema self.old.line.items values.now self.new) }
-    {
-        if self.bound.is_some() {
-            Ok(self.refill(alloc, values))
-        } else {
-            self.fill_line(alloc, database, values)
+        match read_filled(alloc, self.line.as_slice(), self.holes.count(), values) {
+            Ok(command) => bind_into(alloc, database, command, &mut self.bound),
+            Err(refusal) => Err(refusal),
         }
-    }
-
-    /// Writes values into the holes of the bound form, and returns whether it has all of them. Drops the form otherwise.
-    fn refill(&mut self, alloc: Global, values: &[Value]) -> bool
-        requires ready { (schema : Schema) × IsReadyStatement schema self.old }
-        requires values { length values.now ≡ hole_count (holes_of self.old.line.items) }
-        ensures ready { (schema : Schema) → IsReadyStatement schema self.old → IsReadyStatement schema self.new }
-        ensures filled { result ≡ true → (schema : Schema) → IsReadyStatement schema self.old
-            → IsFilledStatement schema self.old.line.items values.now self.new }
-    {
-        let Some(form) = &mut self.bound else {
-            return false;
-        };
-        if refill(alloc, &self.holes, values, form) {
-            true
-        } else {
-            forget(&mut self.bound);
-            false
-        }
-    }
-
-    /// Reads the line, and binds its command with the values. Returns whether there is a bound form now.
-    fn fill_line(&mut self, alloc: Global, database: &Db, values: &[Value]) -> Result<bool, Refusal>
-        requires ready { IsReadyStatement database.now.schema self.old }
-        requires values { length values.now ≡ hole_count (holes_of self.old.line.items) }
-        ensures ready { IsReadyStatement database.now.schema self.new }
-        ensures filled { IfOk result (λ is_filled. is_filled ≡ true
-            → IsFilledStatement database.now.schema self.old.line.items values.now self.new) }
-    {
-        let command = read_filled(alloc, self.line.as_slice(), self.holes.count(), values)?;
-        self.bound = bind(alloc, database, command)?;
-        Ok(self.bound.is_some())
     }
 
     /// Returns the reply to EXPLAIN with the statement's query and the holes filled. Reads the line again.
@@ -205,7 +207,7 @@ impl Statement {
 }
 
 /// Drops a bound form, if there is one.
-pub(crate) fn forget(bound: &mut Option<BoundForm>)
+fn forget(bound: &mut Option<BoundForm>)
     ensures { bound.new ≡ None }
 {
     *bound = None;

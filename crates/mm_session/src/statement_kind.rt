@@ -115,6 +115,17 @@ impl StatementKind {
         )
     }
 
+    /// Returns whether commands of this kind have a bound form.
+    pub(crate) fn has_form(self) -> bool {
+        matches!(
+            self,
+            StatementKind::Select
+                | StatementKind::Insert
+                | StatementKind::Update
+                | StatementKind::Delete
+        )
+    }
+
     /// Returns whether statements of this kind have a query, so that `Session::explain` can show its plan.
     pub fn has_plan(self) -> bool
         ensures { result ≡ has_plan self }

@@ -1,7 +1,6 @@
 //! What the table of templates knows about each of its sets of slots.
 ghost use Rattle.std.specs.Prelude.{◌≡◌, ◌<◌, IfOk, IfSome, length};
 ghost use Rattle.mm_lang.specs.Templates.{holes_of};
-ghost use Rattle.mm_session.specs.steps.Filled.{IsFilledStatement};
 ghost use Rattle.mm_session.specs.steps.Forms.{IsReadyStatement};
 ghost use Rattle.mm_statement.specs.Holes.{hole_count};
 
@@ -64,8 +63,8 @@ impl TemplateSet {
         self.refused = 0;
     }
 
-    /// Reads a template, and returns its statement with a bound form filled with the values. Returns `None` if the template has no
-    /// reading, if the catalog refuses it, or if an allocation fails.
+    /// Reads a template, and returns its statement. Returns `None` if the template has no reading, if it cannot be bound with the values,
+    /// and if an allocation fails.
     pub(crate) fn read(
         &mut self,
         alloc: Global,
@@ -76,9 +75,9 @@ impl TemplateSet {
     ) -> Option<Statement>
         requires { length values.now ≡ hole_count (holes_of template.now) }
         ensures ready { IfSome result (IsReadyStatement database.now.schema) }
-        ensures filled { IfSome result (IsFilledStatement database.now.schema template.now values.now) }
+        ensures line { IfSome result (λ statement. statement.line.items ≡ template.now) }
     {
-        match filled_statement(alloc, database, template, values) {
+        match bound_statement(alloc, database, template, values) {
             Ok(statement) => statement,
             Err(refusal) => {
                 if is_of_names(refusal) {
@@ -90,9 +89,9 @@ impl TemplateSet {
     }
 }
 
-/// Reads a template, and returns its statement with a bound form filled with the values, or `None` for a command of another kind. Fails
-/// as [`Statement::read`] and [`Statement::fill`] do.
-fn filled_statement(
+/// Reads a template, and returns its statement, or `None` if no bound form takes the values. Fails as [`Statement::read`] and
+/// [`Statement::fill`] do.
+fn bound_statement(
     alloc: Global,
     database: &Db,
     template: &[u8],
@@ -100,13 +99,12 @@ fn filled_statement(
 ) -> Result<Option<Statement>, Refusal>
     requires { length values.now ≡ hole_count (holes_of template.now) }
     ensures ready { IfOk result (λ found. IfSome found (IsReadyStatement database.now.schema)) }
-    ensures filled { IfOk result (λ found. IfSome found (IsFilledStatement database.now.schema template.now values.now)) }
+    ensures line { IfOk result (λ found. IfSome found (λ statement. statement.line.items ≡ template.now)) }
 {
-    let mut statement = Statement::read(alloc, template)?;
-    if statement.fill(alloc, database, values)? {
-        Ok(Some(statement))
-    } else {
-        Ok(None)
+    let mut statement = Statement::read(alloc, database, template)?;
+    match statement.fill(alloc, database, values)? {
+        Some(_) => Ok(Some(statement)),
+        None => Ok(None),
     }
 }
 

@@ -1,5 +1,5 @@
 //! The slots of the table of templates.
-ghost use Rattle.std.specs.Prelude.{◌≡◌, ◌<◌, ℕ, IfOk, IfSome, List, None, Some, length, map, slice_get, true};
+ghost use Rattle.std.specs.Prelude.{◌≡◌, ◌<◌, ℕ, IfOk, IfSome, List, None, Some, length, map, true};
 ghost use Rattle.std.specs.List.{All};
 ghost use Rattle.std.specs.Option.{IfNone};
 ghost use Rattle.mm_lang.specs.Templates.{holes_of};
@@ -11,6 +11,7 @@ ghost use Rattle.mm_session.specs.steps.Places.{line_in};
 ghost use Rattle.mm_statement.specs.Holes.{hole_count};
 
 use crate::bound_form::BoundForm;
+use crate::refilling::Refilled;
 use crate::slots::statement_at;
 use crate::statement::Statement;
 use crate::template_set::SETS;
@@ -43,43 +44,44 @@ fn has_template(slots: &[Option<Statement>], number: usize, template: &[u8]) -> 
     }
 }
 
-/// Fills the bound form of the statement with a number, and returns the number. Binds the statement if it has no form. Returns `None`, and
-/// drops the form, if the values do not fit it, if the catalog refuses the command, or if an allocation fails.
+/// Fills the bound form of the statement with a number. Binds the statement if it has no form. Returns `None`, and drops the form, if the
+/// values do not fit it, if the catalog refuses the command, or if an allocation fails.
 pub(crate) fn fill_at(
     alloc: Global,
     database: &Db,
     slots: &mut Vec<Option<Statement>>,
     number: usize,
     values: &[Value],
-) -> Option<usize>
+) -> Option<Refilled>
     requires ready { All (IsReady database.now.schema) slots.old.items }
     requires count { (template : List ℕ) → line_at number (map line_in slots.old.items) ≡ Some template
         → length values.now ≡ hole_count (holes_of template) }
     ensures ready { All (IsReady database.now.schema) slots.new.items }
     ensures filled { IfSome result (λ filled. (template : List ℕ) → line_at number (map line_in slots.old.items) ≡ Some template
-        → IsFilledAt database.now.schema template values.now filled slots.new.items) }
+        → IsFilledAt database.now.schema template values.now number filled slots.new.items) }
 {
     if number >= slots.len() {
         return None;
     }
-    if fill_slot(alloc, database, &mut slots[number], values) {
-        Some(number)
-    } else {
-        None
-    }
+    fill_slot(alloc, database, &mut slots[number], values)
 }
 
-/// Fills the bound form of a slot's statement as [`fill_at`] does, and returns whether it is filled.
-fn fill_slot(alloc: Global, database: &Db, slot: &mut Option<Statement>, values: &[Value]) -> bool
+/// Fills the bound form of a slot's statement as [`fill_at`] does.
+fn fill_slot(
+    alloc: Global,
+    database: &Db,
+    slot: &mut Option<Statement>,
+    values: &[Value],
+) -> Option<Refilled>
     requires ready { IsReady database.now.schema slot.old }
     requires count { (template : List ℕ) → line_in slot.old ≡ Some template → length values.now ≡ hole_count (holes_of template) }
     ensures ready { IsReady database.now.schema slot.new }
-    ensures filled { result ≡ true → (template : List ℕ) → line_in slot.old ≡ Some template
-        → IsFilledIn database.now.schema template values.now slot.new }
+    ensures filled { IfSome result (λ filled. (template : List ℕ) → line_in slot.old ≡ Some template
+        → IsFilledIn database.now.schema template values.now filled slot.new) }
 {
     match slot {
-        Some(statement) => matches!(statement.fill(alloc, database, values), Ok(true)),
-        None => false,
+        Some(statement) => statement.fill(alloc, database, values).ok()?,
+        None => None,
     }
 }
 
@@ -93,7 +95,7 @@ pub(crate) fn put(
 ) -> Option<usize>
     ensures ready { (schema : Schema) → All (IsReady schema) slots.old.items → IsReadyStatement schema statement
         → All (IsReady schema) slots.new.items }
-    ensures there { IfSome result (λ place. slice_get slots.new.items place ≡ Some (Some statement)) }
+    ensures there { IfSome result (λ place. line_at place (map line_in slots.new.items) ≡ Some statement.line.items) }
 {
     make_slots(alloc, slots).ok()?;
     if number >= slots.len() {

@@ -1,13 +1,14 @@
 //! Templates of lines that came more than once.
-ghost use Rattle.std.specs.Prelude.{◌≡◌, ℕ, IfSome, List};
+ghost use Rattle.std.specs.Prelude.{◌≡◌, ℕ, IfSome, List, Some, length, map};
 ghost use Rattle.mm_lang.specs.Templates.{holes_of};
 ghost use Rattle.mm_schema.specs.Schema.{Schema};
+ghost use Rattle.mm_session.specs.Statements.{line_at};
 ghost use Rattle.mm_session.specs.Templates.{AreReady, IsBoundAt, IsBoundLine};
-ghost use Rattle.mm_session.specs.steps.Filled.{IsFilledAt};
+ghost use Rattle.mm_session.specs.steps.Places.{line_in};
 ghost use Rattle.mm_statement.specs.Holes.{hole_count};
-ghost use Rattle.std.specs.Prelude.{length};
 
 use crate::bound_line::{BoundLine, lend};
+use crate::refilling::Refilled;
 use crate::slots::forget_bound_forms;
 use crate::statement::Statement;
 use crate::template_hash::template_hash;
@@ -16,6 +17,15 @@ use crate::template_slots::{fill_at, form_at, place_of, put};
 use mm_template::{Cutter, cut_lines_read_as_fillings};
 use mm_txn::Db;
 use std::alloc::Global;
+
+/// A line whose template is kept.
+#[derive(Drop)]
+pub struct FoundLine {
+    /// The number of the template's slot.
+    number: usize,
+    /// Where the line's values are.
+    filled: Refilled,
+}
 
 /// Templates of lines that came more than once, with their bound forms: at most 64 templates of at most 512 bytes each.
 #[derive(Drop)]
@@ -38,53 +48,62 @@ impl Templates {
         }
     }
 
-    /// Finds the template of a line, writes the line's values into its bound form, and returns the number of its slot. Returns `None` if
-    /// the line has to be read: if [`Cutter::cut`] does not cut it, if its template comes for the first time, if a value has another type
-    /// than in the line before, if the catalog refuses the line, or if an allocation fails.
-    pub fn find(&mut self, alloc: Global, database: &Db, line: &[u8]) -> Option<usize>
+    /// Finds the template of a line, and writes the line's values into its bound form. Returns `None` if the line has to be read: if
+    /// [`Cutter::cut`] does not cut it, if its template comes for the first time, if a value has another type than its column, if the
+    /// catalog refuses the line, or if an allocation fails.
+    pub fn find(&mut self, alloc: Global, database: &Db, line: &[u8]) -> Option<FoundLine>
         requires { AreReady database.now.schema self.old }
         ensures ready { AreReady database.now.schema self.new }
-        ensures found { IfSome result (λ number. IsBoundAt number database.now.schema line.now self.new) }
+        ensures found { IfSome result (λ found. IsBoundAt found database.now.schema line.now self.new) }
     {
         cut_lines_read_as_fillings();
         if !self.cutter.cut(alloc, line) {
             return None;
         }
-        self.find_cut(alloc, database)
+        let number = self.find_cut(alloc, database)?;
+        let filled = fill_at(
+            alloc,
+            database,
+            &mut self.slots,
+            number,
+            self.cutter.values(),
+        )?;
+        Some(FoundLine { number, filled })
     }
 
-    /// Finds the template of the line that was cut last, as [`Templates::find`] does.
+    /// Returns the number of the slot with the template of the line that was cut last. Keeps the template if it comes again.
     fn find_cut(&mut self, alloc: Global, database: &Db) -> Option<usize>
         requires ready { AreReady database.now.schema self.old }
         requires count { length self.old.cutter.values ≡ hole_count (holes_of self.old.cutter.template) }
+        ensures cutter { self.new.cutter ≡ self.old.cutter }
         ensures ready { AreReady database.now.schema self.new }
-        ensures found { IfSome result (λ number.
-            IsFilledAt database.now.schema self.old.cutter.template self.old.cutter.values number self.new.slots.items) }
+        ensures found { IfSome result (λ number. line_at number (map line_in self.new.slots.items) ≡ Some self.old.cutter.template) }
     {
         let template = self.cutter.template();
-        let values = self.cutter.values();
         let hash = template_hash(template);
         let place = (hash % SETS as u64) as usize;
         let set = &mut self.sets[place];
         if let Some(number) = place_of(&self.slots, place, template) {
             set.note_use(number);
-            return fill_at(alloc, database, &mut self.slots, number, values);
+            return Some(number);
         }
         if !set.expects(hash) {
             return None;
         }
+        let values = self.cutter.values();
         let statement = set.read(alloc, database, hash, template, values)?;
         let number = set.next_number(place);
         put(alloc, &mut self.slots, number, statement)
     }
 
     /// Returns the bound form that [`Templates::find`] filled.
-    pub fn bound(&self, number: usize) -> BoundLine<'_>
-        requires { (schema : Schema) × (line : List ℕ) × IsBoundAt number schema line self.now }
-        ensures { (schema : Schema) (line : List ℕ) → IsBoundAt number schema line self.now → IsBoundLine schema line result }
+    pub fn bound(&self, found: FoundLine) -> BoundLine<'_>
+        requires { (schema : Schema) × (line : List ℕ) × IsBoundAt found schema line self.now }
+        ensures { (schema : Schema) (line : List ℕ) → IsBoundAt found schema line self.now → IsBoundLine schema line result }
     {
+        let FoundLine { number, filled } = found;
         match form_at(&self.slots, number) {
-            Some(form) => lend(form),
+            Some(form) => lend(form, filled),
             None => unreachable!(),
         }
     }

@@ -46,8 +46,8 @@ pub(crate) fn answer_line<W: Write>(
     ensures { RepliesToLine W.contents writer.old writer.new line.now database.old database.new result }
 {
     match database.templates.find(alloc, &database.db, line) {
-        Some(number) => {
-            let bound = database.templates.bound(number);
+        Some(found) => {
+            let bound = database.templates.bound(found);
             answer_bound(alloc, &mut database.db, bound, writer)
         }
         None => answer_read(

@@ -1,24 +1,48 @@
 -- Bound forms with values in their holes, and how they are lent.
-use Rattle.std.specs.Prelude.{◌≡◌, ℕ, Bool, true, false, List, Option, Some, Ok, slice_get}
-use Rattle.std.specs.Option.{option_and_then}
+use Rattle.std.specs.Prelude.{◌≡◌, ◌⊎◌, ℕ, Bool, List, Option, None, Some, Ok, slice_get}
+use Rattle.std.specs.Option.{option_and_then, option_map}
 use Rattle.mm_value.specs.declared.values.Value.{Value}
 use Rattle.mm_schema.specs.Schema.{Schema}
+use Rattle.mm_query.specs.declared.bind.BoundChange.{BoundChange}
 use Rattle.mm_query.specs.declared.bind.BoundChange.TheVariants as bound
 use Rattle.mm_query.specs.declared.command.Command.{Command}
 use Rattle.mm_query.specs.declared.command.Command.TheVariants.{Change, Select}
 use Rattle.mm_lang.specs.Templates.{holes_of, template_of}
+use Rattle.mm_statement.specs.Holes.{HolePlaces}
+use Rattle.mm_statement.specs.Refilling.{RefillsChange}
 use Rattle.mm_txn.specs.Bound.{IsBoundChange, IsBoundQuery, bound_of}
 use Rattle.mm_session.specs.declared.bound_form.BoundForm.{BoundForm}
 use Rattle.mm_session.specs.declared.bound_form.BoundForm.TheVariants as form
 use Rattle.mm_session.specs.declared.bound_line.BoundLine.{BoundLine}
 use Rattle.mm_session.specs.declared.bound_line.BoundLine.TheVariants as lent
+use Rattle.mm_session.specs.declared.refilling.Refilled.{Refilled}
+use Rattle.mm_session.specs.declared.refilling.Refilled.TheVariants as values
 use Rattle.mm_session.specs.declared.statement.Statement.{Statement}
 use Rattle.mm_session.specs.steps.Forms.{IsFormWith}
 
--- A bound form can be lent to be run, unless it is that of an INSERT, whose rows a run consumes.
-abbrev pub can_be_lent : BoundForm → Bool
-can_be_lent (form.Change (bound.Insert table tuples)) = false
-can_be_lent other = true
+-- The bound change that a run makes: an INSERT gets the rows that lie apart, and there is none without them.
+abbrev pub change_to_run : BoundChange → Refilled → Option BoundChange
+change_to_run (bound.Insert table tuples) (values.Apart rows) = Some (bound.Insert table rows)
+change_to_run (bound.Insert table tuples) values.InPlace = None
+change_to_run other filled = Some other
+
+-- The bound form that is run.
+abbrev pub form_to_run : BoundForm → Refilled → Option BoundForm
+form_to_run (form.Query bound) filled = Some (form.Query bound)
+form_to_run (form.Change bound) filled = option_map (λ (change : BoundChange). form.Change change) (change_to_run bound filled)
+
+-- The form that is run is the bound form, in a catalog, of a command with these values in its holes.
+pub record IsToRun (schema : Schema) (holes : List Bool) (values : List Value) (command : Command) (bound : BoundForm) (filled : Refilled) : Type 0 where
+  pub ran : BoundForm
+  pub is : form_to_run bound filled ≡ Some ran
+  pub binds : IsFormWith schema holes values command ran
+
+-- The change that is run has new values in the holes of a bound change, which is kept as it was or as it is run.
+pub record RefillsToRun (holes : HolePlaces) (values : List Value) (old new : BoundChange) (filled : Refilled) : Type 0 where
+  pub ran : BoundChange
+  pub is : change_to_run new filled ≡ Some ran
+  pub refills : RefillsChange holes values old ran
+  pub kept : (new ≡ old) ⊎ (new ≡ ran)
 
 -- What is lent is the bound form of a command in a catalog.
 abbrev pub IsLent : Schema → Command → BoundLine → Type 0
@@ -26,24 +50,24 @@ IsLent schema (Select query) (lent.Query bound) = IsBoundQuery schema query boun
 IsLent schema (Change mutation) (lent.Change change) = IsBoundChange schema mutation (bound_of change)
 IsLent schema command other = ⊥
 
--- The statement of this line has a bound form, in a catalog, of its command with these values in its holes, and that can be lent.
-pub record IsFilledStatement (schema : Schema) (line : List ℕ) (values : List Value) (statement : Statement) : Type 0 where
+-- The statement of this line has a bound form to run, in a catalog, of its command with these values in its holes.
+pub record IsFilledStatement (schema : Schema) (line : List ℕ) (values : List Value) (statement : Statement) (filled : Refilled) : Type 0 where
   pub same : statement.line.items ≡ line
   pub form : BoundForm
   pub is : statement.bound ≡ Some form
-  pub lent : can_be_lent form ≡ true
   pub command : Command
   pub read : template_of line ≡ Ok command
-  pub binds : IsFormWith schema (holes_of line) values command form
+  pub runs : IsToRun schema (holes_of line) values command form filled
 
 -- The slot has such a statement.
-abbrev pub IsFilledIn : Schema → List ℕ → List Value → Option Statement → Type 0
-IsFilledIn schema line values slot = (statement : Statement) × (slot ≡ Some statement) × IsFilledStatement schema line values statement
+abbrev pub IsFilledIn : Schema → List ℕ → List Value → Refilled → Option Statement → Type 0
+IsFilledIn schema line values filled slot =
+    (statement : Statement) × (slot ≡ Some statement) × IsFilledStatement schema line values statement filled
 
 -- The slot with this number has such a statement.
-abbrev pub IsFilledAt : Schema → List ℕ → List Value → ℕ → List (Option Statement) → Type 0
-IsFilledAt schema line values number slots =
-    (statement : Statement) × (slice_get slots number ≡ Some (Some statement)) × IsFilledStatement schema line values statement
+abbrev pub IsFilledAt : Schema → List ℕ → List Value → ℕ → Refilled → List (Option Statement) → Type 0
+IsFilledAt schema line values number filled slots =
+    (statement : Statement) × (slice_get slots number ≡ Some (Some statement)) × IsFilledStatement schema line values statement filled
 
 -- The bound form of a slot's statement, if there is one.
 abbrev pub form_in : Option Statement → Option BoundForm

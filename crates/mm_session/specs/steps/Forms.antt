@@ -1,22 +1,17 @@
 -- Statements and their bound forms.
-use Rattle.std.specs.Prelude.{◌≡◌, ◌⊎◌, ℕ, Bool, false, List, Option, None, Result, Ok, Err, IfSome}
+use Rattle.std.specs.Prelude.{◌≡◌, ◌⊎◌, ℕ, Bool, List, Option, Result, Ok, Err, IfSome}
 use Rattle.mm_value.specs.declared.refusal.Refusal.{Refusal}
 use Rattle.mm_value.specs.declared.refusal.Refusal.TheVariants.{Memory}
 use Rattle.mm_value.specs.declared.values.Value.{Value}
 use Rattle.mm_schema.specs.Schema.{HasDistinctNames, Schema}
-use Rattle.mm_query.specs.Machine.{Outcome}
 use Rattle.mm_query.specs.Resolving.{places_in}
-use Rattle.mm_query.specs.State.{State}
 use Rattle.mm_query.specs.declared.bind.BoundChange.{BoundChange}
 use Rattle.mm_query.specs.declared.bound_query.Bound.{Bound}
 use Rattle.mm_query.specs.declared.command.Command.{Command}
 use Rattle.mm_query.specs.declared.command.Command.TheVariants.{Change, Select}
 use Rattle.mm_query.specs.declared.command.Mutation.{Mutation}
 use Rattle.mm_query.specs.declared.query.Query.{Query}
-use Rattle.mm_lang.specs.Answering.{MayLeadTo}
-use Rattle.mm_lang.specs.Reading.{first_fault, literals_of}
 use Rattle.mm_lang.specs.Templates.{holes_of, template_of}
-use Rattle.mm_statement.specs.Filling.{Filled}
 use Rattle.mm_statement.specs.Holes.{HolePlaces, hole_places}
 use Rattle.mm_statement.specs.Refilling.{BindsFilledChange, BindsFilledQuery}
 use Rattle.mm_txn.specs.Bound.{IsBoundChange, IsBoundQuery}
@@ -24,7 +19,6 @@ use Rattle.mm_session.specs.Kinds.{kind_of}
 use Rattle.mm_session.specs.declared.bound_form.BoundForm.{BoundForm}
 use Rattle.mm_session.specs.declared.bound_form.BoundForm.TheVariants as form
 use Rattle.mm_session.specs.declared.statement.Statement.{Statement}
-use Rattle.mm_session.specs.steps.Readings.{is_definition}
 
 -- This is the bound form of a command in a catalog.
 abbrev pub IsBoundForm : Schema → Command → BoundForm → Type 0
@@ -62,19 +56,6 @@ pub record HasForm (schema : Schema) (holes : HolePlaces) (command : Command) (b
   pub places : holes ≡ hole_places holes.are_holes command
   pub form : IsFormOf schema holes.are_holes command bound
 
--- This is an outcome of the command with these values in its holes, and the form is still a bound form of the command.
-pub record Reruns (holes : HolePlaces) (values : List Value) (command : Command) (before : State) (bound : BoundForm) (outcome : Outcome) : Type 0 where
-  pub filled : Command
-  pub fills : Filled holes.are_holes values command filled
-  pub within : first_fault (literals_of filled) ≡ None
-  pub other : is_definition filled ≡ false
-  pub leads : MayLeadTo (Ok filled) before outcome
-  pub form : IsFormOf before.schema holes.are_holes command bound
-
--- The bound form is this change.
-abbrev pub KeepsChange : BoundChange → BoundForm → Type 0
-KeepsChange change bound = bound ≡ form.Change change
-
 -- A statement has the holes and the kind of its line's command, and its bound form, if any, is one in this catalog.
 pub record IsReadyStatement (schema : Schema) (statement : Statement) : Type 0 where
   pub command : Command
@@ -87,7 +68,7 @@ pub record IsReadyStatement (schema : Schema) (statement : Statement) : Type 0 w
 abbrev pub IsReady : Schema → Option Statement → Type 0
 IsReady schema slot = IfSome slot (IsReadyStatement schema)
 
--- The line is now a statement that is ready in any catalog; or it cannot be read, or an allocation failed.
-abbrev pub ReadsStatement : List ℕ → Result Statement Refusal → Type 0
-ReadsStatement line (Ok statement) = (statement.line.items ≡ line) × ((schema : Schema) → IsReadyStatement schema statement)
-ReadsStatement line (Err refusal) = (template_of line ≡ Err refusal) ⊎ (refusal ≡ Memory)
+-- The line is now a statement that is ready in this catalog; or it cannot be read, or an allocation failed.
+abbrev pub ReadsStatement : Schema → List ℕ → Result Statement Refusal → Type 0
+ReadsStatement schema line (Ok statement) = (statement.line.items ≡ line) × IsReadyStatement schema statement
+ReadsStatement schema line (Err refusal) = (template_of line ≡ Err refusal) ⊎ (refusal ≡ Memory)

@@ -8,7 +8,7 @@ use Rattle.mm_session.proofs.session.Session.prepare.Goals as goal
 pub invariant_of-self-2 : goal.invariant_of-self-2
 invariant_of-self-2 c = (
   put_ready c.self.inside.database.schema c.in_ok-statement.statement c.in_ok-number.number c.self.inside.statements.items c.add.new.statements.items
-      c.in_ok-number.ensures.ok (c.in_ok-statement.ensures.1 c.self.inside.database.schema) c.self.invariant.0,
+      c.in_ok-number.ensures.ok c.in_ok-statement.ensures.1 c.self.invariant.0,
   c.self.invariant.1,
 )
 
@@ -19,7 +19,7 @@ returns c =
     let line = c.args.line.now in
     let old = c.self.inside.statements.items in
     let new = c.add.new.statements.items in
-    let ready = c.in_ok-statement.ensures.1 c.self.inside.database.schema in
+    let ready = c.in_ok-statement.ensures.1 in
     record {
       command = ready.command;
       read = ap template_of (sym c.in_ok-statement.ensures.0) ∙ ready.read;

@@ -1,18 +1,29 @@
-use Rattle.std.proofs.Common.{ℕ}
-use Rattle.mm_session.proofs.FilledForms.{filled_found, some_more}
-use Rattle.mm_session.specs.Templates.{IsBoundAt}
+use Rattle.std.proofs.Common.{◌≡◌, ℕ, List, Some, length, ap, subst, sym, ◌∙◌}
+use Rattle.mm_lang.specs.Templates.{holes_of}
+use Rattle.mm_statement.specs.Holes.{hole_count}
+use Rattle.mm_template.specs.Cutting.{Cut}
+use Rattle.mm_session.proofs.FilledForms.{filled_found}
 use Rattle.mm_session.specs.steps.Filled.{IsFilledAt}
 use Rattle.mm_session.proofs.templates.Templates.find.Goals as goal
+
+pub fill_at-requires-clause-count : goal.fill_at-requires-clause-count
+fill_at-requires-clause-count c template at =
+    let cut = c.cut.new.self in
+    let both : ◌≡◌ (Some template) (Some cut.template) = sym at ∙ c.in_ok-number.ensures.found in
+    let same : template ≡ cut.template = cc in
+    ap length (c.values.ensures ∙ ap (λ (cutter : Cut). cutter.values) c.in_ok-number.ensures.cutter)
+    ∙ ((c.cut.ensures c.if-not-cut.false).count ∙ ap (λ (t : List ℕ). hole_count (holes_of t)) (sym same))
 
 pub returns-clause-found : goal.returns-clause-found
 returns-clause-found c =
     let schema = c.args.database.now.schema in
     let line = c.args.line.now in
     let cut = c.cut.new.self in
-    let new = c.find_cut.new.self in
-    some_more (λ (number : ℕ). IsFilledAt schema cut.template cut.values number new.slots.items) (λ (number : ℕ). IsBoundAt number schema line new)
-    c.find_cut.result
-    (λ number filled. filled_found schema line cut.template cut.values number new filled
+    let number = c.in_ok-number.number in
+    let new = record c.find_cut.new.self { slots = c.fill_at.new.slots } in
+    filled_found schema line cut.template cut.values number c.in_ok-filled.filled new
+    (subst (λ values. IsFilledAt schema cut.template values number c.in_ok-filled.filled new.slots.items)
+    (c.values.ensures ∙ ap (λ (cutter : Cut). cutter.values) c.in_ok-number.ensures.cutter)
+    (c.in_ok-filled.ensures.filled cut.template c.in_ok-number.ensures.found))
     (λ command result read fills.
-    c.cut_lines_read_as_fillings.ensures.reads line cut.template cut.values command result (c.cut.ensures c.if-not-cut.false) read fills))
-    c.find_cut.ensures.found
+    c.cut_lines_read_as_fillings.ensures.reads line cut.template cut.values command result (c.cut.ensures c.if-not-cut.false) read fills)
