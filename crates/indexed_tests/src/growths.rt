@@ -51,10 +51,10 @@ fn reserve_again(
     rt: &(impl Abort + AllocGlobal + Print),
     table: &mut IndexedRows,
 ) -> Result<(), Fail> {
-    if table.reserve(rt.alloc(), 200, 200).is_err() {
+    if table.reserve(rt.alloc(), 200, 200, 200).is_err() {
         asked_again(rt)?;
         assert_one(rt, table)?;
-        table.reserve(rt.alloc(), 200, 200)?;
+        table.reserve(rt.alloc(), 200, 200, 200)?;
     }
     Ok(())
 }

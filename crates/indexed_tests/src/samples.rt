@@ -51,7 +51,7 @@ pub fn stage(
 {
     let row = row_of(alloc, key, digit)?;
     row.is_storable();
-    table.reserve(alloc, 1, 0)?;
+    table.reserve(alloc, 1, 0, 0)?;
     Ok(table.stage(row.into_values().as_mut_slice()))
 }
 
@@ -78,7 +78,7 @@ pub fn show(
 ) -> Result<(), AllocError>
     ensures { table.new.places.types ≡ table.old.places.types }
 {
-    table.reserve(rt.alloc(), 0, 1)?;
+    table.reserve(rt.alloc(), 0, 1, 1)?;
     assert_that(rt, table.is_hidden(at));
     table.show(at);
     assert_that(rt, is_in_use(table, at));
@@ -112,7 +112,7 @@ pub fn exchange(
 ) -> Result<(), AllocError>
     ensures { table.new.places.types ≡ table.old.places.types }
 {
-    table.reserve(rt.alloc(), 0, 1)?;
+    table.reserve(rt.alloc(), 0, 1, 1)?;
     assert_that(rt, is_in_use(table, at));
     assert_that(rt, table.is_hidden(other));
     if table.keeps_key(at, other) {

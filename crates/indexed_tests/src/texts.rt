@@ -48,7 +48,7 @@ fn add(
 {
     let row = row_of(rt.alloc(), key, mark)?;
     row.is_storable();
-    table.reserve(rt.alloc(), 1, 0)?;
+    table.reserve(rt.alloc(), 1, 0, 0)?;
     let at = table.stage(row.into_values().as_mut_slice());
     show(rt, table, at)?;
     Ok(at)

@@ -145,11 +145,17 @@ impl IndexedRows {
         self.indexes.as_slice()
     }
 
-    /// Makes room for `n` more rows, and for `m` more entries in each index. `AllocError` if an allocation fails; then there may be more
-    /// room, and all else is as before.
-    pub fn reserve(&mut self, alloc: Global, n: usize, m: usize) -> Result<(), AllocError>
+    /// Makes room for `n` more rows, for `key` more entries in the index on the key, and for `m` more in each further index.
+    /// `AllocError` if an allocation fails; then there may be more room, and all else is as before.
+    pub fn reserve(
+        &mut self,
+        alloc: Global,
+        n: usize,
+        key: usize,
+        m: usize,
+    ) -> Result<(), AllocError>
         ensures rows { OnOk result (n ≤ self.new.places.room) }
-        ensures refs { OnOk result (m ≤ self.new.spare) }
+        ensures refs { OnOk result (key ≤ self.new.spare) }
         ensures entries { OnOk result (All (λ x. m ≤ spare_of x) self.new.indexes) }
         ensures slots { IsUnchanged self.old.places self.new.places }
         ensures room { self.old.places.room ≤ self.new.places.room }
@@ -157,7 +163,7 @@ impl IndexedRows {
         ensures table { SameTable 0 0 self.old self.new }
     {
         self.rows.reserve(alloc, n)?;
-        self.by_key.reserve(alloc, m)?;
+        self.by_key.reserve(alloc, key)?;
         reserve_all(alloc, &mut self.indexes, m)
     }
 
@@ -167,6 +173,7 @@ impl IndexedRows {
         requires storable { AreStorable values.old }
         requires typed { HasTypes self.old.places.types values.old }
         ensures fresh { slot_at self.old.places result ≡ Free }
+        ensures within { result.slot ≤ extent_of self.old.places }
         ensures staged { ChangesOnly self.old.places self.new.places result (Hidden values.old) }
         ensures room { self.new.places.room + 1 ≡ self.old.places.room }
         ensures extent { extent_of self.new.places ≡ max (extent_of self.old.places) (result.slot + 1) }

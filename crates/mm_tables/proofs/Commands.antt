@@ -42,13 +42,13 @@ fits_still key e (Move a b) now (not_a, not_b) (live, hidden) =
     (row_stays now (step e now) a (step_leaves e now a not_a) live, hidden_stays now (step e now) b (step_leaves e now b not_b) hidden)
 fits_still key e (Delete r) now out fits = row_stays now (step e now) r (step_leaves e now r out) fits
 
-all_fit_still : (key : ℕ) (e : Edit) (es : List Edit) (now : Slots) → All (IsApart e) es → All (Fits key now) es → All (Fits key (step e now)) es
+pub all_fit_still : (key : ℕ) (e : Edit) (es : List Edit) (now : Slots) → All (IsApart e) es → All (Fits key now) es → All (Fits key (step e now)) es
 all_fit_still key e es now apart fits k d within = fits_still key e (get_or es k d) now (apart k d within) (fits k d within)
 
-first_apart : (e : Edit) (es : List Edit) → AllPairs IsApart (e ∷ es) → All (IsApart e) es
+pub first_apart : (e : Edit) (es : List Edit) → AllPairs IsApart (e ∷ es) → All (IsApart e) es
 first_apart e es apart k d within = apart 0 (suc k) d (omega arith) (omega arith)
 
-rest_apart : (e : Edit) (es : List Edit) → AllPairs IsApart (e ∷ es) → AllPairs IsApart es
+pub rest_apart : (e : Edit) (es : List Edit) → AllPairs IsApart (e ∷ es) → AllPairs IsApart es
 rest_apart e es apart i j d before within = apart (suc i) (suc j) d (omega arith) (omega arith)
 
 -- edits of one command fit one after the other
@@ -103,7 +103,7 @@ step_came (Delete s) now r (row, is) =
 abbrev pub CameIn : List Edit → RowRef → Type 0
 CameIn es r = (e : Edit) × Contains es e × (came_by e ≡ Some r)
 
-after_came : (es : List Edit) (now : Slots) (r : RowRef) → HasRow (after es now) r → CameIn es r ⊎ (after es now r ≡ now r)
+pub after_came : (es : List Edit) (now : Slots) (r : RowRef) → HasRow (after es now) r → CameIn es r ⊎ (after es now r ≡ now r)
 after_came [] now r live = inr refl
 after_came (e ∷ es) now r live =
     ⊎_elim
@@ -150,7 +150,7 @@ first_of_update a b (Update c d) out = (out.0.0, out.1.0)
 first_of_update a b (Move c d) out = (out.0.0, out.1.0)
 first_of_update a b (Delete q) out = out.0
 
-leaves_came : (e f : Edit) (r : RowRef) → came_by e ≡ Some r → IsApart e f → LeavesOut f r
+pub leaves_came : (e f : Edit) (r : RowRef) → came_by e ≡ Some r → IsApart e f → LeavesOut f r
 leaves_came (Stage s) f r came out = let no : ⊥ = cc in absurd no
 leaves_came (Insert s) f r came out = leaves_named s r f (let is : s ≡ r = cc in is) out
 leaves_came (Update a b) f r came out = leaves_named a r f (let is : a ≡ r = cc in is) (first_of_update a b f out)
@@ -166,7 +166,7 @@ came_live (Move a b) now r came =
     (row_in (now b), put_here a r (Live (row_in (now b))) (put b (Hidden (row_in (now a))) now) (let is : a ≡ r = cc in is))
 came_live (Delete s) now r came = let no : ⊥ = cc in absurd no
 
-after_leaves : (es : List Edit) (now : Slots) (r : RowRef) → All (λ e. LeavesOut e r) es → after es now r ≡ now r
+pub after_leaves : (es : List Edit) (now : Slots) (r : RowRef) → All (λ e. LeavesOut e r) es → after es now r ≡ now r
 after_leaves [] now r out = refl
 after_leaves (e ∷ es) now r out =
     after_leaves es (step e now) r (All-tail (λ f. LeavesOut f r) e es out) ∙ step_leaves e now r (All-head (λ f. LeavesOut f r) e es out)

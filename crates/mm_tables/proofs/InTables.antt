@@ -5,7 +5,8 @@ use Rattle.std.proofs.lemmas.List.{get_or-map, get_or-set_same, get_or-set_other
 use Rattle.std.proofs.Math.Seq.{map-set_same}
 use Rattle.mm_row_order.specs.Refs.{Slots}
 use Rattle.mm_tables.specs.Edits.{step_back}
-use Rattle.mm_tables.specs.Tables.{Shape, no_slots, slots_of, shape_of, state_of, slots_in, keys_of, key_in, back, logged, HoldsAt, KeepsOthers}
+use Rattle.mm_tables.specs.Tables.{Shape, extent_in, extent_of_table, extents_of, no_slots, slots_of, shape_of, state_of, slots_in, keys_of, key_in}
+use Rattle.mm_tables.specs.Tables.{back, logged, HoldsAt, KeepsOthers}
 use Rattle.mm_tables.specs.declared.edit.Edit.{Edit}
 use Rattle.mm_tables.specs.declared.logged_table.LoggedTable.{LoggedTable}
 
@@ -20,10 +21,18 @@ from_HoldsAt P tables i t read here = subst P (sym read) (here t)
 pub slots_read : (tables : List LoggedTable) (i : ℕ) (t : LoggedTable) → i < length tables → t ≡ get_or tables i t → slots_in tables i ≡ slots_of t
 slots_read tables i t within read = get_or-map slots_of tables i t no_slots within ∙ ap slots_of (sym read)
 
+pub extent_read : (tables : List LoggedTable) (i : ℕ) (t : LoggedTable) → i < length tables → t ≡ get_or tables i t
+    → extent_in tables i ≡ extent_of_table t
+extent_read tables i t within read = get_or-map extent_of_table tables i t 0 within ∙ ap extent_of_table (sym read)
+
 pub key_read : (tables : List LoggedTable) (i : ℕ) (t : LoggedTable) → i < length tables → t ≡ get_or tables i t → key_in tables i ≡ t.rows.key
 key_read tables i t within read =
     get_or-map (λ (x : Shape). x.key) (map shape_of tables) i (shape_of t) 0 (subst (λ n. i < n) (sym (length-map tables shape_of)) within)
     ∙ ap (λ (x : Shape). x.key) (get_or-map shape_of tables i t (shape_of t) within ∙ ap shape_of (sym read))
+
+pub extents-same : (tables : List LoggedTable) (i : ℕ) (old new : LoggedTable) → old ≡ get_or tables i old
+    → extent_of_table new ≡ extent_of_table old → extents_of (set tables i new) ≡ extents_of tables
+extents-same tables i old new read same = map-set_same extent_of_table tables i new old (same ∙ ap extent_of_table read)
 
 -- tables of the same shapes
 pub size_from_shapes : (old new : List LoggedTable) → map shape_of new ≡ map shape_of old → length new ≡ length old
@@ -36,8 +45,13 @@ module _ (tables : List LoggedTable) (i : ℕ) (old new : LoggedTable) (within :
   pub shapes-set : shape_of new ≡ shape_of old → map shape_of (set tables i new) ≡ map shape_of tables
   shapes-set same = map-set_same shape_of tables i new old (same ∙ ap shape_of read)
 
-  pub keys-set : shape_of new ≡ shape_of old → keys_of (set tables i new) ≡ keys_of tables
-  keys-set same = ap (map (λ (x : Shape). x.key)) (shapes-set same)
+  pub keys-set : new.rows.key ≡ old.rows.key → keys_of (set tables i new) ≡ keys_of tables
+  keys-set same =
+      let key : Shape → ℕ = λ (x : Shape). x.key in
+      let shapes : List Shape = map shape_of tables in
+      let here : get_or shapes i (shape_of old) ≡ shape_of old = get_or-map shape_of tables i old (shape_of old) within ∙ ap shape_of (sym read) in
+      ap (map key) (map-set shape_of tables i new)
+      ∙ map-set_same key shapes i (shape_of new) (shape_of old) (same ∙ ap key (sym here))
 
   pub state-set : (made : Slots) → slots_of new ≡ made → state_of (set tables i new) ≡ set (state_of tables) i made
   state-set made is = map-set slots_of tables i new ∙ ap (set (state_of tables) i) is
@@ -45,6 +59,17 @@ module _ (tables : List LoggedTable) (i : ℕ) (old new : LoggedTable) (within :
   -- no slot changes
   pub state-same : slots_of new ≡ slots_of old → state_of (set tables i new) ≡ state_of tables
   state-same same = map-set_same slots_of tables i new old (same ∙ ap slots_of read)
+
+  -- the number of used slots
+  pub extent-here : extent_in (set tables i new) i ≡ extent_of_table new
+  extent-here =
+      ap (λ (ns : List ℕ). get_or ns i 0) (map-set extent_of_table tables i new)
+      ∙ get_or-set_same (extents_of tables) i (extent_of_table new) 0 (subst (λ n. i < n) (sym (length-map tables extent_of_table)) within)
+
+  pub extent-other : (t : ℕ) → t ≢ i → extent_in (set tables i new) t ≡ extent_in tables t
+  extent-other t apart =
+      ap (λ (ns : List ℕ). get_or ns t 0) (map-set extent_of_table tables i new)
+      ∙ get_or-set_other (extents_of tables) i t (extent_of_table new) 0 apart
 
   pub slots-here : slots_in (set tables i new) i ≡ slots_of new
   slots-here =

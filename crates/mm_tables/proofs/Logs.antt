@@ -1,6 +1,6 @@
 -- A log while changes are made and undone.
 use Rattle.std.proofs.Common.{◌≡◌, ℕ, ◌≤◌, List, [], ◌∷◌, ◌++◌, length, take, drop, refl, sym, ap, ◌∙◌, subst, arith}
-use Rattle.std.proofs.lemmas.List.{drop-append-le, append_assoc}
+use Rattle.std.proofs.lemmas.List.{drop-append-le, append_assoc, append-nil}
 use Rattle.std.proofs.Math.Seq.{take-append_seam, drop-append_seam}
 use Rattle.mm_tables.specs.Log.{before, StandsBack}
 
@@ -16,38 +16,37 @@ module _ {E S : Type 0} (back : E → S → S) where
       ∙ (ap (λ es. before back es new) (drop-append-le mark log (e ∷ []) within)
       ∙ (before-append (drop mark log) (e ∷ []) new ∙ ap (before back (drop mark log)) was))
 
-  -- changes are being undone: these are left, and the rest is gone
-  pub record Reverting (all : List E) (start : S) (left : List E) (now : S) : Type 0 where
-    pub gone : List E
+  -- changes are being undone: some are left, and the rest is gone
+  pub record Reverting (all : List E) (start : S) (left gone : List E) (now : S) : Type 0 where
     pub split : all ≡ left ++ gone
     pub state : now ≡ before back gone start
 
-  pub Reverting-more : (all left less : List E) (e : E) (start now next : S) → left ≡ less ++ e ∷ [] → next ≡ back e now
-      → Reverting all start left now → Reverting all start less next
-  Reverting-more all left less e start now next popped was so_far = record {
-    gone = e ∷ so_far.gone;
-    split = so_far.split ∙ (ap (λ es. es ++ so_far.gone) popped ∙ append_assoc less (e ∷ []) so_far.gone);
+  pub Reverting-none : (all : List E) (start : S) → Reverting all start all [] start
+  Reverting-none all start = record { split = sym (append-nil all); state = refl }
+
+  pub Reverting-more : (all left less gone : List E) (e : E) (start now next : S) → left ≡ less ++ e ∷ [] → next ≡ back e now
+      → Reverting all start left gone now → Reverting all start less (e ∷ gone) next
+  Reverting-more all left less gone e start now next popped was so_far = record {
+    split = so_far.split ∙ (ap (λ es. es ++ gone) popped ∙ append_assoc less (e ∷ []) gone);
     state = was ∙ ap (back e) so_far.state;
   }
 
-  pub reverted_log : (all left : List E) (start now : S) (mark : ℕ) → length left ≡ mark → Reverting all start left now → left ≡ take mark all
-  reverted_log all left start now mark size done =
-      sym (ap (take mark) done.split ∙ (ap (λ n. take n (left ++ done.gone)) (sym size) ∙ take-append_seam left done.gone))
+  module _ (all left gone : List E) (start now : S) (mark : ℕ) (size : length left ≡ mark) (done : Reverting all start left gone now) where
+    pub reverted_log : left ≡ take mark all
+    reverted_log = sym (ap (take mark) done.split ∙ (ap (λ n. take n (left ++ gone)) (sym size) ∙ take-append_seam left gone))
 
-  pub reverted_state : (all left : List E) (start now : S) (mark : ℕ) → length left ≡ mark → Reverting all start left now
-      → now ≡ before back (drop mark all) start
-  reverted_state all left start now mark size done =
-      done.state
-      ∙ ap (λ es. before back es start)
-      (sym (ap (drop mark) done.split ∙ (ap (λ n. drop n (left ++ done.gone)) (sym size) ∙ drop-append_seam left done.gone)))
+    pub reverted_gone : gone ≡ drop mark all
+    reverted_gone = sym (ap (drop mark) done.split ∙ (ap (λ n. drop n (left ++ gone)) (sym size) ∙ drop-append_seam left gone))
 
-  pub reverted_marks : (all left : List E) (start now : S) (mark : ℕ) → length left ≡ mark → Reverting all start left now
-      → (earlier : ℕ) → earlier ≤ mark → before back (drop earlier left) now ≡ before back (drop earlier all) start
-  reverted_marks all left start now mark size done earlier within =
-      ap (before back (drop earlier left)) done.state
-      ∙ (sym (before-append (drop earlier left) done.gone start)
-      ∙ (ap (λ es. before back es start) (sym (drop-append-le earlier left done.gone (omega (arith, size))))
-      ∙ ap (λ es. before back (drop earlier es) start) (sym done.split)))
+    pub reverted_state : now ≡ before back (drop mark all) start
+    reverted_state = done.state ∙ ap (λ es. before back es start) reverted_gone
+
+    pub reverted_marks : (earlier : ℕ) → earlier ≤ mark → before back (drop earlier left) now ≡ before back (drop earlier all) start
+    reverted_marks earlier within =
+        ap (before back (drop earlier left)) done.state
+        ∙ (sym (before-append (drop earlier left) gone start)
+        ∙ (ap (λ es. before back es start) (sym (drop-append-le earlier left gone (omega (arith, size))))
+        ∙ ap (λ es. before back (drop earlier es) start) (sym done.split)))
 
   module _ (Holds : S → E → Type 0) where
     pub StandsBack-push : (es : List E) (e : E) (now : S) → Holds now e → StandsBack back Holds es (back e now) → StandsBack back Holds (es ++ e ∷ []) now

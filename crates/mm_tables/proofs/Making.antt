@@ -1,24 +1,24 @@
 -- The edits of a command, one after the other, and the tables that come and go.
-use Rattle.std.proofs.Common.{◌≡◌, ℕ, ◌+◌, ◌*◌, ◌^◌, ◌<◌, ◌≤◌, ⊎_elim, zero, suc}
+use Rattle.std.proofs.Common.{◌≡◌, ℕ, ◌+◌, ◌^◌, ◌<◌, ◌≤◌, ⊎_elim, zero, suc}
 use Rattle.std.proofs.Common.{List, [], ◌∷◌, ◌++◌, length, map, get_or, set, drop, take, refl, sym, ap, ◌∙◌, subst, arith, add-one, length-set}
 use Rattle.std.specs.Prelude.{remove}
-use Rattle.std.specs.List.{All}
+use Rattle.std.specs.List.{All, sum_by}
 use Rattle.std.proofs.lemmas.Bool.{cases_lt}
 use Rattle.std.proofs.lemmas.List.{length-map, length-append, map-append, map_push, append_assoc, take_more, get_or_append_left}
 use Rattle.std.proofs.lemmas.List.Edits.{length-remove, get_or-remove_below, get_or-remove_above}
 use Rattle.std.proofs.lemmas.List.Elements.{All-cons}
 use Rattle.std.proofs.Math.Seq.{drop-cons, get_or-append_seam}
 use Rattle.mm_row_order.specs.Refs.{Slots}
-use Rattle.mm_tables.specs.Edits.{step, NoneHidden}
+use Rattle.mm_tables.specs.Edits.{step, NoneHidden, key_places, places}
 use Rattle.mm_tables.specs.Log.{before, StandsBack}
 use Rattle.mm_tables.specs.Tables.{Stored, no_slots, slots_of, shape_of, state_of, slots_in, keys_of, key_in, back, logged}
-use Rattle.mm_tables.specs.Tables.{Holds, HasSpare, HasCapacity, HasCounted, IsLogged}
+use Rattle.mm_tables.specs.Tables.{Holds, HasSpare, HasRoom, HasRoomFor, HasCounted, IsLogged}
 use Rattle.mm_tables.specs.Commands.{after, FitsForth}
 use Rattle.mm_tables.specs.declared.edit.Edit.{Edit}
 use Rattle.mm_tables.specs.declared.log_record.LogRecord.{LogRecord}
 use Rattle.mm_tables.specs.declared.logged_table.LoggedTable.{LoggedTable}
 use Rattle.mm_tables.proofs.InTables.{slots_read, key_same, state_next, slots_next}
-use Rattle.mm_tables.proofs.Room.{HasSpare-less}
+use Rattle.mm_tables.proofs.Room.{HasRoom-fewer, HasRoomFor-cons}
 
 -- the item that a loop has come to
 pub dropped : {X : Type 0} (xs : List X) (i : ℕ) (x : X) → i < length xs → x ≡ get_or xs i x → drop i xs ≡ x ∷ drop (i + 1) xs
@@ -32,11 +32,17 @@ log_more i log edits k e within is =
     ∙ ap (λ (rs : List LogRecord). log ++ rs)
     (sym (ap (map (logged i)) (take_more edits k e within ∙ ap (λ x. take k edits ++ x ∷ []) (sym is)) ∙ map_push (logged i) (take k edits) e))
 
-pub HasCapacity-fewer : (m k : ℕ) (t : LoggedTable) → k ≤ m → HasCapacity 0 m t → HasCapacity 0 k t
-HasCapacity-fewer m k t few was = record {
-  rows = was.rows;
-  spare = HasSpare-less (t.owed + 2 * m) (t.owed + 2 * k) t.rows (omega (arith, few)) was.spare;
-}
+-- the capacity for the edits that are left is for the next one and the others
+pub room_ahead : (edits : List Edit) (i : ℕ) (e : Edit) (t : LoggedTable) → i < length edits → e ≡ get_or edits i e → HasRoomFor (drop i edits) t
+    → HasRoom 0 (sum_by key_places (drop (i + 1) edits) + key_places e) (sum_by places (drop (i + 1) edits) + places e) t
+room_ahead edits i e t within is was =
+    HasRoomFor-cons e (drop (i + 1) edits) t (subst (λ (es : List Edit). HasRoomFor es t) (dropped edits i e within is) was)
+
+pub room_next : (edits : List Edit) (i : ℕ) (e : Edit) (t : LoggedTable) → i < length edits → e ≡ get_or edits i e → HasRoomFor (drop i edits) t
+    → HasRoom 0 (key_places e) (places e) t
+room_next edits i e t within is was =
+    HasRoom-fewer 0 (sum_by key_places (drop (i + 1) edits) + key_places e) (sum_by places (drop (i + 1) edits) + places e) 0 (key_places e) (places e) t
+    (omega arith) (omega arith) (omega arith) (room_ahead edits i e t within is was)
 
 -- one edit more is made
 pub change_more : (t : ℕ) (log : List LogRecord) (old new : Stored) (edits : List Edit) (i : ℕ) (final : List Slots) (e : Edit)
@@ -93,12 +99,12 @@ past_end [] (suc n) = refl
 past_end (s ∷ ss) zero = refl
 past_end (s ∷ ss) (suc n) = past_end ss n
 
-no_entries : (rows : LoggedTable) → HasSpare 0 rows.rows
-no_entries t = record { key = omega arith; indexes = λ k d within. omega arith }
+pub no_entries : (t : LoggedTable) → t.owed.key ≡ 0 → t.owed.indexes ≡ 0 → HasSpare t.owed.key t.owed.indexes t.rows
+no_entries t no_keys none = record { key = omega (arith, no_keys); indexes = λ k d within. omega (arith, none) }
 
 pub IsLogged-added : (tables all : List LoggedTable) (log : List LogRecord) (t : LoggedTable) → all ≡ tables ++ t ∷ [] → log ≡ [] → length tables < 2 ^ 16
-    → slots_of t ≡ no_slots → t.owed ≡ 0 → IsLogged tables log → IsLogged all log
-IsLogged-added tables all log t added empty few free owed was =
+    → slots_of t ≡ no_slots → t.owed.key ≡ 0 → t.owed.indexes ≡ 0 → IsLogged tables log → IsLogged all log
+IsLogged-added tables all log t added empty few free no_keys none was =
     let were : IsLogged tables [] = subst (IsLogged tables) empty was in
     let more : List LoggedTable = tables ++ t ∷ [] in
     let size : length more ≡ length tables + 1 = omega (arith, length-append tables (t ∷ [])) in
@@ -114,7 +120,7 @@ IsLogged-added tables all log t added empty few free owed was =
           (λ (high : length tables ≤ n).
           let last : n ≡ length tables = omega (arith, high, within, size) in
           let here : get_or more n d ≡ t = ap (λ (k : ℕ). get_or more k d) last ∙ get_or-append_seam tables t [] d in
-          let counted : HasCounted [] n t = record { counted = owed; spare = HasSpare-less 0 t.owed t.rows (omega (arith, owed)) (no_entries t) } in
+          let counted : HasCounted [] n t = record { key = no_keys; indexes = none; spare = no_entries t no_keys none } in
           subst (HasCounted [] n) (sym here) counted)
           (cases_lt n (length tables));
     }))
@@ -144,7 +150,7 @@ IsLogged-removed tables rest log i removed empty within was =
           (λ (low : n < i). subst (HasCounted [] n) (sym (get_or-remove_below tables i d n low within)) (were.counted n (omega (arith, low, within)) d))
           (λ (high : i ≤ n).
           let next : HasCounted [] (n + 1) (get_or tables (n + 1) d) = were.counted (n + 1) (omega (arith, inside, size)) d in
-          let same : HasCounted [] n (get_or tables (n + 1) d) = record { counted = next.counted; spare = next.spare } in
+          let same : HasCounted [] n (get_or tables (n + 1) d) = record { key = next.key; indexes = next.indexes; spare = next.spare } in
           subst (HasCounted [] n) (sym (get_or-remove_above tables i d n high within)) same)
           (cases_lt n i);
     }))

@@ -9,9 +9,10 @@ use Rattle.mm_value.specs.declared.row_ref.RowRef.{RowRef}
 use Rattle.mm_value.specs.declared.values.Value.{Value}
 use Rattle.mm_partition.specs.Places.{Content, Free, Live, Hidden}
 use Rattle.mm_row_order.specs.Refs.{Slots, HasRow, HasHidden, row_at}
-use Rattle.mm_tables.specs.Edits.{put, exchanged, step_back, Stands, NoneHidden, kept_by, places_back, IsCleared, DropsHidden}
+use Rattle.mm_tables.specs.Edits.{put, exchanged, step_back, Stands, NoneHidden, kept_by, Owes, IsCleared, DropsHidden}
 use Rattle.mm_tables.specs.Log.{before, StandsBack}
-use Rattle.mm_tables.specs.Tables.{no_slots, slots_of, shape_of, state_of, slots_in, keys_of, back, logged, Holds, HasSpare, HasCounted, HoldsAt, IsLogged}
+use Rattle.mm_tables.specs.Tables.{no_slots, slots_of, shape_of, state_of, slots_in, keys_of, back, logged}
+use Rattle.mm_tables.specs.Tables.{Holds, HasSpare, HasCounted, HasFewSpares, HoldsAt, IsLogged}
 use Rattle.mm_tables.specs.declared.edit.Edit.{Edit}
 use Rattle.mm_tables.specs.declared.edit.Edit.TheVariants.{Stage, Insert, Update, Move, Delete}
 use Rattle.mm_tables.specs.declared.log_record.LogRecord.{LogRecord}
@@ -178,7 +179,7 @@ module _ (tables : List LoggedTable) (i : ℕ) (old new : LoggedTable) (within :
 -- ---- one edit more of the log is forgotten
 
 pub forget_more : (start tables : List LoggedTable) (log : List LogRecord) (i t : ℕ) (e : Edit) (old new : LoggedTable) → old ≡ get_or tables t old
-    → DropsHidden (slots_of old) (slots_of new) → IsCleared (slots_of new) e → new.owed + places_back e ≡ old.owed → HasSpare new.owed new.rows
+    → DropsHidden (slots_of old) (slots_of new) → IsCleared (slots_of new) e → Owes e new.owed old.owed → HasSpare new.owed.key new.owed.indexes new.rows
     → shape_of new ≡ shape_of old → i < length log → logged t e ≡ get_or log i (logged t e) → All (λ r. r.table < length start) log
     → ((k : ℕ) (d : LogRecord) → k < i → ClearedIn tables (get_or log k d)) → ((n : ℕ) → DropsHidden (slots_in start n) (slots_in tables n))
     → ((n : ℕ) → n < length tables → HoldsAt (HasCounted (drop i log) n) tables n) → map shape_of tables ≡ map shape_of start
@@ -206,3 +207,31 @@ forget_more start tables log i t e old new read drops clears owed spare shape be
           (λ n inside. subst (λ (rs : List LogRecord). HoldsAt (HasCounted rs n) tables n) front (counted n inside)),
       shapes-set tables t old new within read shape ∙ shapes,
     )
+
+-- ---- the state stays while trees are trimmed
+
+pub cleared-same : (old new : List LoggedTable) (log : List LogRecord) → state_of new ≡ state_of old → All (ClearedIn old) log → All (ClearedIn new) log
+cleared-same old new log same was =
+    subst (λ (ss : List Slots). All (λ (r : LogRecord). IsCleared (get_or ss r.table no_slots) r.edit) log) (sym same) was
+
+pub drops-same : (start old new : List LoggedTable) → state_of new ≡ state_of old → ((t : ℕ) → DropsHidden (slots_in start t) (slots_in old t))
+    → (t : ℕ) → DropsHidden (slots_in start t) (slots_in new t)
+drops-same start old new same was t = subst (λ (ss : List Slots). DropsHidden (slots_in start t) (get_or ss t no_slots)) (sym same) (was t)
+
+-- what holds of the table that was trimmed last
+pub last_is : (x t : ℕ) (P : ℕ → Type 0) → Some x ≡ Some t → P x → P t
+last_is x t P is here = subst P (let same : x ≡ t = cc in same) here
+
+-- one record more names a table that was trimmed
+pub trim_more : (tables new : List LoggedTable) (log : List LogRecord) (i t : ℕ) (e : Edit) → i < length log → logged t e ≡ get_or log i (logged t e)
+    → HoldsAt (HasFewSpares 64) new t → ((n : ℕ) → HoldsAt (HasFewSpares 64) tables n → HoldsAt (HasFewSpares 64) new n)
+    → ((k : ℕ) (d : LogRecord) → k < i → HoldsAt (HasFewSpares 64) tables (get_or log k d).table)
+    → (k : ℕ) (d : LogRecord) → k < i + 1 → HoldsAt (HasFewSpares 64) new (get_or log k d).table
+trim_more tables new log i t e below is few kept done k d inside =
+    ⊎_elim
+    (λ (earlier : k < i). kept (get_or log k d).table (done k d earlier))
+    (λ (last : i ≤ k).
+    let same : k ≡ i = omega (arith, last, inside) in
+    let item : get_or log k d ≡ logged t e = ap (λ (n : ℕ). get_or log n d) same ∙ (get_or_default log i d (logged t e) below ∙ sym is) in
+    subst (λ (r : LogRecord). HoldsAt (HasFewSpares 64) new r.table) (sym item) few)
+    (cases_lt k i)

@@ -1,6 +1,7 @@
 -- The content of slots while edits are made and undone.
 use Rattle.std.proofs.Common.{◌≡◌, ◌≢◌, ℕ, Bool, true, false, cond, ◌⊎◌, ⊎_elim, inl, inr, List, refl, sym, ap, ap₂, ◌∙◌, subst}
 use Rattle.std.specs.Bool.{OnTrue, OnFalse}
+use Rattle.std.specs.Prelude.{Result, Ok, Err, OnOk, OnErr}
 use Rattle.std.specs.List.{All, Contains}
 use Rattle.std.specs.Cmp.{IsTotalOrder, on_total}
 use Rattle.std.specs.Cmp.Lexicographic.{options_total}
@@ -34,6 +35,15 @@ on_true P false e h = let no : ⊥ = cc in absurd no
 pub on_false : (P : Type 0) (b : Bool) → b ≡ false → OnFalse b P → P
 on_false P true e h = let no : ⊥ = cc in absurd no
 on_false P false e h = h
+
+-- what holds of either result
+pub either_way : {T E : Type 0} (r : Result T E) (A B C : Type 0) → OnOk r A → OnErr r B → (A → C) → (B → C) → C
+either_way (Ok x) A B C ok err from_ok from_err = from_ok ok
+either_way (Err e) A B C ok err from_ok from_err = from_err err
+
+pub both_ok : {T E : Type 0} (r : Result T E) (A B : Type 0) → OnOk r A → OnOk r B → OnOk r (A × B)
+both_ok (Ok x) A B a b = (a, b)
+both_ok (Err e) A B a b = tt
 
 pub on_true_from : (P : Type 0) (b : Bool) → (b ≡ true → P) → OnTrue b P
 on_true_from P true from = from refl

@@ -1,11 +1,12 @@
 -- Edits of the slots of one table, forwards and back.
-use Rattle.std.specs.Prelude.{◌≡◌, ℕ, ◌⊎◌, Bool, cond, eqb, Option, Some, None}
+use Rattle.std.specs.Prelude.{◌≡◌, ℕ, ◌+◌, ◌⊎◌, Bool, cond, eqb, Option, Some, None}
 use Rattle.std.specs.declared.cmp.Ordering.TheVariants.{Equal}
 use Rattle.mm_value.specs.declared.row_ref.RowRef.{RowRef}
 use Rattle.mm_partition.specs.Places.{Content, Free, Live, Hidden}
 use Rattle.mm_row_order.specs.Refs.{Slots, HasRow, HasHidden, row_at}
 use Rattle.mm_indexed.specs.Twins.{keys_by}
 use Rattle.mm_tables.specs.declared.edit.Edit.{Edit}
+use Rattle.mm_tables.specs.declared.index_room.IndexRoom.{IndexRoom}
 use Rattle.mm_tables.specs.declared.edit.Edit.TheVariants.{Stage, Insert, Update, Move, Delete}
 
 -- two references name one slot
@@ -52,13 +53,50 @@ Stands key now (Update a b) = HasRow now a × HasHidden now b × (keys_by key no
 Stands key now (Move a b) = HasRow now a × HasHidden now b
 Stands key now (Delete r) = HasHidden now r
 
--- how many entries the undo of an edit inserts into an index, at most
+-- how many entries an edit inserts into the index on the key, at most
+abbrev pub key_places_made : Edit → ℕ
+key_places_made (Stage r) = 0
+key_places_made (Insert r) = 1
+key_places_made (Update a b) = 0
+key_places_made (Move a b) = 1
+key_places_made (Delete r) = 0
+
+-- how many entries an edit inserts into each further index, at most
+abbrev pub places_made : Edit → ℕ
+places_made (Stage r) = 0
+places_made (Insert r) = 1
+places_made (Update a b) = 1
+places_made (Move a b) = 1
+places_made (Delete r) = 0
+
+-- how many entries the undo of an edit inserts into the index on the key, at most
+abbrev pub key_places_back : Edit → ℕ
+key_places_back (Stage r) = 0
+key_places_back (Insert r) = 0
+key_places_back (Update a b) = 0
+key_places_back (Move a b) = 1
+key_places_back (Delete r) = 1
+
+-- how many entries the undo of an edit inserts into each further index, at most
 abbrev pub places_back : Edit → ℕ
 places_back (Stage r) = 0
 places_back (Insert r) = 0
 places_back (Update a b) = 1
 places_back (Move a b) = 1
 places_back (Delete r) = 1
+
+-- how many entries an edit and its undo insert into the index on the key, at most
+abbrev pub key_places : Edit → ℕ
+key_places e = key_places_made e + key_places_back e
+
+-- how many entries an edit and its undo insert into each further index, at most
+abbrev pub places : Edit → ℕ
+places e = places_made e + places_back e
+
+-- A table owes the undo of one edit more than before.
+pub record Owes (e : Edit) (old new : IndexRoom) : Type 0 where
+  pub key : new.key ≡ old.key + key_places_back e
+  pub indexes : new.indexes ≡ old.indexes + places_back e
 
 -- the slot that an edit made hidden
 abbrev pub kept_by : Edit → Option RowRef

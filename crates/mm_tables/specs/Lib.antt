@@ -1,4 +1,5 @@
 pub mod Edits
 pub mod Commands
 pub mod Log
+pub mod Records
 pub mod Tables

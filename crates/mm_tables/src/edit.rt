@@ -1,7 +1,9 @@
 //! Edits of slots.
 ghost use Rattle.std.specs.Prelude.{◌≡◌};
-ghost use Rattle.mm_tables.specs.Edits.{came_by, kept_by, places_back as places_back_of};
+ghost use Rattle.std.specs.List.{sum_by};
+ghost use Rattle.mm_tables.specs.Edits.{came_by, kept_by, key_places, places, key_places_back, places_back};
 
+use crate::index_room::IndexRoom;
 use mm_value::RowRef;
 
 /// An edit of the slots of a table. One value is the request and the undo record: it names slots, and their rows stay in them.
@@ -20,14 +22,31 @@ pub enum Edit {
 }
 
 impl Edit {
-    /// The most entries that the undo of the edit inserts into an index.
-    pub(crate) fn places_back(self) -> usize
-        ensures { result ≡ places_back_of self }
+    /// The most entries that the edit and its undo together insert.
+    pub(crate) fn room(self) -> IndexRoom
+        ensures key { result.key ≡ key_places self }
+        ensures indexes { result.indexes ≡ places self }
     {
-        match self {
-            Edit::Stage(_) | Edit::Insert(_) => 0,
-            Edit::Update(..) | Edit::Move(..) | Edit::Delete(_) => 1,
-        }
+        let (key, indexes) = match self {
+            Edit::Stage(_) => (0, 0),
+            Edit::Insert(_) | Edit::Delete(_) => (1, 1),
+            Edit::Update(..) => (0, 2),
+            Edit::Move(..) => (2, 2),
+        };
+        IndexRoom { key, indexes }
+    }
+
+    /// The most entries that the undo of the edit inserts.
+    pub(crate) fn owed(self) -> IndexRoom
+        ensures key { result.key ≡ key_places_back self }
+        ensures indexes { result.indexes ≡ places_back self }
+    {
+        let (key, indexes) = match self {
+            Edit::Stage(_) | Edit::Insert(_) => (0, 0),
+            Edit::Update(..) => (0, 1),
+            Edit::Move(..) | Edit::Delete(_) => (1, 1),
+        };
+        IndexRoom { key, indexes }
     }
 
     /// The slot that the edit made hidden.
@@ -49,4 +68,18 @@ impl Edit {
             Edit::Stage(_) | Edit::Delete(_) => None,
         }
     }
+}
+
+/// The most entries that edits and their undo insert together.
+pub fn room_for(edits: &[Edit]) -> IndexRoom
+    ensures key { result.key ≡ sum_by key_places edits.now }
+    ensures indexes { result.indexes ≡ sum_by places edits.now }
+{
+    let mut room = IndexRoom { key: 0, indexes: 0 };
+    for edit in edits {
+        let more = edit.room();
+        room.key += more.key;
+        room.indexes += more.indexes;
+    }
+    room
 }

@@ -2,11 +2,16 @@
 #![tactic(auto)]
 
 mod edit;
+mod edit_log;
+mod index_room;
 mod log_record;
 mod logged_table;
 mod steps;
 mod tables;
+mod trims;
 mod twins;
 
 pub use edit::Edit;
+pub use index_room::IndexRoom;
+pub use log_record::LogRecord;
 pub use tables::Tables;

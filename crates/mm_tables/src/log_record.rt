@@ -4,6 +4,6 @@ use crate::edit::Edit;
 /// An edit of one table.
 #[derive(Clone, Copy)]
 pub struct LogRecord {
-    pub(crate) table: u16,
-    pub(crate) edit: Edit,
+    pub table: u16,
+    pub edit: Edit,
 }

@@ -1,47 +1,57 @@
 //! A table, and what the undo of its edits needs.
-ghost use Rattle.std.specs.Prelude.{◌≡◌, ◌+◌, ◌≤◌, ◌<◌, ◌^◌, ℕ, OnOk};
+ghost use Rattle.std.specs.Prelude.{◌≡◌, ◌+◌, ◌≤◌, ◌<◌, ◌^◌, ℕ, All, length, OnOk, OnErr};
 ghost use Rattle.mm_value.specs.Storable.{AreStorable};
+ghost use Rattle.mm_schema.specs.Rows.{most_rows};
 ghost use Rattle.mm_partition.specs.Places.{Free, Hidden};
 ghost use Rattle.mm_partition.specs.Types.{HasTypes};
-ghost use Rattle.mm_tables.specs.Edits.{put, step, step_back, Fits, Stands, places_back, IsCleared, DropsHidden};
-ghost use Rattle.mm_tables.specs.Tables.{slots_of, shape_of, HasSpare, HasCapacity};
+ghost use Rattle.mm_tables.specs.Edits.{put, step, step_back, Fits, Stands, key_places, places, key_places_back, places_back, Owes};
+ghost use Rattle.mm_tables.specs.Edits.{IsCleared, DropsHidden};
+ghost use Rattle.mm_tables.specs.Tables.{extent_of_table, slots_of, shape_of, HasSpare, HasRoom, HasFewSpares, IndexAdded, without_index};
 
 use crate::edit::Edit;
+use crate::index_room::IndexRoom;
 use crate::steps::{perform, release_hidden, take_back};
 use mm_indexed::IndexedRows;
+use mm_schema::IndexKind;
 use mm_value::{RowRef, Value};
 use std::alloc::{AllocError, Global};
 
-/// The rows of a table, and the most entries that the undo of all logged edits inserts into one of its indexes.
+/// The rows of a table, and the most entries that the undo of all logged edits inserts into its indexes.
 #[derive(Drop)]
 pub struct LoggedTable {
     pub(crate) rows: IndexedRows,
-    pub(crate) owed: usize,
+    pub(crate) owed: IndexRoom,
 }
 
 impl LoggedTable {
-    /// Makes capacity for `rows` new rows and `edits` edits. `AllocError` if an allocation fails; then there may be more capacity.
+    /// Makes capacity for `rows` new rows, and for so many more entries. `AllocError` if an allocation fails; then there may be more
+    /// capacity.
     pub(crate) fn reserve(
         &mut self,
         alloc: Global,
         rows: usize,
-        edits: usize,
+        more: IndexRoom,
     ) -> Result<(), AllocError>
-        requires { edits < 2 ^ 32 }
-        ensures ok { OnOk result (HasCapacity rows edits self.new) }
+        ensures ok { OnOk result (HasRoom rows more.key more.indexes self.new) }
         ensures slots { slots_of self.new ≡ slots_of self.old }
         ensures owed { self.new.owed ≡ self.old.owed }
-        ensures spare { (n : ℕ) → HasSpare n self.old.rows → HasSpare n self.new.rows }
+        ensures spare { (n m : ℕ) → HasSpare n m self.old.rows → HasSpare n m self.new.rows }
         ensures room { self.old.rows.places.room ≤ self.new.rows.places.room }
+        ensures extent { extent_of_table self.new ≡ extent_of_table self.old }
         ensures shape { shape_of self.new ≡ shape_of self.old }
     {
-        let entries = self.owed.checked_add(2 * edits).ok_or(AllocError)?;
-        self.rows.reserve(alloc, rows, entries)
+        let key = self.owed.key.checked_add(more.key).ok_or(AllocError)?;
+        let indexes = self
+            .owed
+            .indexes
+            .checked_add(more.indexes)
+            .ok_or(AllocError)?;
+        self.rows.reserve(alloc, rows, key, indexes)
     }
 
     /// Moves the values of a new row into a free slot that is hidden.
     pub(crate) fn stage(&mut self, values: &mut [Value]) -> RowRef
-        requires capacity { HasCapacity 1 0 self.old }
+        requires room { 1 ≤ self.old.rows.places.room }
         requires storable { AreStorable values.old }
         requires typed { HasTypes self.old.rows.places.types values.old }
         ensures fresh { slots_of self.old result ≡ Free }
@@ -49,8 +59,9 @@ impl LoggedTable {
         ensures back { put result Free (slots_of self.new) ≡ slots_of self.old }
         ensures hidden { slots_of self.new result ≡ Hidden values.old }
         ensures owed { self.new.owed ≡ self.old.owed }
-        ensures spare { (n : ℕ) → HasSpare n self.old.rows → HasSpare n self.new.rows }
+        ensures spare { (n m : ℕ) → HasSpare n m self.old.rows → HasSpare n m self.new.rows }
         ensures room { self.new.rows.places.room + 1 ≡ self.old.rows.places.room }
+        ensures extent { extent_of_table self.new ≤ extent_of_table self.old + 1 }
         ensures shape { shape_of self.new ≡ shape_of self.old }
     {
         self.rows.stage(values)
@@ -59,45 +70,108 @@ impl LoggedTable {
     /// Makes an edit.
     pub(crate) fn change(&mut self, edit: Edit)
         requires fits { Fits self.old.rows.key (slots_of self.old) edit }
-        requires capacity { HasCapacity 0 1 self.old }
-        requires few { self.old.owed + 1 < 2 ^ 64 }
+        requires room { HasRoom 0 (key_places edit) (places edit) self.old }
+        requires few_keys { self.old.owed.key + 1 < 2 ^ 64 }
+        requires few { self.old.owed.indexes + 1 < 2 ^ 64 }
         ensures slots { slots_of self.new ≡ step edit (slots_of self.old) }
         ensures back { step_back edit (slots_of self.new) ≡ slots_of self.old }
         ensures stands { Stands self.old.rows.key (slots_of self.new) edit }
-        ensures owed { self.new.owed ≡ self.old.owed + places_back edit }
-        ensures spare { HasSpare self.new.owed self.new.rows }
-        ensures capacity { (n m : ℕ) → HasCapacity n (m + 1) self.old → HasCapacity n m self.new }
+        ensures owed { Owes edit self.old.owed self.new.owed }
+        ensures spare { HasSpare self.new.owed.key self.new.owed.indexes self.new.rows }
+        ensures room { (n k m : ℕ) → HasRoom n (k + key_places edit) (m + places edit) self.old → HasRoom n k m self.new }
+        ensures extent { extent_of_table self.new ≡ extent_of_table self.old }
         ensures shape { shape_of self.new ≡ shape_of self.old }
     {
         perform(&mut self.rows, edit);
-        self.owed += edit.places_back();
+        let owed = edit.owed();
+        self.owed.key += owed.key;
+        self.owed.indexes += owed.indexes;
     }
 
     /// Undoes an edit.
     pub(crate) fn undo(&mut self, edit: Edit)
         requires stands { Stands self.old.rows.key (slots_of self.old) edit }
-        requires spare { HasSpare self.old.owed self.old.rows }
-        requires owed { places_back edit ≤ self.old.owed }
+        requires spare { HasSpare self.old.owed.key self.old.owed.indexes self.old.rows }
+        requires owed_keys { key_places_back edit ≤ self.old.owed.key }
+        requires owed { places_back edit ≤ self.old.owed.indexes }
         ensures slots { slots_of self.new ≡ step_back edit (slots_of self.old) }
-        ensures owed { self.new.owed + places_back edit ≡ self.old.owed }
-        ensures spare { HasSpare self.new.owed self.new.rows }
+        ensures owed { Owes edit self.new.owed self.old.owed }
+        ensures spare { HasSpare self.new.owed.key self.new.owed.indexes self.new.rows }
+        ensures extent { extent_of_table self.new ≡ extent_of_table self.old }
         ensures shape { shape_of self.new ≡ shape_of self.old }
     {
         take_back(&mut self.rows, edit);
-        self.owed -= edit.places_back();
+        self.owe_less(edit);
     }
 
     /// Forgets an edit: drops the row that it has hidden, if the row is still hidden.
     pub(crate) fn forget(&mut self, edit: Edit)
-        requires spare { HasSpare self.old.owed self.old.rows }
-        requires owed { places_back edit ≤ self.old.owed }
+        requires spare { HasSpare self.old.owed.key self.old.owed.indexes self.old.rows }
+        requires owed_keys { key_places_back edit ≤ self.old.owed.key }
+        requires owed { places_back edit ≤ self.old.owed.indexes }
         ensures cleared { IsCleared (slots_of self.new) edit }
         ensures others { DropsHidden (slots_of self.old) (slots_of self.new) }
-        ensures owed { self.new.owed + places_back edit ≡ self.old.owed }
-        ensures spare { HasSpare self.new.owed self.new.rows }
+        ensures owed { Owes edit self.new.owed self.old.owed }
+        ensures spare { HasSpare self.new.owed.key self.new.owed.indexes self.new.rows }
+        ensures extent { extent_of_table self.new ≡ extent_of_table self.old }
         ensures shape { shape_of self.new ≡ shape_of self.old }
     {
         release_hidden(&mut self.rows, edit);
-        self.owed -= edit.places_back();
+        self.owe_less(edit);
+    }
+
+    /// Owes the undo of an edit no more.
+    fn owe_less(&mut self, edit: Edit)
+        requires owed_keys { key_places_back edit ≤ self.old.owed.key }
+        requires owed { places_back edit ≤ self.old.owed.indexes }
+        ensures owed { Owes edit self.new.owed self.old.owed }
+        ensures rows { self.new.rows ≡ self.old.rows }
+    {
+        let owed = edit.owed();
+        self.owed.key -= owed.key;
+        self.owed.indexes -= owed.indexes;
+    }
+
+    /// Appends an index on a column over the rows in use, with capacity for the undo of the log. `AllocError` if an allocation fails;
+    /// then nothing changes.
+    pub(crate) fn add_index(
+        &mut self,
+        alloc: Global,
+        column: usize,
+        kind: IndexKind,
+    ) -> Result<(), AllocError>
+        requires column { column < length self.old.rows.places.types }
+        requires few { length self.old.rows.refs ≤ most_rows }
+        ensures added { OnOk result (IndexAdded column kind self.old self.new) }
+        ensures slots { slots_of self.new ≡ slots_of self.old }
+        ensures key { self.new.rows.key ≡ self.old.rows.key }
+        ensures owed { self.new.owed ≡ self.old.owed }
+        ensures spare { HasSpare self.old.owed.key self.old.owed.indexes self.old.rows
+            → HasSpare self.new.owed.key self.new.owed.indexes self.new.rows }
+        ensures err { OnErr result (self.new ≡ self.old) }
+    {
+        self.rows.add_index(alloc, column, kind, self.owed.indexes)
+    }
+
+    /// Drops the index at a place, counted from 0.
+    pub(crate) fn drop_index(&mut self, index: usize)
+        requires { index < length self.old.rows.indexes }
+        ensures dropped { self.new ≡ without_index index self.old }
+        ensures spare { (n m : ℕ) → HasSpare n m self.old.rows → HasSpare n m self.new.rows }
+    {
+        self.rows.drop_index(index);
+    }
+
+    /// Frees spare nodes of each tree until it has at most `n`. Requires that no undo is owed.
+    pub(crate) fn trim_spares(&mut self, n: usize)
+        requires key { self.old.owed.key ≡ 0 }
+        requires indexes { self.old.owed.indexes ≡ 0 }
+        ensures few { HasFewSpares n self.new }
+        ensures slots { slots_of self.new ≡ slots_of self.old }
+        ensures owed { self.new.owed ≡ self.old.owed }
+        ensures extent { extent_of_table self.new ≡ extent_of_table self.old }
+        ensures shape { shape_of self.new ≡ shape_of self.old }
+    {
+        self.rows.trim_spares(n);
     }
 }

@@ -1,8 +1,9 @@
 //! Edits of the rows of one table, made and undone.
 ghost use Rattle.std.specs.Prelude.{◌≡◌, ◌+◌};
-ghost use Rattle.mm_partition.specs.Places.{slot_at};
+ghost use Rattle.mm_partition.specs.Places.{extent_of, slot_at};
 ghost use Rattle.mm_indexed.specs.Kept.{SameTable};
-ghost use Rattle.mm_tables.specs.Edits.{step, step_back, Fits, Stands, places_back, IsCleared, DropsHidden};
+ghost use Rattle.mm_tables.specs.Edits.{step, step_back, Fits, Stands, key_places_made, places_made, key_places_back, places_back};
+ghost use Rattle.mm_tables.specs.Edits.{IsCleared, DropsHidden};
 ghost use Rattle.mm_tables.specs.Tables.{HasSpare};
 
 use crate::edit::Edit;
@@ -11,12 +12,13 @@ use mm_indexed::IndexedRows;
 /// Makes an edit.
 pub fn perform(rows: &mut IndexedRows, edit: Edit)
     requires fits { Fits rows.old.key (slot_at rows.old.places) edit }
-    requires spare { HasSpare 1 rows.old }
+    requires spare { HasSpare (key_places_made edit) (places_made edit) rows.old }
     ensures slots { slot_at rows.new.places ≡ step edit (slot_at rows.old.places) }
     ensures back { step_back edit (slot_at rows.new.places) ≡ slot_at rows.old.places }
     ensures stands { Stands rows.old.key (slot_at rows.new.places) edit }
     ensures room { rows.new.places.room ≡ rows.old.places.room }
-    ensures table { SameTable 1 1 rows.old rows.new }
+    ensures extent { extent_of rows.new.places ≡ extent_of rows.old.places }
+    ensures table { SameTable (key_places_made edit) (places_made edit) rows.old rows.new }
 {
     match edit {
         Edit::Stage(_) => unreachable!(),
@@ -30,9 +32,10 @@ pub fn perform(rows: &mut IndexedRows, edit: Edit)
 /// Undoes an edit.
 pub fn take_back(rows: &mut IndexedRows, edit: Edit)
     requires stands { Stands rows.old.key (slot_at rows.old.places) edit }
-    requires spare { HasSpare (places_back edit) rows.old }
+    requires spare { HasSpare (key_places_back edit) (places_back edit) rows.old }
     ensures slots { slot_at rows.new.places ≡ step_back edit (slot_at rows.old.places) }
-    ensures table { SameTable (places_back edit) (places_back edit) rows.old rows.new }
+    ensures extent { extent_of rows.new.places ≡ extent_of rows.old.places }
+    ensures table { SameTable (key_places_back edit) (places_back edit) rows.old rows.new }
 {
     match edit {
         Edit::Stage(at) => rows.release(at),
@@ -47,6 +50,7 @@ pub fn take_back(rows: &mut IndexedRows, edit: Edit)
 pub fn release_hidden(rows: &mut IndexedRows, edit: Edit)
     ensures cleared { IsCleared (slot_at rows.new.places) edit }
     ensures others { DropsHidden (slot_at rows.old.places) (slot_at rows.new.places) }
+    ensures extent { extent_of rows.new.places ≡ extent_of rows.old.places }
     ensures table { SameTable 0 0 rows.old rows.new }
 {
     let Some(at) = edit.kept() else {

@@ -1,5 +1,6 @@
 //! All tables, and one log of the edits since the transaction began.
-ghost use Rattle.std.specs.Prelude.{◌≡◌, ◌+◌, ◌<◌, ◌≤◌, ◌^◌, ℕ, [], ◌∷◌, ◌++◌, All, List, length, map, take, remove, slice_set, OnOk, OnErr};
+ghost use Rattle.std.specs.Prelude.{◌≡◌, ◌≢◌, ◌+◌, ◌<◌, ◌≤◌, ◌^◌, ℕ, [], ◌∷◌, ◌++◌, All, List, length, map, drop, take, remove, slice_set};
+ghost use Rattle.std.specs.Prelude.{slice_index_or, OnOk, OnErr};
 ghost use Rattle.std.specs.Bool.{OnTrue, OnFalse};
 ghost use Rattle.mm_value.specs.declared.row_ref.RowRef.{RowRef};
 ghost use Rattle.mm_value.specs.Storable.{AreStorable};
@@ -7,17 +8,22 @@ ghost use Rattle.mm_partition.specs.Places.{Free, Hidden};
 ghost use Rattle.mm_partition.specs.Types.{HasTypes};
 ghost use Rattle.mm_row_order.specs.Refs.{HasRow};
 ghost use Rattle.mm_indexed.specs.Twins.{AreApart};
-ghost use Rattle.mm_tables.specs.Edits.{put, step, Fits, IsCleared, DropsHidden};
+ghost use Rattle.mm_schema.specs.Rows.{most_rows};
+ghost use Rattle.mm_tables.specs.Edits.{put, step, Fits, key_places, places};
 ghost use Rattle.mm_tables.specs.Commands.{after, FitsForth, IsCommand};
-ghost use Rattle.mm_tables.specs.Tables.{AddsTable, shape_of, state_of, slots_in, key_in, at_mark, HasCapacity, HasCounted, HoldsAt};
-ghost use Rattle.mm_tables.specs.Tables.{KeepsOthers, IsLogged, IsUndone, logged};
+ghost use Rattle.mm_tables.specs.Tables.{AddsTable, IndexAdded, without_index, extent_in, extents_of, shape_of, state_of, slots_in, key_in, at_mark, logged};
+ghost use Rattle.mm_tables.specs.Tables.{HasCapacity, HasRoom, HasRoomFor, HasFewSpares, HoldsAt, KeepsOthers, IsLogged, IsUndone};
 ghost use Rattle.mm_tables.specs.declared.edit.Edit.TheVariants as made;
 
-use crate::edit::Edit;
+use crate::edit::{Edit, room_for};
+use crate::edit_log::EditLog;
+use crate::index_room::IndexRoom;
 use crate::log_record::LogRecord;
 use crate::logged_table::LoggedTable;
+use crate::trims::{forget_all, trim_all};
 use crate::twins::bring_twins;
 use mm_indexed::IndexedRows;
+use mm_schema::IndexKind;
 use mm_value::{ColType, RowRef, Value};
 use std::alloc::{AllocError, Global};
 use std::marker::Model;
@@ -26,23 +32,22 @@ use std::marker::Model;
 #[derive(Drop)]
 pub struct Tables {
     tables: Vec<LoggedTable>,
-    log: Vec<LogRecord>,
+    log: EditLog,
 }
 
 impl Model for Tables {
-    ghost use Rattle.std.specs.Prelude.{◌-◌};
-    ghost use Rattle.std.specs.Vec.{vec_len, vec_capacity};
     ghost use Rattle.mm_tables.specs.Tables.{Stored, IsLogged};
 
     ghost Value = { Stored };
 
     ghost view = { λ s. record {
       tables = s.tables.items;
-      log = s.log.items;
-      log_room = vec_capacity s.log - vec_len s.log;
+      log = s.log.live;
+      undone = s.log.undone;
+      log_room = s.log.room;
     } };
 
-    ghost invariant = { λ s. IsLogged s.tables.items s.log.items };
+    ghost invariant = { λ s. IsLogged s.tables.items s.log.live };
 }
 
 impl Tables {
@@ -50,10 +55,11 @@ impl Tables {
     pub fn new(alloc: Global) -> Tables
         ensures tables { result.tables ≡ [] }
         ensures log { result.log ≡ [] }
+        ensures undone { result.undone ≡ [] }
     {
         Tables {
             tables: Vec::new(alloc),
-            log: Vec::new(alloc),
+            log: EditLog::new(alloc),
         }
     }
 
@@ -88,7 +94,8 @@ impl Tables {
     {
         self.tables.reserve(1)?;
         let rows = IndexedRows::new(alloc, types, key)?;
-        self.tables.push_reserved(LoggedTable { rows, owed: 0 });
+        let owed = IndexRoom { key: 0, indexes: 0 };
+        self.tables.push_reserved(LoggedTable { rows, owed });
         Ok(())
     }
 
@@ -98,8 +105,46 @@ impl Tables {
         requires log { self.old.log ≡ [] }
         ensures tables { self.new.tables ≡ remove self.old.tables table }
         ensures log { self.new.log ≡ [] }
+        ensures undone { self.new.undone ≡ [] }
     {
         self.tables.remove(table);
+        self.log.forget_undone();
+    }
+
+    /// Appends an index on a column of a table over the rows in use, of which there are at most 1,048,576, with capacity for the undo
+    /// of the log. `AllocError` if an allocation fails; then nothing changes.
+    pub fn add_index(
+        &mut self,
+        alloc: Global,
+        table: usize,
+        column: usize,
+        kind: IndexKind,
+    ) -> Result<(), AllocError>
+        requires within { table < length self.old.tables }
+        requires column { HoldsAt (λ x. column < length x.rows.places.types) self.old.tables table }
+        requires few { HoldsAt (λ x. length x.rows.refs ≤ most_rows) self.old.tables table }
+        ensures added { OnOk result ((d : LoggedTable)
+            → IndexAdded column kind (slice_index_or self.old.tables table d) (slice_index_or self.new.tables table d)) }
+        ensures rest { self.new ≡ record self.old { tables = self.new.tables } }
+        ensures others { KeepsOthers table self.old.tables self.new.tables }
+        ensures state { state_of self.new.tables ≡ state_of self.old.tables }
+        ensures marks { (mark : ℕ) → at_mark self.new mark ≡ at_mark self.old mark }
+        ensures err { OnErr result (self.new ≡ self.old) }
+    {
+        self.tables[table].add_index(alloc, column, kind)
+    }
+
+    /// Drops the index of a table at a place, counted from 0. The places of those after it fall by one.
+    pub fn drop_index(&mut self, table: usize, index: usize)
+        requires within { table < length self.old.tables }
+        requires index { HoldsAt (λ x. index < length x.rows.indexes) self.old.tables table }
+        ensures dropped { (d : LoggedTable) → slice_index_or self.new.tables table d ≡ without_index index (slice_index_or self.old.tables table d) }
+        ensures rest { self.new ≡ record self.old { tables = self.new.tables } }
+        ensures others { KeepsOthers table self.old.tables self.new.tables }
+        ensures state { state_of self.new.tables ≡ state_of self.old.tables }
+        ensures marks { (mark : ℕ) → at_mark self.new mark ≡ at_mark self.old mark }
+    {
+        self.tables[table].drop_index(index);
     }
 
     /// The rows of a table with their indexes.
@@ -108,6 +153,20 @@ impl Tables {
         ensures { HoldsAt (λ x. result.now ≡ x.rows) self.now.tables table }
     {
         &self.tables[table].rows
+    }
+
+    /// The records of the log, the oldest first.
+    pub fn records(&self) -> &[LogRecord]
+        ensures { result.now ≡ self.now.log }
+    {
+        self.log.records()
+    }
+
+    /// The records that `revert` or a refused `make` has undone, the oldest first, until the next stage or change.
+    pub fn undone(&self) -> &[LogRecord]
+        ensures { result.now ≡ self.now.undone }
+    {
+        self.log.undone()
     }
 
     /// The length of the log: a savepoint.
@@ -133,10 +192,58 @@ impl Tables {
         ensures others { KeepsOthers table self.old.tables self.new.tables }
         ensures state { state_of self.new.tables ≡ state_of self.old.tables }
         ensures log { self.new.log ≡ self.old.log }
+        ensures undone { self.new.undone ≡ self.old.undone }
         ensures log_room { self.new.log_room ≡ self.old.log_room }
+        ensures extents { extents_of self.new.tables ≡ extents_of self.old.tables }
         ensures shapes { map shape_of self.new.tables ≡ map shape_of self.old.tables }
     {
-        self.tables[table].reserve(alloc, rows, edits)
+        let entries = 2 * edits;
+        let more = IndexRoom {
+            key: entries,
+            indexes: entries,
+        };
+        self.reserve_room(alloc, table, rows, more)
+    }
+
+    /// Makes capacity for these edits of a table, and for their undo: an `Update` needs none in the index on the key. `AllocError` if
+    /// an allocation fails; then there may be more capacity, and all else is as before.
+    pub fn reserve_for(
+        &mut self,
+        alloc: Global,
+        table: usize,
+        edits: &[Edit],
+    ) -> Result<(), AllocError>
+        requires { table < length self.old.tables }
+        ensures capacity { OnOk result (HoldsAt (HasRoomFor edits.now) self.new.tables table) }
+        ensures kept { (n k m : ℕ) → HoldsAt (HasRoom n k m) self.old.tables table → HoldsAt (HasRoom n k m) self.new.tables table }
+        ensures others { KeepsOthers table self.old.tables self.new.tables }
+        ensures state { state_of self.new.tables ≡ state_of self.old.tables }
+        ensures rest { self.new ≡ record self.old { tables = self.new.tables } }
+        ensures extents { extents_of self.new.tables ≡ extents_of self.old.tables }
+        ensures shapes { map shape_of self.new.tables ≡ map shape_of self.old.tables }
+    {
+        self.reserve_room(alloc, table, 0, room_for(edits))
+    }
+
+    /// Makes capacity for `rows` new rows of a table, and for `more` entries of its indexes. `AllocError` if an allocation fails; then
+    /// there may be more capacity, and all else is as before.
+    pub fn reserve_room(
+        &mut self,
+        alloc: Global,
+        table: usize,
+        rows: usize,
+        more: IndexRoom,
+    ) -> Result<(), AllocError>
+        requires { table < length self.old.tables }
+        ensures room { OnOk result (HoldsAt (HasRoom rows more.key more.indexes) self.new.tables table) }
+        ensures kept { (n k m : ℕ) → HoldsAt (HasRoom n k m) self.old.tables table → HoldsAt (HasRoom n k m) self.new.tables table }
+        ensures others { KeepsOthers table self.old.tables self.new.tables }
+        ensures state { state_of self.new.tables ≡ state_of self.old.tables }
+        ensures rest { self.new ≡ record self.old { tables = self.new.tables } }
+        ensures extents { extents_of self.new.tables ≡ extents_of self.old.tables }
+        ensures shapes { map shape_of self.new.tables ≡ map shape_of self.old.tables }
+    {
+        self.tables[table].reserve(alloc, rows, more)
     }
 
     /// Makes capacity for `records` records of the log. `AllocError` if the allocation fails; then nothing changes.
@@ -159,14 +266,18 @@ impl Tables {
         ensures staged { state_of self.new.tables
             ≡ slice_set (state_of self.old.tables) table (put result (Hidden values.old) (slots_in self.old.tables table)) }
         ensures log { self.new.log ≡ self.old.log ++ logged table (made.Stage result) ∷ [] }
+        ensures undone { self.new.undone ≡ [] }
         ensures marks { (mark : ℕ) → mark ≤ length self.old.log → at_mark self.new mark ≡ at_mark self.old mark }
         ensures capacity { (n m : ℕ) → HoldsAt (HasCapacity (n + 1) m) self.old.tables table → HoldsAt (HasCapacity n m) self.new.tables table }
+        ensures room { (n k m : ℕ) → HoldsAt (HasRoom (n + 1) k m) self.old.tables table → HoldsAt (HasRoom n k m) self.new.tables table }
         ensures log_room { self.old.log_room ≤ self.new.log_room + 1 }
         ensures others { KeepsOthers table self.old.tables self.new.tables }
+        ensures extent { extent_in self.new.tables table ≤ extent_in self.old.tables table + 1 }
+        ensures extents { (t : ℕ) → t ≢ table → extent_in self.new.tables t ≡ extent_in self.old.tables t }
         ensures shapes { map shape_of self.new.tables ≡ map shape_of self.old.tables }
     {
         let at = self.tables[table].stage(values);
-        self.log.push_reserved(LogRecord {
+        self.log.push(LogRecord {
             table: table as u16,
             edit: Edit::Stage(at),
         });
@@ -177,34 +288,39 @@ impl Tables {
     pub fn change(&mut self, table: usize, edit: Edit)
         requires within { table < length self.old.tables }
         requires fits { Fits (key_in self.old.tables table) (slots_in self.old.tables table) edit }
-        requires capacity { HoldsAt (HasCapacity 0 1) self.old.tables table }
+        requires capacity { HoldsAt (HasRoom 0 (key_places edit) (places edit)) self.old.tables table }
         requires log_room { 1 ≤ self.old.log_room }
         ensures state { state_of self.new.tables
             ≡ slice_set (state_of self.old.tables) table (step edit (slots_in self.old.tables table)) }
         ensures log { self.new.log ≡ self.old.log ++ logged table edit ∷ [] }
+        ensures undone { self.new.undone ≡ [] }
         ensures marks { (mark : ℕ) → mark ≤ length self.old.log → at_mark self.new mark ≡ at_mark self.old mark }
         ensures capacity { (n m : ℕ) → HoldsAt (HasCapacity n (m + 1)) self.old.tables table → HoldsAt (HasCapacity n m) self.new.tables table }
+        ensures room { (n k m : ℕ) → HoldsAt (HasRoom n (k + key_places edit) (m + places edit)) self.old.tables table
+            → HoldsAt (HasRoom n k m) self.new.tables table }
         ensures log_room { self.old.log_room ≤ self.new.log_room + 1 }
         ensures others { KeepsOthers table self.old.tables self.new.tables }
+        ensures extents { extents_of self.new.tables ≡ extents_of self.old.tables }
         ensures shapes { map shape_of self.new.tables ≡ map shape_of self.old.tables }
     {
+        let _few = self.log.len();
         self.tables[table].change(edit);
-        self.log.push_reserved(LogRecord {
+        self.log.push(LogRecord {
             table: table as u16,
             edit,
         });
     }
 
-    /// Undoes the newest change.
-    fn undo_last(&mut self)
+    /// Undoes the newest change, and returns its record. Allocates nothing and cannot fail.
+    pub fn undo_last(&mut self) -> LogRecord
         requires { 0 < length self.old.log }
-        ensures undone { IsUndone self.old self.new }
+        ensures undone { IsUndone result self.old self.new }
+        ensures extents { extents_of self.new.tables ≡ extents_of self.old.tables }
         ensures shapes { map shape_of self.new.tables ≡ map shape_of self.old.tables }
     {
-        let Some(newest) = self.log.pop() else {
-            unreachable!()
-        };
+        let newest = self.log.pop();
         self.tables[newest.table as usize].undo(newest.edit);
+        newest
     }
 
     /// Undoes all changes that the log has beyond a mark, the newest first. Allocates nothing and cannot fail.
@@ -212,9 +328,12 @@ impl Tables {
         requires { mark ≤ length self.old.log }
         ensures state { state_of self.new.tables ≡ at_mark self.old mark }
         ensures log { self.new.log ≡ take mark self.old.log }
+        ensures undone { self.new.undone ≡ drop mark self.old.log }
         ensures marks { (earlier : ℕ) → earlier ≤ mark → at_mark self.new earlier ≡ at_mark self.old earlier }
+        ensures extents { extents_of self.new.tables ≡ extents_of self.old.tables }
         ensures shapes { map shape_of self.new.tables ≡ map shape_of self.old.tables }
     {
+        self.log.forget_undone();
         while self.log.len() > mark {
             self.undo_last();
         }
@@ -224,7 +343,7 @@ impl Tables {
     fn change_all(&mut self, table: usize, edits: &[Edit])
         requires within { table < length self.old.tables }
         requires fits { FitsForth (key_in self.old.tables table) edits.now (slots_in self.old.tables table) }
-        requires capacity { HoldsAt (HasCapacity 0 (length edits.now)) self.old.tables table }
+        requires capacity { HoldsAt (HasRoomFor edits.now) self.old.tables table }
         requires log_room { length edits.now ≤ self.old.log_room }
         ensures state { state_of self.new.tables
             ≡ slice_set (state_of self.old.tables) table (after edits.now (slots_in self.old.tables table)) }
@@ -232,6 +351,7 @@ impl Tables {
         ensures marks { (mark : ℕ) → mark ≤ length self.old.log → at_mark self.new mark ≡ at_mark self.old mark }
         ensures log_room { self.old.log_room ≤ self.new.log_room + length edits.now }
         ensures others { KeepsOthers table self.old.tables self.new.tables }
+        ensures extents { extents_of self.new.tables ≡ extents_of self.old.tables }
         ensures shapes { map shape_of self.new.tables ≡ map shape_of self.old.tables }
     {
         for edit in edits {
@@ -246,7 +366,7 @@ impl Tables {
         requires within { table < length self.old.tables }
         requires command { IsCommand (key_in self.old.tables table) edits.now (slots_in self.old.tables table) }
         requires apart { AreApart (key_in self.old.tables table) (slots_in self.old.tables table) }
-        requires capacity { HoldsAt (HasCapacity 0 (length edits.now)) self.old.tables table }
+        requires capacity { HoldsAt (HasRoomFor edits.now) self.old.tables table }
         requires log_room { length edits.now ≤ self.old.log_room }
         ensures made { OnTrue result (state_of self.new.tables
             ≡ slice_set (state_of self.old.tables) table (after edits.now (slots_in self.old.tables table))) }
@@ -256,8 +376,10 @@ impl Tables {
         ensures log_room { OnTrue result (self.old.log_room ≤ self.new.log_room + length edits.now) }
         ensures refused { OnFalse result (state_of self.new.tables ≡ at_mark self.old mark) }
         ensures old_log { OnFalse result (self.new.log ≡ take mark self.old.log) }
+        ensures undone { OnFalse result (self.new.undone ≡ drop mark self.old.log ++ map (logged table) edits.now) }
         ensures twins { OnFalse result (AreApart (key_in self.old.tables table) (after edits.now (slots_in self.old.tables table)) → ⊥) }
         ensures marks { (earlier : ℕ) → earlier ≤ mark → at_mark self.new earlier ≡ at_mark self.old earlier }
+        ensures extents { extents_of self.new.tables ≡ extents_of self.old.tables }
         ensures shapes { map shape_of self.new.tables ≡ map shape_of self.old.tables }
     {
         self.change_all(table, edits);
@@ -268,29 +390,21 @@ impl Tables {
         true
     }
 
-    /// Ends the transaction: rows in use stay, every other slot becomes free, and the log is empty. Allocates nothing and cannot fail.
+    /// Ends the transaction: rows in use stay, every other slot becomes free, and the log is empty. Each tree of a table that the log
+    /// names keeps at most 64 spare nodes. Allocates nothing and cannot fail.
     pub fn settle(&mut self)
         ensures log { self.new.log ≡ [] }
+        ensures undone { self.new.undone ≡ [] }
         ensures live { (t : ℕ) (at : RowRef) → HasRow (slots_in self.old.tables t) at
             → slots_in self.new.tables t at ≡ slots_in self.old.tables t at }
         ensures rest { (t : ℕ) (at : RowRef) → (HasRow (slots_in self.old.tables t) at → ⊥) → slots_in self.new.tables t at ≡ Free }
+        ensures extents { extents_of self.new.tables ≡ extents_of self.old.tables }
         ensures shapes { map shape_of self.new.tables ≡ map shape_of self.old.tables }
+        ensures spares { All (λ r. HoldsAt (HasFewSpares 64) self.new.tables r.table) self.old.log }
     {
-        forget_all(&mut self.tables, self.log.as_slice());
+        let records = self.log.records();
+        forget_all(&mut self.tables, records);
+        trim_all(&mut self.tables, records);
         self.log.clear();
-    }
-}
-
-/// Drops the rows that the edits of a log have hidden, and counts none of the edits any more.
-fn forget_all(tables: &mut Vec<LoggedTable>, log: &[LogRecord])
-    requires within { All (λ r. r.table < length tables.old.items) log.now }
-    requires counted { (t : ℕ) → t < length tables.old.items → HoldsAt (HasCounted log.now t) tables.old.items t }
-    ensures cleared { All (λ r. IsCleared (slots_in tables.new.items r.table) r.edit) log.now }
-    ensures others { (t : ℕ) → DropsHidden (slots_in tables.old.items t) (slots_in tables.new.items t) }
-    ensures counted { (t : ℕ) → t < length tables.new.items → HoldsAt (HasCounted [] t) tables.new.items t }
-    ensures shapes { map shape_of tables.new.items ≡ map shape_of tables.old.items }
-{
-    for entry in log {
-        tables[entry.table as usize].forget(entry.edit);
     }
 }

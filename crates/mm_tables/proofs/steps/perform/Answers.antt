@@ -1,11 +1,11 @@
-use Rattle.std.proofs.Common.{◌≡◌, sym, subst, arith}
+use Rattle.std.proofs.Common.{◌≡◌, sym, subst}
 use Rattle.std.specs.declared.cmp.Ordering.TheVariants.{Equal}
 use Rattle.mm_partition.specs.Places.{slot_at}
 use Rattle.mm_row_order.specs.Refs.{HasRow, HasHidden}
 use Rattle.mm_indexed.specs.Twins.{keys_by}
-use Rattle.mm_tables.specs.Edits.{Fits, Stands, step, step_back}
+use Rattle.mm_indexed.specs.Kept.{SameTable}
+use Rattle.mm_tables.specs.Edits.{Fits, Stands, step, step_back, key_places_made, places_made}
 use Rattle.mm_tables.proofs.Slots.{exchanged_back, exchanged_made, still_one_key}
-use Rattle.mm_tables.proofs.Room.{SameTable-weaker}
 use Rattle.mm_tables.proofs.steps.perform.Goals as goal
 
 pub returns-in-Update-clause-back : goal.returns-in-Update-clause-back
@@ -59,7 +59,5 @@ returns-in-Move-clause-slots c =
     (c.exchange_moved.ensures.exchanged fits.0.0 fits.1.0 fits.0.1 fits.1.1))
 
 pub returns-in-Update-clause-table : goal.returns-in-Update-clause-table
-returns-in-Update-clause-table c = SameTable-weaker 0 1 1 1 _ _ (omega arith) (omega arith) c.exchange_kept.ensures.table
-
-pub returns-in-Delete-clause-table : goal.returns-in-Delete-clause-table
-returns-in-Delete-clause-table c = SameTable-weaker 0 0 1 1 _ _ (omega arith) (omega arith) c.hide.ensures.table
+returns-in-Update-clause-table c =
+    subst (λ e. SameTable (key_places_made e) (places_made e) c.args.rows.now c.exchange_kept.new.self) (sym c.in-Update.is) c.exchange_kept.ensures.table

@@ -1,12 +1,11 @@
-use Rattle.std.proofs.Common.{◌≡◌, sym, subst, arith}
+use Rattle.std.proofs.Common.{◌≡◌, sym, subst}
 use Rattle.std.specs.declared.cmp.Ordering.TheVariants.{Equal}
 use Rattle.mm_partition.specs.Places.{slot_at}
 use Rattle.mm_indexed.specs.Kept.{SameTable}
 use Rattle.mm_row_order.specs.Refs.{HasRow, HasHidden}
 use Rattle.mm_indexed.specs.Twins.{keys_by}
-use Rattle.mm_tables.specs.Edits.{Stands, step_back, places_back}
+use Rattle.mm_tables.specs.Edits.{Stands, step_back, key_places_back, places_back}
 use Rattle.mm_tables.proofs.Slots.{exchanged_made}
-use Rattle.mm_tables.proofs.Room.{SameTable-weaker}
 use Rattle.mm_tables.proofs.steps.take_back.Goals as goal
 
 pub returns-in-Update-clause-slots : goal.returns-in-Update-clause-slots
@@ -30,5 +29,4 @@ returns-in-Move-clause-slots c =
 
 pub returns-in-Update-clause-table : goal.returns-in-Update-clause-table
 returns-in-Update-clause-table c =
-    subst (λ e. SameTable (places_back e) (places_back e) c.args.rows.now c.exchange_kept.new.self) (sym c.in-Update.is)
-    (SameTable-weaker 0 1 1 1 _ _ (omega arith) (omega arith) c.exchange_kept.ensures.table)
+    subst (λ e. SameTable (key_places_back e) (places_back e) c.args.rows.now c.exchange_kept.new.self) (sym c.in-Update.is) c.exchange_kept.ensures.table

@@ -1,5 +1,6 @@
-use Rattle.mm_tables.proofs.Room.{shape_after}
+use Rattle.std.proofs.Common.{ap, ◌∙◌}
+use Rattle.mm_tables.proofs.Room.{shape_after, shape_rows}
 use Rattle.mm_tables.proofs.logged_table.LoggedTable.undo.Goals as goal
 
 pub returns-clause-shape : goal.returns-clause-shape
-returns-clause-shape c = shape_after _ _ _ _ c.take_back.ensures.table
+returns-clause-shape c = ap shape_rows c.owe_less.ensures.rows ∙ shape_after _ _ _ _ c.take_back.ensures.table

@@ -1,11 +1,13 @@
-use Rattle.std.proofs.Common.{◌<◌, ◌+◌, ℕ, length, map, sym, ap, ◌∙◌, subst, arith}
+use Rattle.std.proofs.Common.{◌<◌, ◌+◌, ◌*◌, ℕ, length, map, sym, ap, ◌∙◌, subst, arith}
 use Rattle.std.specs.Prelude.{slice_set}
 use Rattle.mm_row_order.specs.Refs.{Slots}
-use Rattle.mm_tables.specs.Edits.{step, Fits}
-use Rattle.mm_tables.specs.Tables.{Stored, HasCapacity, HoldsAt, back, at_mark, logged, slots_in, key_in, slots_of, shape_of, state_of}
-use Rattle.mm_tables.proofs.InTables.{slots_read, key_read, shapes-set, state-set, state-back, HoldsAt-turned}
+use Rattle.mm_tables.specs.Edits.{step, Fits, key_places, places}
+use Rattle.mm_tables.specs.Tables.{Shape, Stored, HasRoom, HoldsAt, back, at_mark, logged, slots_in, key_in, slots_of, extents_of, shape_of, state_of}
+use Rattle.mm_tables.specs.declared.logged_table.LoggedTable.{LoggedTable}
+use Rattle.mm_tables.proofs.InTables.{extents-same, slots_read, key_read, shapes-set, state-set, state-back, HoldsAt-turned}
 use Rattle.mm_tables.proofs.Logs.{mark-push}
-use Rattle.mm_tables.proofs.Logging.{IsLogged-push, few_owed}
+use Rattle.mm_tables.proofs.Logging.{IsLogged-push, few_keys_owed, few_owed}
+use Rattle.mm_tables.proofs.Room.{HasRoom-fewer, edit_places_few}
 use Rattle.mm_tables.proofs.tables.Tables.change.Goals as goal
 
 pub change-requires-clause-fits : goal.change-requires-clause-fits
@@ -24,8 +26,20 @@ change-requires-clause-few c =
     omega (arith, c.requires.within, ap (λ (s : Stored). length s.tables) c.self.view_is) in
     omega (
       arith,
-      few_owed c.self.inside.tables.items c.self.inside.log.items c.args.table c.index_mut.result.now within c.index_mut.ensures.value c.self.invariant,
-      c.self.inside.log.ok,
+      few_owed c.self.inside.tables.items c.self.inside.log.live c.args.table c.index_mut.result.now within c.index_mut.ensures.value c.self.invariant,
+      c.len-few.ensures.len,
+      c.len-few.ensures.few,
+    )
+
+pub change-requires-clause-few_keys : goal.change-requires-clause-few_keys
+change-requires-clause-few_keys c =
+    let within : c.args.table < length c.self.inside.tables.items =
+    omega (arith, c.requires.within, ap (λ (s : Stored). length s.tables) c.self.view_is) in
+    omega (
+      arith,
+      few_keys_owed c.self.inside.tables.items c.self.inside.log.live c.args.table c.index_mut.result.now within c.index_mut.ensures.value c.self.invariant,
+      c.len-few.ensures.len,
+      c.len-few.ensures.few,
     )
 
 pub invariant_of-self : goal.invariant_of-self
@@ -33,7 +47,7 @@ invariant_of-self c =
     let within : c.args.table < length c.self.inside.tables.items =
     omega (arith, c.requires.within, ap (λ (s : Stored). length s.tables) c.self.view_is) in
     IsLogged-push c.self.inside.tables.items c.args.table c.index_mut.result.now c.change.new.self within c.index_mut.ensures.value
-    c.change.ensures.shape c.self.inside.log.items _ c.args.edit c.push_reserved.ensures.items c.change.ensures.back c.change.ensures.stands
+    (ap (λ (x : Shape). x.key) c.change.ensures.shape) c.self.inside.log.live _ c.args.edit c.push.ensures.live c.change.ensures.back c.change.ensures.stands
     c.change.ensures.owed c.change.ensures.spare c.self.invariant
 
 pub returns-clause-state : goal.returns-clause-state
@@ -50,19 +64,26 @@ pub returns-clause-marks : goal.returns-clause-marks
 returns-clause-marks c mark within_log =
     let within : c.args.table < length c.self.inside.tables.items =
     omega (arith, c.requires.within, ap (λ (s : Stored). length s.tables) c.self.view_is) in
-    mark-push back c.self.inside.log.items _ (logged c.args.table c.args.edit) _ _ mark c.push_reserved.ensures.items
+    mark-push back c.self.inside.log.live _ (logged c.args.table c.args.edit) _ _ mark c.push.ensures.live
     (state-back c.self.inside.tables.items c.args.table c.index_mut.result.now c.change.new.self within c.index_mut.ensures.value c.args.edit
     c.change.ensures.back)
     (omega (arith, ap (λ (s : Stored). length s.log) c.self.view_is, within_log))
     ∙ ap (λ (s : Stored). at_mark s mark) c.self.view_is
 
-pub returns-clause-capacity : goal.returns-clause-capacity
-returns-clause-capacity c n m was =
+pub returns-clause-room : goal.returns-clause-room
+returns-clause-room c n k m was =
     let within : c.args.table < length c.self.inside.tables.items =
     omega (arith, c.requires.within, ap (λ (s : Stored). length s.tables) c.self.view_is) in
+    let more : LoggedTable → Type 0 = HasRoom n (k + key_places c.args.edit) (m + places c.args.edit) in
     HoldsAt-turned c.self.inside.tables.items c.args.table c.index_mut.result.now c.change.new.self within c.index_mut.ensures.value
-    (HasCapacity n (m + 1)) (HasCapacity n m) (c.change.ensures.capacity n m)
-    (subst (λ (s : Stored). HoldsAt (HasCapacity n (m + 1)) s.tables c.args.table) (sym c.self.view_is) was)
+    more (HasRoom n k m) (c.change.ensures.room n k m)
+    (subst (λ (s : Stored). HoldsAt more s.tables c.args.table) (sym c.self.view_is) was)
+
+pub returns-clause-capacity : goal.returns-clause-capacity
+returns-clause-capacity c n m was =
+    let few = edit_places_few c.args.edit in
+    returns-clause-room c n (2 * m) (2 * m)
+    (λ d. HasRoom-fewer n (2 * (m + 1)) (2 * (m + 1)) n _ _ _ (omega arith) (omega (arith, few.0)) (omega (arith, few.1)) (was d))
 
 pub returns-clause-shapes : goal.returns-clause-shapes
 returns-clause-shapes c =
@@ -70,3 +91,8 @@ returns-clause-shapes c =
     omega (arith, c.requires.within, ap (λ (s : Stored). length s.tables) c.self.view_is) in
     shapes-set c.self.inside.tables.items c.args.table c.index_mut.result.now c.change.new.self within c.index_mut.ensures.value c.change.ensures.shape
     ∙ ap (λ (s : Stored). map shape_of s.tables) c.self.view_is
+
+pub returns-clause-extents : goal.returns-clause-extents
+returns-clause-extents c =
+    extents-same c.self.inside.tables.items c.args.table c.index_mut.result.now c.change.new.self c.index_mut.ensures.value c.change.ensures.extent
+    ∙ ap (λ (s : Stored). extents_of s.tables) c.self.view_is

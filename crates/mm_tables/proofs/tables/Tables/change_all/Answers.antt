@@ -1,15 +1,15 @@
-use Rattle.std.proofs.Common.{◌≡◌, ℕ, ◌+◌, ◌-◌, ◌<◌, length, map, take, ap, ◌∙◌, arith}
+use Rattle.std.proofs.Common.{ℕ, ◌<◌, length, map, take, ap, ◌∙◌, arith}
 use Rattle.std.proofs.lemmas.List.{length-append, get_or_default}
 use Rattle.mm_tables.specs.Tables.{logged}
 use Rattle.mm_tables.proofs.InTables.{size_from_shapes, others_both}
-use Rattle.mm_tables.proofs.Making.{change_more, HasCapacity-fewer}
+use Rattle.mm_tables.proofs.Making.{change_more, room_ahead, room_next}
 use Rattle.mm_tables.proofs.tables.Tables.change_all.Goals as goal
 
 pub change-requires-clause-capacity : goal.change-requires-clause-capacity
 change-requires-clause-capacity c d =
-    let left : ℕ = length c.args.edits.now - c.loop-edit.edit-index in
-    let is : left + c.loop-edit.edit-index ≡ length c.args.edits.now = omega (arith, c.loop-edit-test.true) in
-    HasCapacity-fewer left 1 _ (omega (arith, c.loop-edit-test.true)) (c.loop-edit.invariant.capacity left is d)
+    let i : ℕ = c.loop-edit.edit-index in
+    let edits = c.args.edits.now in
+    room_next edits i _ _ c.loop-edit-test.true (get_or_default edits i _ _ c.loop-edit-test.true) (c.loop-edit.invariant.capacity d)
 
 pub loop-edit-preserved : goal.loop-edit-preserved
 loop-edit-preserved c =
@@ -30,7 +30,9 @@ loop-edit-preserved c =
       marks = λ mark here. c.change.ensures.marks mark
           (omega (arith, here, ap length inv.log, length-append start.log (map (logged t) (take i edits)))) ∙ inv.marks mark here;
       log_room = omega (arith, c.change.ensures.log_room, inv.log_room);
-      capacity = λ m is. c.change.ensures.capacity 0 m (inv.capacity (m + 1) (omega (arith, is)));
+      capacity = c.change.ensures.room 0 _ _
+          (λ d. room_ahead edits i _ _ c.loop-edit-test.true (get_or_default edits i _ _ c.loop-edit-test.true) (inv.capacity d));
       others = others_both t start.tables old.tables new.tables inv.others c.change.ensures.others;
+      extents = c.change.ensures.extents ∙ inv.extents;
       shapes = c.change.ensures.shapes ∙ inv.shapes;
     }

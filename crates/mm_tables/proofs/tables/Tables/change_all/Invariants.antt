@@ -1,5 +1,5 @@
 use Rattle.std.proofs.Common.{◌≡◌, ℕ, ◌+◌, ◌≤◌, ◌++◌, length, map, take, drop, set}
-use Rattle.mm_tables.specs.Tables.{shape_of, state_of, slots_in, key_in, at_mark, logged, HasCapacity, HoldsAt, KeepsOthers}
+use Rattle.mm_tables.specs.Tables.{extents_of, shape_of, state_of, slots_in, key_in, at_mark, logged, HasRoomFor, HoldsAt, KeepsOthers}
 use Rattle.mm_tables.specs.Commands.{after, FitsForth}
 use Rattle.mm_tables.proofs.tables.Tables.change_all.Given as goal
 
@@ -11,7 +11,8 @@ invariant-loop-edit l = record {
   log : l.self.log ≡ l.initial.self.log ++ map (logged l.table) (take l.edit-index l.edits);
   marks : (mark : ℕ) → mark ≤ length l.initial.self.log → at_mark l.self mark ≡ at_mark l.initial.self mark;
   log_room : l.initial.self.log_room ≤ l.self.log_room + l.edit-index;
-  capacity : (m : ℕ) → m + l.edit-index ≡ length l.edits → HoldsAt (HasCapacity 0 m) l.self.tables l.table;
+  capacity : HoldsAt (HasRoomFor (drop l.edit-index l.edits)) l.self.tables l.table;
   others : KeepsOthers l.table l.initial.self.tables l.self.tables;
+  extents : extents_of l.self.tables ≡ extents_of l.initial.self.tables;
   shapes : map shape_of l.self.tables ≡ map shape_of l.initial.self.tables;
 }

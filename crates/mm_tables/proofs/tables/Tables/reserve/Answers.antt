@@ -1,41 +1,5 @@
-use Rattle.std.proofs.Common.{◌<◌, length, map, sym, ap, ◌∙◌, subst, arith}
-use Rattle.mm_tables.specs.Tables.{Stored, HasCapacity, HoldsAt, shape_of, state_of}
-use Rattle.mm_tables.proofs.InTables.{shapes-set, state-same, HoldsAt-turned}
-use Rattle.mm_tables.proofs.Logging.{IsLogged-same, counted_read}
-use Rattle.mm_tables.proofs.Room.{HasSpare-same, HasCapacity-more}
+use Rattle.std.proofs.Common.{◌*◌}
 use Rattle.mm_tables.proofs.tables.Tables.reserve.Goals as goal
 
-pub invariant_of-self : goal.invariant_of-self
-invariant_of-self c =
-    let within : c.args.table < length c.self.inside.tables.items =
-    omega (arith, c.requires.within, ap (λ (s : Stored). length s.tables) c.self.view_is) in
-    let tables = c.self.inside.tables.items in
-    let old = c.index_mut.result.now in
-    IsLogged-same tables c.args.table old c.reserve.new.self within c.index_mut.ensures.value c.reserve.ensures.shape c.self.inside.log.items
-    c.reserve.ensures.slots c.reserve.ensures.owed
-    (HasSpare-same old c.reserve.new.self c.reserve.ensures.owed c.reserve.ensures.spare
-    (counted_read tables c.self.inside.log.items c.args.table old within c.index_mut.ensures.value c.self.invariant).spare)
-    c.self.invariant
-
 pub returns-clause-kept : goal.returns-clause-kept
-returns-clause-kept c n m was =
-    let within : c.args.table < length c.self.inside.tables.items =
-    omega (arith, c.requires.within, ap (λ (s : Stored). length s.tables) c.self.view_is) in
-    HoldsAt-turned c.self.inside.tables.items c.args.table c.index_mut.result.now c.reserve.new.self within c.index_mut.ensures.value
-    (HasCapacity n m) (HasCapacity n m)
-    (HasCapacity-more c.index_mut.result.now c.reserve.new.self c.reserve.ensures.owed c.reserve.ensures.spare n m c.reserve.ensures.room)
-    (subst (λ (s : Stored). HoldsAt (HasCapacity n m) s.tables c.args.table) (sym c.self.view_is) was)
-
-pub returns-clause-state : goal.returns-clause-state
-returns-clause-state c =
-    let within : c.args.table < length c.self.inside.tables.items =
-    omega (arith, c.requires.within, ap (λ (s : Stored). length s.tables) c.self.view_is) in
-    state-same c.self.inside.tables.items c.args.table c.index_mut.result.now c.reserve.new.self within c.index_mut.ensures.value c.reserve.ensures.slots
-    ∙ ap (λ (s : Stored). state_of s.tables) c.self.view_is
-
-pub returns-clause-shapes : goal.returns-clause-shapes
-returns-clause-shapes c =
-    let within : c.args.table < length c.self.inside.tables.items =
-    omega (arith, c.requires.within, ap (λ (s : Stored). length s.tables) c.self.view_is) in
-    shapes-set c.self.inside.tables.items c.args.table c.index_mut.result.now c.reserve.new.self within c.index_mut.ensures.value c.reserve.ensures.shape
-    ∙ ap (λ (s : Stored). map shape_of s.tables) c.self.view_is
+returns-clause-kept c n m was = c.reserve_room.ensures.kept n (2 * m) (2 * m) was

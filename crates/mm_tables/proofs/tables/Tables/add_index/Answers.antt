@@ -1,0 +1,44 @@
+use Rattle.std.proofs.Common.{◌<◌, ◌≤◌, length, drop, sym, ap, ◌∙◌, subst, arith}
+use Rattle.mm_schema.specs.Rows.{most_rows}
+use Rattle.mm_tables.specs.Log.{before}
+use Rattle.mm_tables.specs.Tables.{Stored, HoldsAt, back, state_of}
+use Rattle.mm_tables.specs.declared.logged_table.LoggedTable.{LoggedTable}
+use Rattle.mm_tables.proofs.InTables.{from_HoldsAt, state-same}
+use Rattle.mm_tables.proofs.Logging.{IsLogged-same, counted_read}
+use Rattle.mm_tables.proofs.tables.Tables.add_index.Goals as goal
+
+pub add_index-requires-clause-column : goal.add_index-requires-clause-column
+add_index-requires-clause-column c =
+    from_HoldsAt (λ (x : LoggedTable). c.args.column < length x.rows.places.types) c.self.inside.tables.items c.args.table c.index_mut.result.now
+    c.index_mut.ensures.value
+    (subst (λ (s : Stored). HoldsAt (λ x. c.args.column < length x.rows.places.types) s.tables c.args.table) (sym c.self.view_is) c.requires.column)
+
+pub add_index-requires-clause-few : goal.add_index-requires-clause-few
+add_index-requires-clause-few c =
+    from_HoldsAt (λ (x : LoggedTable). length x.rows.refs ≤ most_rows) c.self.inside.tables.items c.args.table c.index_mut.result.now
+    c.index_mut.ensures.value
+    (subst (λ (s : Stored). HoldsAt (λ x. length x.rows.refs ≤ most_rows) s.tables c.args.table) (sym c.self.view_is) c.requires.few)
+
+pub invariant_of-self : goal.invariant_of-self
+invariant_of-self c =
+    let within : c.args.table < length c.self.inside.tables.items =
+    omega (arith, c.requires.within, ap (λ (s : Stored). length s.tables) c.self.view_is) in
+    IsLogged-same c.self.inside.tables.items c.args.table c.index_mut.result.now c.add_index.new.self within c.index_mut.ensures.value
+    c.add_index.ensures.key c.self.inside.log.live c.add_index.ensures.slots c.add_index.ensures.owed
+    (c.add_index.ensures.spare
+    (counted_read c.self.inside.tables.items c.self.inside.log.live c.args.table c.index_mut.result.now within c.index_mut.ensures.value
+    c.self.invariant).spare)
+    c.self.invariant
+
+pub returns-clause-state : goal.returns-clause-state
+returns-clause-state c =
+    let within : c.args.table < length c.self.inside.tables.items =
+    omega (arith, c.requires.within, ap (λ (s : Stored). length s.tables) c.self.view_is) in
+    state-same c.self.inside.tables.items c.args.table c.index_mut.result.now c.add_index.new.self within c.index_mut.ensures.value
+    c.add_index.ensures.slots
+    ∙ ap (λ (s : Stored). state_of s.tables) c.self.view_is
+
+pub returns-clause-marks : goal.returns-clause-marks
+returns-clause-marks c mark =
+    ap (before back (drop mark c.self.inside.log.live)) (returns-clause-state c)
+    ∙ ap (λ (s : Stored). before back (drop mark s.log) (state_of c.args.self.now.tables)) c.self.view_is

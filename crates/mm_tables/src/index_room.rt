@@ -1,0 +1,8 @@
+//! Capacity of the indexes of a table.
+
+/// Capacity for so many entries: in the index on the key, and in each further index.
+#[derive(Clone, Copy)]
+pub struct IndexRoom {
+    pub key: usize,
+    pub indexes: usize,
+}

@@ -1,0 +1,182 @@
+//! Commands of two edits: made, or refused because two rows would have one key.
+ghost use Rattle.std.specs.Prelude.{◌≡◌, ◌≢◌, ◌<◌, ◌∷◌, []};
+ghost use Rattle.std.specs.Bool.{OnTrue};
+ghost use Rattle.mm_partition.specs.Places.{slot_at};
+ghost use Rattle.mm_indexed.specs.Twins.{AreApart};
+ghost use Rattle.mm_tables.specs.Commands.{IsCommand};
+ghost use Rattle.tables_tests.specs.Samples.{AreSample};
+
+use crate::assertions::assert_that;
+use crate::plain::{PlainRow, assert_records, assert_rows};
+use crate::samples::{change, fits, stage, two_tables};
+use mm_indexed::IndexedRows;
+use mm_schema::MAX_ROWS;
+use mm_tables::{Edit, Tables};
+use mm_value::RowRef;
+use std::alloc::AllocError;
+use std::process::Abort;
+use std::test::Fail;
+
+/// Whether no two rows have one key.
+fn keys_are_apart(rows: &IndexedRows) -> bool
+    ensures { OnTrue result (AreApart rows.now.key (slot_at rows.now.places)) }
+{
+    if rows.len() > MAX_ROWS {
+        return false;
+    }
+    for at in rows.by_key() {
+        if rows.has_twin(at) {
+            return false;
+        }
+    }
+    rows.is_kept();
+    true
+}
+
+/// Two rows that take each other's place: a row in use, and a hidden row.
+#[derive(Clone, Copy)]
+struct Swap {
+    at: RowRef,
+    other: RowRef,
+}
+
+/// Whether two exchanges have no slot in common.
+fn are_apart(one: Swap, two: Swap) -> bool
+    ensures at { OnTrue result (one.at ≢ two.at) }
+    ensures other { OnTrue result (one.other ≢ two.other) }
+    ensures cross { OnTrue result (one.at ≢ two.other) }
+    ensures across { OnTrue result (one.other ≢ two.at) }
+{
+    one.at.slot != two.at.slot
+        && one.other.slot != two.other.slot
+        && one.at.slot != two.other.slot
+        && one.other.slot != two.at.slot
+}
+
+/// Makes two exchanges in the first table in one command, and returns whether they were made. A refusal undoes what is beyond the
+/// mark.
+fn make_two(
+    rt: &(impl Abort + AllocGlobal),
+    tables: &mut Tables,
+    mark: usize,
+    one: Swap,
+    two: Swap,
+) -> Result<bool, AllocError>
+    requires { AreSample tables.old }
+    ensures { AreSample tables.new }
+{
+    let edits = [Edit::Move(one.at, one.other), Edit::Move(two.at, two.other)];
+    tables.reserve_for(rt.alloc(), 0, &edits)?;
+    tables.reserve_log(2)?;
+    assert_that(rt, mark <= tables.mark());
+    assert_that(rt, are_apart(one, two));
+    assert_that(rt, fits(tables.table(0), edits[0]));
+    assert_that(rt, fits(tables.table(0), edits[1]));
+    assert_that(rt, keys_are_apart(tables.table(0)));
+    Ok(tables.make(mark, 0, &edits))
+}
+
+/// Adds a row to the first table.
+fn add(
+    rt: &(impl Abort + AllocGlobal),
+    tables: &mut Tables,
+    key: i64,
+    digit: i64,
+) -> Result<PlainRow, AllocError>
+    requires { AreSample tables.old }
+    ensures { AreSample tables.new }
+{
+    let at = stage(tables, rt.alloc(), 0, key, digit)?;
+    change(rt, tables, 0, Edit::Insert(at))?;
+    Ok(PlainRow {
+        second: false,
+        at,
+        key,
+        digit,
+    })
+}
+
+/// Gives the rows of two keys the keys `one` and `two` in one command, and returns whether it was made.
+fn change_keys(
+    rt: &(impl Abort + AllocGlobal),
+    tables: &mut Tables,
+    rows: [RowRef; 2],
+    one: i64,
+    two: i64,
+) -> Result<bool, AllocError>
+    requires { AreSample tables.old }
+    ensures { AreSample tables.new }
+{
+    let mark = tables.mark();
+    let first = stage(tables, rt.alloc(), 0, one, 8)?;
+    let second = stage(tables, rt.alloc(), 0, two, 9)?;
+    let one = Swap {
+        at: rows[0],
+        other: first,
+    };
+    let two = Swap {
+        at: rows[1],
+        other: second,
+    };
+    make_two(rt, tables, mark, one, two)
+}
+
+/// Asserts that a command raises the keys 1 and 2 by one.
+fn raise(
+    rt: &(impl Abort + AllocGlobal),
+    tables: &mut Tables,
+    one: PlainRow,
+    two: PlainRow,
+) -> Result<(), AllocError>
+    requires { AreSample tables.old }
+{
+    let made = change_keys(rt, tables, [one.at, two.at], 2, 3)?;
+    assert_that(rt, made);
+    let one = PlainRow {
+        key: 2,
+        digit: 8,
+        ..one
+    };
+    let two = PlainRow {
+        key: 3,
+        digit: 9,
+        ..two
+    };
+    assert_rows(rt, tables, &[one, two]);
+    assert_records(rt, tables, 8, 0);
+    Ok(())
+}
+
+#[test]
+fn raises_keys(rt: HostRuntime) -> Result<(), Fail> {
+    let mut tables = two_tables(rt.alloc())?;
+    let one = add(&rt, &mut tables, 1, 5)?;
+    let two = add(&rt, &mut tables, 2, 6)?;
+    raise(&rt, &mut tables, one, two)?;
+    Ok(())
+}
+
+/// Asserts that no command gives two rows the key 3, and what the refusal undoes.
+fn refuse(
+    rt: &(impl Abort + AllocGlobal),
+    tables: &mut Tables,
+    one: PlainRow,
+    two: PlainRow,
+) -> Result<(), AllocError>
+    requires { AreSample tables.old }
+{
+    let made = change_keys(rt, tables, [one.at, two.at], 3, 3)?;
+    assert_that(rt, !made);
+    assert_rows(rt, tables, &[one, two]);
+    assert_records(rt, tables, 4, 4);
+    Ok(())
+}
+
+#[test]
+fn refuses_one_key(rt: HostRuntime) -> Result<(), Fail> {
+    let mut tables = two_tables(rt.alloc())?;
+    let one = add(&rt, &mut tables, 1, 5)?;
+    let two = add(&rt, &mut tables, 2, 6)?;
+    refuse(&rt, &mut tables, one, two)?;
+    Ok(())
+}

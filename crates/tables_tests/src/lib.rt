@@ -1,0 +1,15 @@
+//! Tests of the rows of all tables under one log: of what no contract says.
+#![tactic(auto)]
+
+#[cfg(test)]
+mod assertions;
+#[cfg(test)]
+mod commands;
+#[cfg(test)]
+mod growths;
+#[cfg(test)]
+mod plain;
+#[cfg(test)]
+mod samples;
+#[cfg(test)]
+mod transactions;
