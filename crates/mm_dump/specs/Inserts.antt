@@ -1,0 +1,35 @@
+-- How rows are divided into INSERT lines: a row joins the open line, if it has room there, and begins a line otherwise.
+use Rattle.std.specs.Prelude.{ℕ, ◌+◌, ◌&&◌, Bool, if◌then◌else◌, List, [], ◌∷◌, ◌++◌, codes, length, nat_le, nat_lt}
+use Rattle.mm_value.specs.Written.{row_text}
+use Rattle.mm_value.specs.declared.values.Value.{Value}
+use Rattle.mm_dump.specs.Texts.{insert_text}
+use Rattle.mm_dump.specs.declared.insert_lines.InsertLines.{InsertLines}
+
+-- The table of INSERT lines.
+abbrev pub table_of : InsertLines → List ℕ
+table_of lines = lines.table
+
+-- The number of bytes of the open line, 0 if no line is open.
+abbrev pub used_bytes : InsertLines → ℕ
+used_bytes lines = lines.line
+
+-- The open line has some bytes, 0 if no line is open, and the row has room in it.
+abbrev pub has_room : ℕ → List Value → Bool
+has_room used row = nat_lt 0 used && nat_le (used + length (row_text row) + 2) 4096
+
+-- The end of the open line, if a line is open.
+abbrev pub line_end : ℕ → List ℕ
+line_end used = if nat_lt 0 used then 10 ∷ [] else []
+
+-- What is written of a row after some bytes of an open line.
+abbrev pub put_text : List ℕ → ℕ → List Value → List ℕ
+put_text table used row = if has_room used row then codes ", " ++ row_text row else line_end used ++ insert_text table (row ∷ [])
+
+-- How many bytes the open line has then.
+abbrev pub used_after : List ℕ → ℕ → List Value → ℕ
+used_after table used row = if has_room used row then used + length (row_text row) + 2 else length (insert_text table (row ∷ []))
+
+-- What is written of rows, one after another, to the end of the last line.
+abbrev pub put_texts : List ℕ → ℕ → List (List Value) → List ℕ
+put_texts table used [] = line_end used
+put_texts table used (row ∷ rows) = put_text table used row ++ put_texts table (used_after table used row) rows

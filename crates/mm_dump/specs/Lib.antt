@@ -1,0 +1,4 @@
+pub mod Dumps
+pub mod Entries
+pub mod Inserts
+pub mod Texts

@@ -1,0 +1,205 @@
+//! The lines that insert the rows of a table.
+ghost use Rattle.std.specs.Prelude.{◌≡◌, ◌≤◌, ◌+◌, ◌==◌, ◌++◌, ◌∷◌, [], OnOk, codes, count_by, false, length, map};
+ghost use Rattle.mm_value.specs.Device.{Writes};
+ghost use Rattle.mm_value.specs.Literal.{quoted};
+ghost use Rattle.mm_value.specs.Views.{value_of};
+ghost use Rattle.mm_value.specs.Watched.{has_failed};
+ghost use Rattle.mm_value.specs.Written.{row_text, value_text};
+ghost use Rattle.mm_dump.specs.Inserts.{line_end, put_text, table_of, used_after, used_bytes};
+ghost use Rattle.mm_dump.specs.Texts.{insert_text};
+
+use crate::open_line::OpenLine;
+use itoa::Buffer;
+use mm_schema::{Name, NameRef};
+use mm_value::{ValueRef, Watched, WriteError, put_all, write_row};
+use std::io::Write;
+
+/// The INSERT lines of the rows of one table, each of at most 4,096 bytes. It keeps no row.
+#[derive(Drop)]
+pub struct InsertLines<'t> {
+    table: NameRef<'t>,
+    line: OpenLine,
+}
+
+impl<'t> InsertLines<'t> {
+    /// No lines yet.
+    pub fn new(table: &'t Name) -> InsertLines<'t>
+        ensures table { table_of result ≡ table.now }
+        ensures used { used_bytes result ≡ 0 }
+    {
+        InsertLines {
+            table: table.as_ref(),
+            line: OpenLine::of(0),
+        }
+    }
+
+    /// Writes a row: after a comma in the open line if it has room there, and otherwise in a new line. Takes no memory. After
+    /// `WriteError` the writer has failed, and a front of this was written.
+    pub fn add_row<W: Write>(
+        &mut self,
+        values: &[ValueRef<'_>],
+        writer: &mut Watched<W>,
+    ) -> Result<(), WriteError>
+        requires failed { has_failed writer.old ≡ false }
+        requires few { length values.now ≤ 16 }
+        ensures table { table_of self.new ≡ table_of self.old }
+        ensures used { OnOk result (used_bytes self.new ≡ used_after (table_of self.old) (used_bytes self.old) (map value_of values.now)) }
+        ensures written { Writes W.contents writer.old writer.new result (put_text (table_of self.old) (used_bytes self.old) (map value_of values.now)) }
+    {
+        let len = row_len(values);
+        if self.line.has_room(len) {
+            self.join_line(values, len, writer)
+        } else {
+            self.begin_line(values, len, writer)
+        }
+    }
+
+    /// Writes the end of the open line, if a line is open. Takes no memory. After `WriteError` the writer has failed.
+    pub fn finish<W: Write>(self, writer: &mut Watched<W>) -> Result<(), WriteError>
+        requires { has_failed writer.old ≡ false }
+        ensures { Writes W.contents writer.old writer.new result (line_end (used_bytes self.entry)) }
+    {
+        write_line_end(&self.line, writer)
+    }
+
+    // Writes a row of so many bytes in the open line.
+    fn join_line<W: Write>(
+        &mut self,
+        values: &[ValueRef<'_>],
+        len: usize,
+        writer: &mut Watched<W>,
+    ) -> Result<(), WriteError>
+        requires failed { has_failed writer.old ≡ false }
+        requires room { used_bytes self.old + len + 2 ≤ 4096 }
+        ensures table { table_of self.new ≡ table_of self.old }
+        ensures used { OnOk result (used_bytes self.new ≡ used_bytes self.old + len + 2) }
+        ensures written { Writes W.contents writer.old writer.new result (codes ", " ++ row_text (map value_of values.now)) }
+    {
+        write_next_row(values, writer)?;
+        self.line.count_row(len);
+        Ok(())
+    }
+
+    // Ends the open line, and writes a row of so many bytes in a new one.
+    fn begin_line<W: Write>(
+        &mut self,
+        values: &[ValueRef<'_>],
+        len: usize,
+        writer: &mut Watched<W>,
+    ) -> Result<(), WriteError>
+        requires failed { has_failed writer.old ≡ false }
+        requires short { len ≤ 2114 }
+        ensures table { table_of self.new ≡ table_of self.old }
+        ensures used { OnOk result (used_bytes self.new ≡ length (table_of self.old) + 8 + len) }
+        ensures written { Writes W.contents writer.old writer.new result
+            (line_end (used_bytes self.old) ++ insert_text (table_of self.old) (map value_of values.now ∷ [])) }
+    {
+        write_line_end(&self.line, writer)?;
+        write_insert(self.table.bytes(), values, writer)?;
+        self.line = OpenLine::of(self.table.bytes().len() + 8 + len);
+        Ok(())
+    }
+}
+
+// Writes the end of the line, if it is open.
+fn write_line_end<W: Write>(line: &OpenLine, writer: &mut Watched<W>) -> Result<(), WriteError>
+    requires { has_failed writer.old ≡ false }
+    ensures { Writes W.contents writer.old writer.new result (line_end line.now) }
+{
+    let end: &[u8] = if line.is_open() { b"\n" } else { b"" };
+    put_all(writer, end)
+}
+
+// Writes a row after another one.
+fn write_next_row<W: Write>(
+    values: &[ValueRef<'_>],
+    writer: &mut Watched<W>,
+) -> Result<(), WriteError>
+    requires { has_failed writer.old ≡ false }
+    ensures { Writes W.contents writer.old writer.new result (codes ", " ++ row_text (map value_of values.now)) }
+{
+    put_all(writer, b", ")?;
+    write_row(values, writer)
+}
+
+// Writes an INSERT of one row.
+fn write_insert<W: Write>(
+    table: &[u8],
+    values: &[ValueRef<'_>],
+    writer: &mut Watched<W>,
+) -> Result<(), WriteError>
+    requires { has_failed writer.old ≡ false }
+    ensures { Writes W.contents writer.old writer.new result (insert_text table.now (map value_of values.now ∷ [])) }
+{
+    put_all(writer, b"INSERT ")?;
+    write_table_row(table, values, writer)
+}
+
+fn write_table_row<W: Write>(
+    table: &[u8],
+    values: &[ValueRef<'_>],
+    writer: &mut Watched<W>,
+) -> Result<(), WriteError>
+    requires { has_failed writer.old ≡ false }
+    ensures { Writes W.contents writer.old writer.new result (table.now ++ 32 ∷ row_text (map value_of values.now)) }
+{
+    put_all(writer, table)?;
+    write_spaced_row(values, writer)
+}
+
+fn write_spaced_row<W: Write>(
+    values: &[ValueRef<'_>],
+    writer: &mut Watched<W>,
+) -> Result<(), WriteError>
+    requires { has_failed writer.old ≡ false }
+    ensures { Writes W.contents writer.old writer.new result (32 ∷ row_text (map value_of values.now)) }
+{
+    put_all(writer, b" ")?;
+    write_row(values, writer)
+}
+
+// The number of bytes of a row.
+fn row_len(values: &[ValueRef<'_>]) -> usize
+    requires { length values.now ≤ 16 }
+    ensures len { result ≡ length (row_text (map value_of values.now)) }
+    ensures bound { result ≤ 2114 }
+{
+    let Some((first, others)) = values.split_first() else {
+        return 2;
+    };
+    let mut len = value_len(*first) + 2;
+    for value in others {
+        len += value_len(*value) + 2;
+    }
+    len
+}
+
+// The number of bytes of a value.
+fn value_len(value: ValueRef<'_>) -> usize
+    ensures len { result ≡ length (value_text (value_of value.entry)) }
+    ensures bound { result ≤ 130 }
+{
+    match value {
+        ValueRef::Int(number) => {
+            let mut buffer = Buffer::new();
+            buffer.format(number).len()
+        }
+        ValueRef::Text(text) => quoted_len(text.bytes()),
+    }
+}
+
+// The number of bytes of a text in quotes, each quote in it doubled.
+#[tactic(auto, using(crate::proofs::Lengths::length_of_quoted, crate::proofs::Lengths::quoted_bound))]
+fn quoted_len(bytes: &[u8]) -> usize
+    requires { length bytes.now ≤ 64 }
+    ensures len { result ≡ length (quoted bytes.now) }
+    ensures bound { result ≤ 130 }
+{
+    bytes.len() + count_quotes(bytes) + 2
+}
+
+fn count_quotes(bytes: &[u8]) -> usize
+    ensures { result ≡ count_by (λ b. b == 39) bytes.now }
+{
+    bytes.iter().filter(|b| **b == b'\'').count()
+}
