@@ -37,6 +37,7 @@ _Static_assert(sizeof(mmdb) == 2 * sizeof(void *), "mmdb has another layout");
 enum {
     LEAST_REFUSAL = 10,     /* the first status that is a refusal */
     MOST_COLUMNS = 16,      /* of a row: a limit of the language */
+    MOST_SAVEPOINTS = 64,   /* of a transaction at a time: a limit of the language */
     KEPT_STATEMENTS = 128,  /* in the cache of a connection */
     CACHE_BUCKETS = 256,    /* a power of two */
     FEW_VALUES = 16,        /* the values of a line that need no allocation */
@@ -262,6 +263,34 @@ static inline bool is_definition(const Statement *statement) { return statement-
 static inline bool is_change(const Statement *statement) { return statement->kind >= 20 && statement->kind < 30; }
 static inline bool is_question(const Statement *statement) { return statement->kind >= 30 && statement->kind < 50; }
 
+/* ---- The list of savepoints ------------------------------------------------------------------------------------------------------- */
+
+/* A savepoint that is set. No other one has its number. */
+typedef struct SetSavepoint {
+    uint64_t number;
+    size_t length;
+    char name[MMDB_NAME_BYTES];
+} SetSavepoint;
+
+/*
+ * The savepoints that are set, the oldest first. The library knows savepoints by their names, of which several may be equal. A with
+ * statement has to know whether its own one is still set, and whether a later one hides it.
+ */
+typedef struct SavepointList {
+    uint64_t newest;            /* the number that was given last */
+    size_t count;
+    SetSavepoint all[MOST_SAVEPOINTS];
+} SavepointList;
+
+/* Follows a line that succeeded with MMDB_DONE. */
+void savepoints_follow(SavepointList *list, const char *line, size_t length);
+
+/* Returns the number of savepoints up to the latest one with a name: 0 if there is none. */
+size_t savepoints_count_to(const SavepointList *list, const char *name, size_t length);
+
+/* Returns whether the savepoint with a number is still set. */
+bool savepoints_have(const SavepointList *list, uint64_t number);
+
 /* ---- Connections ------------------------------------------------------------------------------------------------------------------ */
 
 typedef enum Phase { NEW, OPEN, CLOSED } Phase;
@@ -276,6 +305,7 @@ struct Connection {
     PyThread_type_lock lock;    /* NULL if one thread alone may use the connection */
     size_t begin, commit, rollback;     /* the numbers of the statements BEGIN, COMMIT and ROLLBACK */
     uint64_t catalog_age;       /* the number of definitions that succeeded */
+    SavepointList savepoints;
     Cache cache;
     PyObject *row_factory, *text_factory, *trace_callback, *weak_references;
 };
@@ -383,6 +413,9 @@ typedef bool (*RowRunner)(Cursor *cursor, Statement *statement, PyObject *rows, 
 
 /* Runs a line, which must be a change, for the rows of an object. */
 bool cursor_run_rows(Cursor *self, PyObject *line, PyObject *rows, RowRunner run);
+
+/* Takes note of a statement that succeeded with MMDB_DONE: what it defined, or what it did to the savepoints. */
+void note_done(Connection *connection, const Statement *statement);
 
 /* Raises the exception of a reply whose status is a refusal, or for which there was no memory. cells are the values of the run. */
 void raise_reply(const State *state, const Statement *statement, const Reply *reply, const mmdb_cell *cells);

@@ -159,6 +159,7 @@ static bool end_transaction(Connection *self, bool commits) {
     if (mmdb_in_transaction(&self->db)) {
         PyThreadState *thread = PyEval_SaveThread();
         status = mmdb_run(&self->db, commits ? self->commit : self->rollback, NULL, 0);
+        if (status == MMDB_DONE) self->savepoints.count = 0;
         PyEval_RestoreThread(thread);
     }
     connection_leave(self);

@@ -11,6 +11,11 @@ static bool wants_transaction(Connection *connection, const Statement *statement
     return !mmdb_in_transaction(&connection->db);
 }
 
+void note_done(Connection *connection, const Statement *statement) {
+    if (is_definition(statement)) connection->catalog_age++;
+    else savepoints_follow(&connection->savepoints, statement->line, statement->length);
+}
+
 /* Completes the reply of a run that was refused. If the run began a transaction, that is taken back. */
 static void refuse(Connection *connection, const Statement *statement, bool takes_back, Reply *reply) {
     reply->place = mmdb_place(&connection->db, (const uint8_t *)statement->line, statement->length, reply->status);
@@ -83,8 +88,8 @@ static void command(Connection *connection, Statement *statement, const mmdb_cel
         refuse(connection, statement, begins, reply);
     } else if (reply->status == MMDB_COUNT) {
         reply->count = mmdb_count(db);
-    } else if (reply->status == MMDB_DONE && is_definition(statement)) {
-        connection->catalog_age++;
+    } else if (reply->status == MMDB_DONE) {
+        note_done(connection, statement);
     }
 }
 

@@ -8,6 +8,7 @@ typedef struct Savepoint {
     /* The lines SAVEPOINT name and ROLLBACK TO name in one allocation, of which the name is the end. */
     char *set, *go_back;
     size_t set_length, go_back_length, name_length;
+    uint64_t number;        /* in the list of savepoints that are set */
     bool is_set;
     bool began;             /* whether it began the transaction, and the connection has autocommit */
 } Savepoint;
@@ -62,7 +63,9 @@ PyObject *connection_savepoint(PyObject *object, PyObject *name) {
 }
 
 static uint8_t execute(Connection *connection, const char *line, size_t length) {
-    return mmdb_execute(&connection->db, (const uint8_t *)line, length);
+    uint8_t status = mmdb_execute(&connection->db, (const uint8_t *)line, length);
+    if (status == MMDB_DONE) savepoints_follow(&connection->savepoints, line, length);
+    return status;
 }
 
 static void raise_line(const Savepoint *self, uint8_t status, const char *line, size_t length) {
@@ -80,6 +83,7 @@ static uint8_t set(Savepoint *self) {
     status = execute(connection, self->set, self->set_length);
     if (status == MMDB_DONE) {
         self->is_set = true;
+        self->number = connection->savepoints.newest;
         self->began = begins && connection->autocommit;
     } else if (begins) {
         mmdb_run(&connection->db, connection->rollback, NULL, 0);
@@ -104,15 +108,34 @@ static PyObject *savepoint_enter(PyObject *object, PyObject *unused) {
     return NULL;
 }
 
+/* Releases the latest savepoint with the name. */
+static uint8_t release(Savepoint *self) {
+    SavepointList *list = &self->connection->savepoints;
+    const char *name = self->set + self->set_length - self->name_length;
+    uint8_t status = mmdb_release(&self->connection->db, (const uint8_t *)name, self->name_length);
+    if (status == MMDB_DONE) list->count = savepoints_count_to(list, name, self->name_length) - 1;
+    return status;
+}
+
+/* Returns whether a later savepoint has the name. */
+static bool is_hidden(const Savepoint *self) {
+    const SavepointList *list = &self->connection->savepoints;
+    return list->all[savepoints_count_to(list, self->set + self->set_length - self->name_length, self->name_length) - 1].number !=
+           self->number;
+}
+
 /* Ends the block. If the savepoint is gone, since its transaction has ended or went back before it, there is nothing to do. */
 static uint8_t leave(Savepoint *self, bool goes_back) {
     Connection *connection = self->connection;
-    mmdb *db = &connection->db;
+    uint8_t status = MMDB_DONE;
     self->is_set = false;
-    if (goes_back && execute(connection, self->go_back, self->go_back_length) != MMDB_DONE) return MMDB_DONE;
-    const char *name = self->set + self->set_length - self->name_length;
-    if (mmdb_release(db, (const uint8_t *)name, self->name_length) != MMDB_DONE) return MMDB_DONE;
-    return self->began ? mmdb_run(db, goes_back ? connection->rollback : connection->commit, NULL, 0) : MMDB_DONE;
+    if (!savepoints_have(&connection->savepoints, self->number)) return MMDB_DONE;
+    while (status == MMDB_DONE && is_hidden(self)) status = release(self);
+    if (status == MMDB_DONE && goes_back) status = execute(connection, self->go_back, self->go_back_length);
+    if (status == MMDB_DONE) status = release(self);
+    if (status != MMDB_DONE || !self->began) return status;
+    connection->savepoints.count = 0;
+    return mmdb_run(&connection->db, goes_back ? connection->rollback : connection->commit, NULL, 0);
 }
 
 static PyObject *savepoint_exit(PyObject *object, PyObject *const *arguments, Py_ssize_t count) {
@@ -128,12 +151,20 @@ static PyObject *savepoint_exit(PyObject *object, PyObject *const *arguments, Py
     return NULL;
 }
 
+/* Goes back to the latest savepoint with the name, unless this one is gone: then the name may mean one that was there before. */
+static uint8_t go_back(Savepoint *self) {
+    Connection *connection = self->connection;
+    bool is_gone = self->is_set && !savepoints_have(&connection->savepoints, self->number);
+    if (is_gone && mmdb_in_transaction(&connection->db)) return MMDB_NO_SUCH_SAVEPOINT;
+    return execute(connection, self->go_back, self->go_back_length);
+}
+
 static PyObject *savepoint_rollback(PyObject *object, PyObject *unused) {
     (void)unused;
     Savepoint *self = (Savepoint *)object;
     if (!connection_enter(self->connection)) return NULL;
     PyThreadState *thread = PyEval_SaveThread();
-    uint8_t status = execute(self->connection, self->go_back, self->go_back_length);
+    uint8_t status = go_back(self);
     PyEval_RestoreThread(thread);
     connection_leave(self->connection);
     if (status == MMDB_DONE) return Py_NewRef(Py_None);
@@ -165,7 +196,8 @@ static PyMethodDef savepoint_methods[] = {
     {"rollback", savepoint_rollback, METH_NOARGS,
      "rollback($self, /)\n--\n\n"
      "Rolls back to the last savepoint with this name. The transaction stays open, and so does the savepoint.\n\n"
-     "So inside an inner block with the same name, it goes back to the savepoint of that block."},
+     "So inside an inner block with the same name, it goes back to the savepoint of that block. If its own savepoint is gone, it raises\n"
+     "ProgrammingError."},
     {"__enter__", savepoint_enter, METH_NOARGS, "__enter__($self, /)\n--\n\nSets the savepoint and returns it."},
     {"__exit__", FAST_CALL(savepoint_exit), METH_FASTCALL,
      "__exit__($self, /, *exception)\n--\n\nReleases the savepoint, and rolls back to it first after an exception."},

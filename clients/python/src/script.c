@@ -132,7 +132,7 @@ static uint8_t run_prepared(Connection *connection, const Statement *statement) 
     mmdb *db = &connection->db;
     uint8_t status = statement->parameters == 0 ? mmdb_run(db, statement->number, NULL, 0)
                                                 : mmdb_execute(db, (const uint8_t *)statement->line, statement->length);
-    if (status == MMDB_DONE && is_definition(statement)) connection->catalog_age++;
+    if (status == MMDB_DONE) note_done(connection, statement);
     return status;
 }
 

@@ -21,6 +21,7 @@ PyObject *connection_execute_line(PyObject *object, PyObject *line_object) {
     PyEval_RestoreThread(thread);
     /* It may have been a definition. */
     if (status == MMDB_DONE) self->catalog_age++;
+    if (status == MMDB_DONE) savepoints_follow(&self->savepoints, (const char *)line, length);
     connection_leave(self);
     return PyLong_FromLong(status);
 }

@@ -234,18 +234,19 @@ class Savepoint:
             database.do_savepoint(self.name.encode())
         except language.Refused as error:
             raise refused(error.number) from None
+        self.own = database.savepoints[-1]
 
     def ends(self, thread: int, is_good: bool) -> Call:
-        """__exit__()."""
+        """__exit__(). It means its own savepoint, whatever other ones with its name there are."""
         self.connection.check(thread)
         yield
         database = self.connection.database
-        places = [place for place, (name, _) in enumerate(database.savepoints) if name == self.name.encode()]
+        places = [place for place, savepoint in enumerate(database.savepoints) if savepoint is self.own]
         if not places:
             return
         if not is_good:
-            database.do_rollback_to(self.name.encode())
-        database.savepoints = database.savepoints[: places[-1]]
+            database.go_back(self.own[1])
+        database.savepoints = database.savepoints[: places[0]]
         if self.is_own:
             database.do_commit() if is_good else database.do_rollback()
 

@@ -1,5 +1,7 @@
 """When transactions begin and end, and savepoints."""
 
+from contextlib import suppress
+
 import mmdb
 import pytest
 
@@ -214,6 +216,39 @@ def test_savepoints_with_one_name_nest(numbers: mmdb.Connection) -> None:
         numbers.execute("INSERT t (4, 40)")
     numbers.commit()
     assert [number for number, _ in rows(numbers)] == [1, 2, 3, 4]
+
+
+@pytest.mark.parametrize("fails", [False, True])
+def test_a_savepoint_that_is_gone_leaves_an_earlier_one_of_its_name_alone(numbers: mmdb.Connection, fails: bool) -> None:
+    with pytest.raises(LookupError), numbers.savepoint("a"):
+        numbers.execute("INSERT t (3, 30)")
+        with numbers.savepoint("b") as middle:
+            with suppress(KeyError), numbers.savepoint("a") as inner:
+                numbers.execute("INSERT t (4, 40)")
+                middle.rollback()
+                with pytest.raises(mmdb.ProgrammingError, match="no such savepoint"):
+                    inner.rollback()
+                numbers.execute("INSERT t (5, 50)")
+                if fails:
+                    raise KeyError
+            assert [number for number, _ in rows(numbers)] == [1, 2, 3, 5]
+        raise IndexError
+    assert [number for number, _ in rows(numbers)] == [1, 2]
+
+
+@pytest.mark.parametrize("fails", [False, True])
+@pytest.mark.parametrize("is_script", [False, True])
+def test_a_block_ends_with_its_own_savepoint(numbers: mmdb.Connection, fails: bool, is_script: bool) -> None:
+    with suppress(KeyError), numbers.savepoint("s"):
+        numbers.execute("INSERT t (3, 30)")
+        for line in ("SAVEPOINT s", "SAVEPOINT t", "SAVEPOINT s"):
+            numbers.executescript(line) if is_script else numbers.execute(line)
+        numbers.execute("INSERT t (4, 40)")
+        if fails:
+            raise KeyError
+    assert [number for number, _ in rows(numbers)] == ([1, 2] if fails else [1, 2, 3, 4])
+    with pytest.raises(mmdb.ProgrammingError, match="no such savepoint"):
+        numbers.execute("ROLLBACK TO s")
 
 
 @pytest.mark.parametrize("fails", [False, True])

@@ -7,6 +7,7 @@ use crate::memory;
 use crate::params::{params_from_iter, Params};
 use crate::raw::{self, Column, Handle, Status};
 use crate::row::Row;
+use crate::savepoints::{Effect, Savepoints};
 use crate::script::Script;
 use crate::statement::{Prepared, Statement};
 use crate::transaction::Transaction;
@@ -59,6 +60,7 @@ pub struct Connection {
     pub(crate) catalog: Cell<u64>,
     /// The number of replies `ok` after which no transaction was open. The end of a transaction is one of them, and none comes within one.
     pub(crate) ended_transactions: Cell<u64>,
+    pub(crate) savepoints: RefCell<Savepoints>,
     cache: RefCell<Cache>,
 }
 
@@ -70,6 +72,7 @@ impl Connection {
             handle: Handle::open().map_err(Error::of_status)?,
             catalog: Cell::new(0),
             ended_transactions: Cell::new(0),
+            savepoints: RefCell::new(Savepoints::new()?),
             cache: RefCell::new(Cache::new()),
         })
     }
@@ -85,10 +88,11 @@ impl Connection {
     /// - `Refused`: the database refused the command
     pub fn execute(&self, line: &str, params: impl Params) -> Result<usize> {
         if params.are_none() {
-            let status = self.handle.execute(&one_line(line)?);
+            let line = one_line(line)?;
+            let status = self.handle.execute(&line);
             // A line with a ? is a syntax error without values. As a statement it has parameters, and the error says so.
             if status != raw::SYNTAX {
-                return self.changed_rows(status);
+                return self.changed_rows(status, Effect::of(&line));
             }
         }
         self.prepare_once(line)?.execute(params)
@@ -308,7 +312,7 @@ impl Connection {
 
     /// Executes a line, and drops the reply.
     pub(crate) fn define(&self, line: &[u8]) -> Result<()> {
-        self.note(self.handle.execute(line))
+        self.note(self.handle.execute(line), Effect::of(line))
     }
 
     /// Returns the lines of the reply, which is a text, without the last one, which is their number.
@@ -319,16 +323,18 @@ impl Connection {
         memory::collected(text.lines().take(count).map(memory::string))
     }
 
-    /// Takes note of the status of a command. An error if it is not a success.
+    /// Takes note of the status of a command, and of what the command does to the savepoints if it succeeds. An error if it is not a
+    /// success.
     #[inline]
-    pub(crate) fn note(&self, status: Status) -> Result<()> {
+    pub(crate) fn note(&self, status: Status, effect: Effect) -> Result<()> {
         if status == raw::DONE {
-            self.note_ok();
+            self.note_ok(effect);
         }
         Error::check(status)
     }
 
-    fn note_ok(&self) {
+    fn note_ok(&self, effect: Effect) {
+        self.savepoints.borrow_mut().follow(effect);
         self.catalog.set(self.catalog.get() + 1);
         if !self.handle.is_in_transaction() {
             self.ended_transactions.set(self.ended_transactions.get() + 1);
@@ -337,8 +343,8 @@ impl Connection {
 
     /// Returns the number of rows that a command with this status changed.
     #[inline]
-    pub(crate) fn changed_rows(&self, status: Status) -> Result<usize> {
-        self.note(status)?;
+    pub(crate) fn changed_rows(&self, status: Status, effect: Effect) -> Result<usize> {
+        self.note(status, effect)?;
         match status {
             raw::COUNT => Ok(self.handle.count()),
             raw::ROWS | raw::TEXT => Err(Error::ExecuteReturnedRows),

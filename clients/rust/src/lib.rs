@@ -24,6 +24,7 @@ mod params;
 mod raw;
 mod reply;
 mod row;
+mod savepoints;
 mod script;
 mod statement;
 mod transaction;

@@ -37,7 +37,7 @@ pub(crate) fn one_line(line: &str) -> Result<Cow<'_, [u8]>> {
 
 /// A word that can be a name in a line. A line that contains it has no other meaning than it should: the library accepts or refuses the
 /// word.
-#[derive(Clone, Copy)]
+#[derive(Clone, Copy, PartialEq)]
 pub(crate) struct Name {
     bytes: [u8; NAME_BYTES],
     length: usize,

@@ -8,6 +8,7 @@ use crate::params::{Binder, Params};
 use crate::raw::{self, Cell, Column, Handle};
 use crate::reply::Reply;
 use crate::row::{AndThenRows, MappedRows, Row, Rows};
+use crate::savepoints::Effect;
 
 /// The maximum number of cells that cross at a time if there are many: 80 kilobytes.
 const MOST_CELLS: usize = 1024;
@@ -41,6 +42,7 @@ pub(crate) struct Prepared {
     pub(crate) line: String,
     number: usize,
     kind: Kind,
+    effect: Effect,
     /// A cell for each parameter.
     values: Vec<Cell>,
     /// The cells that the library writes rows to.
@@ -54,8 +56,9 @@ pub(crate) struct Prepared {
 impl Prepared {
     /// Prepares a line for one call.
     pub(crate) fn new(connection: &Connection, line: &str) -> Result<Prepared> {
-        let number = connection.handle.prepare(&one_line(line)?).map_err(Error::of_status)?;
-        let mut prepared = Prepared { number, ..Prepared::default() };
+        let line = one_line(line)?;
+        let number = connection.handle.prepare(&line).map_err(Error::of_status)?;
+        let mut prepared = Prepared { number, effect: Effect::of(&line), ..Prepared::default() };
         match prepared.describe(&connection.handle) {
             Ok(()) => Ok(prepared),
             Err(error) => {
@@ -108,7 +111,7 @@ impl Prepared {
     fn execute(&mut self, connection: &Connection, params: impl Params) -> Result<usize> {
         self.must_be_command()?;
         self.bind(params)?;
-        connection.changed_rows(connection.handle.run(self.number, &self.values))
+        connection.changed_rows(connection.handle.run(self.number, &self.values), self.effect)
     }
 
     fn explain(&mut self, connection: &Connection, params: impl Params) -> Result<Vec<String>> {
@@ -373,7 +376,7 @@ impl<'c> Statement<'c> {
     /// Runs the statement without values, and drops its reply. `WrongParameterCount` if it has parameters, or `Refused`.
     pub(crate) fn execute_in_script(&mut self) -> Result<()> {
         self.prepared.bind(())?;
-        self.connection.note(self.connection.handle.run(self.prepared.number, &[]))
+        self.connection.note(self.connection.handle.run(self.prepared.number, &[]), self.prepared.effect)
     }
 
     /// Returns whether the line is empty or a comment.

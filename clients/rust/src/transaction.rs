@@ -101,8 +101,11 @@ impl Drop for Transaction<'_> {
 /// A savepoint of a transaction. Dropping it rolls back the changes since it was set, unless it was committed. Either way the savepoint is
 /// released, so a transaction may set any number of them one after another.
 ///
-/// A `Savepoint` dereferences to its [`Connection`] and has its calls. Savepoints may be nested, also with the same name. A line that sets
-/// a savepoint of the same name hides this one, as in the language: `ROLLBACK TO` goes back to the later savepoint.
+/// A `Savepoint` dereferences to its [`Connection`] and has its calls. Savepoints may be nested, also with the same name. The calls of a
+/// `Savepoint` always mean its own one. In lines, the name means the latest savepoint with the name, as in the language.
+///
+/// A line such as `ROLLBACK TO` an earlier savepoint may drop the savepoint. From then on the `Savepoint` does nothing: its calls return
+/// `Refused(NoSuchSavepoint)`, and dropping it does not touch an earlier savepoint of the same name.
 ///
 /// ```
 /// use mmdb::{Connection, Result};
@@ -128,14 +131,17 @@ pub struct Savepoint<'t> {
     connection: &'t Connection,
     name: Name,
     transaction: u64,
+    /// The number of this one in the list of savepoints that are set.
+    number: u64,
     is_over: bool,
 }
 
 impl<'t> Savepoint<'t> {
     fn set(connection: &'t Connection, transaction: u64, name: &str) -> Result<Savepoint<'t>> {
         must_be_open(connection, transaction)?;
-        let mut savepoint = Savepoint { connection, name: Name::new(name)?, transaction, is_over: true };
+        let mut savepoint = Savepoint { connection, name: Name::new(name)?, transaction, number: 0, is_over: true };
         savepoint.execute_with_name(b"SAVEPOINT ")?;
+        savepoint.number = connection.savepoints.borrow().newest();
         savepoint.is_over = false;
         Ok(savepoint)
     }
@@ -145,12 +151,13 @@ impl<'t> Savepoint<'t> {
     /// `Refused(NoTransaction)` or `Refused(NoSuchSavepoint)` if a line ended the transaction or went back to an earlier savepoint.
     pub fn commit(mut self) -> Result<()> {
         self.is_over = true;
+        self.reveal()?;
         self.release()
     }
 
     /// Rolls back the changes since the savepoint, which stays set. The errors are those of [`commit`](Savepoint::commit).
     pub fn rollback(&mut self) -> Result<()> {
-        must_be_open(self.connection, self.transaction)?;
+        self.reveal()?;
         self.execute_with_name(b"ROLLBACK TO ")
     }
 
@@ -165,9 +172,27 @@ impl<'t> Savepoint<'t> {
         self.name.as_str()
     }
 
-    fn release(&self) -> Result<()> {
+    /// Releases the later savepoints that hide this one. `Refused(NoTransaction)` or `Refused(NoSuchSavepoint)` if this one is not set.
+    fn reveal(&self) -> Result<()> {
         must_be_open(self.connection, self.transaction)?;
-        Error::check(self.connection.handle.release(self.name.as_bytes()))
+        if !self.connection.savepoints.borrow().contains(self.number) {
+            return Err(Error::Refused(Refusal::NoSuchSavepoint));
+        }
+        while self.is_hidden() {
+            self.release()?;
+        }
+        Ok(())
+    }
+
+    fn is_hidden(&self) -> bool {
+        self.connection.savepoints.borrow().latest(self.name).map_or(false, |(_, number)| number != self.number)
+    }
+
+    /// Releases the latest savepoint with the name.
+    fn release(&self) -> Result<()> {
+        Error::check(self.connection.handle.release(self.name.as_bytes()))?;
+        self.connection.savepoints.borrow_mut().release(self.name);
+        Ok(())
     }
 
     /// Executes a command that ends in the name of the savepoint. It allocates nothing, so that a rollback cannot fail for want of memory.

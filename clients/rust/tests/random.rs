@@ -263,11 +263,12 @@ impl Session<'_> {
                     let name = random.one_of(&NAMES);
                     let reply = if model.ended == number { model.savepoint(name) } else { Err(51) };
                     let set = guard.set(name);
-                    assert_eq!(plain(set.as_ref().map(|_| ()).map_err(copy_of)), expected(reply), "savepoint {name}");
-                    if let Ok(mut savepoint) = set {
+                    let plain_reply = expected(reply.map(|_| ()));
+                    assert_eq!(plain(set.as_ref().map(|_| ()).map_err(copy_of)), plain_reply, "savepoint {name}");
+                    if let (Ok(mut savepoint), Ok(own)) = (set, reply) {
                         self.log(|| format!("savepoint {name} {{"));
                         self.within(&mut savepoint, db, number, model, other, held);
-                        self.end_savepoint(savepoint, name, number, model, &mut random);
+                        self.end_savepoint(savepoint, own, number, model, &mut random);
                     }
                 }
                 6 => self.simple(&other.db, &mut other.model, &mut random),
@@ -280,10 +281,11 @@ impl Session<'_> {
         }
     }
 
+    /// Ends the savepoint with the number `own`, which is over if the transaction with this number has ended.
     fn end_savepoint(
         &mut self,
         mut savepoint: Savepoint<'_>,
-        name: &'static str,
+        own: u64,
         number: u64,
         model: &mut Model,
         random: &mut Random,
@@ -301,17 +303,17 @@ impl Session<'_> {
         }
         if end == End::Drop {
             drop(savepoint);
-            if !is_over && model.rollback_to(name).is_ok() {
-                model.release(name).unwrap();
+            if !is_over && model.rollback_to_number(own).is_ok() {
+                model.release(own).unwrap();
             }
             return;
         }
         if end == End::RollbackAndCommit {
-            let reply = if is_over { Err(51) } else { model.rollback_to(name) };
-            assert_eq!(plain(savepoint.rollback()), expected(reply), "rollback to {name}");
+            let reply = if is_over { Err(51) } else { model.rollback_to_number(own) };
+            assert_eq!(plain(savepoint.rollback()), expected(reply), "rollback to {own}");
         }
-        let reply = if is_over { Err(51) } else { model.release(name) };
-        assert_eq!(plain(savepoint.commit()), expected(reply), "commit {name}");
+        let reply = if is_over { Err(51) } else { model.release(own) };
+        assert_eq!(plain(savepoint.commit()), expected(reply), "commit {own}");
     }
 
     fn step_with_statements<'c>(

@@ -256,6 +256,57 @@ fn lines_use_the_savepoints_of_the_calls() -> Result<()> {
 }
 
 #[test]
+fn a_savepoint_that_a_line_dropped_leaves_an_earlier_one_of_its_name_alone() -> Result<()> {
+    for ends_by_drop in [false, true] {
+        let mut db = numbers()?;
+        let mut transaction = db.transaction()?;
+        let mut outer = transaction.savepoint("a")?;
+        add(&outer, 1)?;
+        let mut middle = outer.savepoint("b")?;
+        let mut inner = middle.savepoint("a")?;
+        add(&inner, 2)?;
+        inner.execute("ROLLBACK TO b", ())?;
+        add(&inner, 3)?;
+        assert_eq!(inner.rollback().unwrap_err().number(), Some(53));
+        if ends_by_drop {
+            drop(inner);
+        } else {
+            assert_eq!(inner.commit().unwrap_err().number(), Some(53));
+        }
+        assert_eq!(all(&middle)?, [1, 3]);
+        middle.commit()?;
+        assert_eq!(all(&outer)?, [1, 3]);
+        outer.rollback()?;
+        outer.commit()?;
+        transaction.commit()?;
+        assert_eq!(all(&db)?, []);
+    }
+    Ok(())
+}
+
+#[test]
+fn calls_mean_their_own_savepoint_and_lines_the_latest_one() -> Result<()> {
+    let mut db = numbers()?;
+    let mut transaction = db.transaction()?;
+    let mut savepoint = transaction.savepoint("s")?;
+    add(&savepoint, 1)?;
+    savepoint.execute("SAVEPOINT s", ())?;
+    add(&savepoint, 2)?;
+    savepoint.execute("ROLLBACK TO s", ())?;
+    assert_eq!(all(&savepoint)?, [1]);
+    savepoint.execute_batch("SAVEPOINT s\nSAVEPOINT t\nSAVEPOINT s")?;
+    savepoint.rollback()?;
+    assert_eq!(all(&savepoint)?, []);
+    add(&savepoint, 3)?;
+    savepoint.prepare("SAVEPOINT s")?.execute(())?;
+    savepoint.commit()?;
+    assert_eq!(transaction.execute("ROLLBACK TO s", ()).unwrap_err().number(), Some(53));
+    transaction.commit()?;
+    assert_eq!(all(&db)?, [3]);
+    Ok(())
+}
+
+#[test]
 fn a_transaction_that_a_line_ended_leaves_the_next_one_alone() -> Result<()> {
     for end in ["COMMIT", "ROLLBACK"] {
         let db = numbers()?;

@@ -215,7 +215,7 @@ impl Call {
             Call::Begin => model.begin().map(done),
             Call::Commit => model.commit().map(done),
             Call::Rollback => model.rollback().map(done),
-            Call::Savepoint(name) => model.savepoint(name).map(done),
+            Call::Savepoint(name) => model.savepoint(name).map(|_| done(())),
             Call::RollbackTo(name) => model.rollback_to(name).map(done),
         }
     }

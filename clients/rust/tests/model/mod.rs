@@ -85,7 +85,15 @@ type Tables = BTreeMap<&'static str, Table>;
 #[derive(Debug)]
 struct Transaction {
     at_begin: Tables,
-    savepoints: Vec<(&'static str, Tables)>,
+    savepoints: Vec<Savepoint>,
+}
+
+#[derive(Debug)]
+struct Savepoint {
+    name: &'static str,
+    /// No other savepoint has this number.
+    number: u64,
+    tables: Tables,
 }
 
 #[derive(Debug, Default)]
@@ -94,6 +102,8 @@ pub struct Model {
     transaction: Option<Transaction>,
     /// The number of transactions that have ended.
     pub ended: u64,
+    /// The number of savepoints that were set.
+    set: u64,
 }
 
 impl Model {
@@ -217,32 +227,44 @@ impl Model {
         Ok(())
     }
 
-    pub fn savepoint(&mut self, name: &'static str) -> Reply<()> {
+    /// Sets a savepoint, and returns its number, which no other one has.
+    pub fn savepoint(&mut self, name: &'static str) -> Reply<u64> {
         let transaction = self.transaction.as_mut().ok_or(51)?;
         if transaction.savepoints.len() == MOST_SAVEPOINTS {
             return Err(48);
         }
-        transaction.savepoints.push((name, self.tables.clone()));
-        Ok(())
+        self.set += 1;
+        transaction.savepoints.push(Savepoint { name, number: self.set, tables: self.tables.clone() });
+        Ok(self.set)
     }
 
-    /// The open transaction's savepoints, and the position of the latest one with a name.
-    fn latest(&mut self, name: &str) -> Reply<(&mut Vec<(&'static str, Tables)>, usize)> {
+    /// The open transaction's savepoints, and the position of the latest one for which a test holds.
+    fn latest(&mut self, test: impl Fn(&Savepoint) -> bool) -> Reply<(&mut Vec<Savepoint>, usize)> {
         let savepoints = &mut self.transaction.as_mut().ok_or(51)?.savepoints;
-        let place = savepoints.iter().rposition(|savepoint| savepoint.0 == name).ok_or(53)?;
+        let place = savepoints.iter().rposition(test).ok_or(53)?;
         Ok((savepoints, place))
     }
 
-    pub fn rollback_to(&mut self, name: &str) -> Reply<()> {
-        let (savepoints, place) = self.latest(name)?;
+    fn rollback_to_latest(&mut self, test: impl Fn(&Savepoint) -> bool) -> Reply<()> {
+        let (savepoints, place) = self.latest(test)?;
         savepoints.truncate(place + 1);
-        let tables = savepoints[place].1.clone();
+        let tables = savepoints[place].tables.clone();
         self.tables = tables;
         Ok(())
     }
 
-    pub fn release(&mut self, name: &str) -> Reply<()> {
-        let (savepoints, place) = self.latest(name)?;
+    /// A line means the latest savepoint with a name.
+    pub fn rollback_to(&mut self, name: &str) -> Reply<()> {
+        self.rollback_to_latest(|savepoint| savepoint.name == name)
+    }
+
+    /// A call means the savepoint with a number.
+    pub fn rollback_to_number(&mut self, number: u64) -> Reply<()> {
+        self.rollback_to_latest(|savepoint| savepoint.number == number)
+    }
+
+    pub fn release(&mut self, number: u64) -> Reply<()> {
+        let (savepoints, place) = self.latest(|savepoint| savepoint.number == number)?;
         savepoints.truncate(place);
         Ok(())
     }
