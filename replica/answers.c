@@ -4,6 +4,9 @@
 #include <stdio.h>
 #include <string.h>
 
+/* What a message may take beside its body: its headers and subjects, and what libnats and malloc add to them. */
+enum { MOST_HEAD_BYTES = 16384 };
+
 static natsStatus set_headers(natsMsg *message, const struct answers *answers, const struct reply *reply) {
   char number[24], chain[DIGEST_TEXT_BYTES];
   natsStatus status = natsMsgHeader_Set(message, STATUS_HEADER, reply->status);
@@ -50,9 +53,10 @@ static bool has_long_line(struct text text) {
   return false;
 }
 
-/* Returns what is wrong with a request, as far as its size tells, or NULL. */
+/* Returns what is wrong with a request, as far as its size tells, or NULL. It reads no header. */
 static const char *refuse_size(enum event_kind kind, natsMsg *message) {
   struct text body = body_of(message);
+  if (size_of_message(message) > body.length + MOST_HEAD_BYTES) return "a request has at most 8192 bytes of headers\n";
   if (kind == EVENT_CHANGE && body.length > MOST_SCRIPT_BYTES) return "a script has at most 524288 bytes\n";
   if (kind == EVENT_QUESTION && body.length > MOST_LINE_BYTES + 2) return "error 10 line too long\n";
   return has_long_line(body) ? "error 10 line too long\n" : NULL;
@@ -90,8 +94,8 @@ static void on_request(natsConnection *connection, natsSubscription *subscriptio
 static void on_sum_message(natsConnection *connection, natsSubscription *subscription, natsMsg *message, void *closure) {
   struct answers *answers = closure;
   (void)connection, (void)subscription;
-  bool is_taken =
-      natsMsg_GetDataLength(message) < MOST_SUM_BYTES && queue_add(answers->queue, (struct event){.kind = EVENT_SUM, .message = message});
+  bool is_short = natsMsg_GetDataLength(message) < MOST_SUM_BYTES && size_of_message(message) < MOST_HEAD_BYTES;
+  bool is_taken = is_short && queue_add(answers->queue, (struct event){.kind = EVENT_SUM, .message = message});
   if (!is_taken) natsMsg_Destroy(message);
 }
 

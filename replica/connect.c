@@ -1,9 +1,12 @@
 #include "connect.h"
 #include <errno.h>
+#include <fcntl.h>
+#include <malloc.h>
 #include <stdio.h>
 #include <stdlib.h>
 #include <string.h>
 #include <sys/stat.h>
+#include <unistd.h>
 
 /* Milliseconds, except the last. */
 enum { CONNECT_WAIT = 2000, RECONNECT_WAIT = 200, PING_EVERY = 2000, WRITE_DEADLINE = 2000, FLUSH_WAIT = 1000, MOST_PINGS_OUT = 2 };
@@ -186,9 +189,19 @@ struct text body_of(natsMsg *message) {
   return (struct text){(const uint8_t *)natsMsg_GetData(message), (size_t)natsMsg_GetDataLength(message)};
 }
 
+/* libnats 3.4 allocates a message that it received as one block. */
+size_t size_of_message(const natsMsg *message) { return malloc_usable_size((void *)message); }
+
 bool is_plain_name(const char *name) {
   size_t length = strspn(name, "abcdefghijklmnopqrstuvwxyzABCDEFGHIJKLMNOPQRSTUVWXYZ0123456789_-");
   return length && length <= MOST_LOG_NAME_BYTES && !name[length];
+}
+
+void open_standard_files(void) {
+  int file;
+  do file = open("/dev/null", O_RDONLY);
+  while (file >= 0 && file <= STDERR_FILENO);
+  if (file >= 0) close(file);
 }
 
 void hide_passwords(char *servers) {

@@ -90,8 +90,20 @@ bool number_in_header(natsMsg *message, const char *header, uint64_t *number);
 const char *header_of(natsMsg *message, const char *header);
 struct text body_of(natsMsg *message);
 
+/*
+ * Returns how many bytes a message that was received takes with its headers. No call of libnats 3.4 does, and one that reads a header first
+ * takes all of them apart, which takes longer than all else and many times their bytes.
+ */
+size_t size_of_message(const natsMsg *message);
+
 /* Returns whether this can be the name of a log or of a replica: 1 to 32 letters, digits, _ and -. */
 bool is_plain_name(const char *name);
+
+/*
+ * Opens each standard file that this program was started without, so that nothing can be read from it or written to it. Otherwise a
+ * connection would get its number, and what is printed would reach the servers.
+ */
+void open_standard_files(void);
 
 /* Overwrites the password in each address of a list of servers in an argument, after it was copied, so that ps does not show it. */
 void hide_passwords(char *servers);

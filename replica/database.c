@@ -93,7 +93,9 @@ void database_close(struct database *database) {
   database->standing_count = 0;
 }
 
-bool database_is_between(const struct database *database) { return database->progress.entries || database->progress.has_run; }
+size_t database_part(const struct database *database) { return database->progress.entries + database->progress.has_run; }
+
+bool database_is_between(const struct database *database) { return database_part(database) > 0; }
 
 /* Standing queries. */
 
@@ -244,9 +246,9 @@ enum applied database_apply(struct database *database, const struct message *mes
   struct entry entry;
   uint64_t checked;
   struct text rest = message->body;
-  if (is_newer(message)) return database_is_between(database) ? APPLY_BROKEN : APPLY_NEWER;
+  if (is_newer(message)) return database_is_between(database) ? APPLY_OTHER : APPLY_NEWER;
   if (!chain_on(&database->digester, &database->chain, message, &chain)) return APPLY_MEMORY;
-  if (database_is_between(database) && !is_same_digest(&chain, &database->progress.chain)) return APPLY_BROKEN;
+  if (database_is_between(database) && !is_same_digest(&chain, &database->progress.chain)) return APPLY_OTHER;
   if (!database_is_between(database)) database->progress = (struct progress){.forgotten = database->recents.forgotten, .chain = chain};
   if (is_well_formed(message, &checked)) {
     for (size_t i = 0; next_entry(&rest, &entry); i++) {

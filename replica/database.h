@@ -54,6 +54,7 @@ struct database {
 enum applied {
   APPLIED,
   APPLY_NEWER,  /* its format is greater than LOG_FORMAT. Nothing changed */
+  APPLY_OTHER,  /* another message with its number was applied in part. Nothing changed */
   APPLY_MEMORY, /* an allocation failed. A later call with the same message goes on where this one stopped */
   APPLY_BROKEN  /* half a script is applied. The database serves only to be closed */
 };
@@ -85,6 +86,9 @@ enum applied database_apply(struct database *database, const struct message *mes
 
 /* Returns whether a message is applied in part. Then questions and snapshots would see what no message of the log leads to. */
 bool database_is_between(const struct database *database);
+
+/* Returns how many entries of the message after the last one are applied: 0 unless a message is applied in part. */
+size_t database_part(const struct database *database);
 
 /* Computes the chain hash that a message leads to from another one. Returns false if libcrypto fails. */
 bool chain_on(struct digester *digester, const struct digest *before, const struct message *message, struct digest *after);

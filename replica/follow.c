@@ -161,7 +161,7 @@ static void *follow(void *closure) {
 bool log_follow(struct log *log, uint64_t next, const char *identity) {
   log->next = next;
   memmove(log->identity, identity, strlen(identity) + 1);
-  atomic_store(&log->last, NOT_LOOKED);
+  atomic_store(&log->last, 0);
   atomic_store(&log->heard, 0);
   atomic_store(&log->is_ending, false);
   queue_set_takes_messages(log->queue, true);

@@ -91,11 +91,15 @@ static void check_connections(struct replica *replica) {
 
 /* Dropping rows. */
 
-/* Writes the state to a file that no replica loads. Returns false if there is a folder for it, and it cannot. */
+/* Whether the log led to anything. Of a message that is applied in part, other traces may be gone. */
+static bool has_any(const struct replica *replica) { return replica->database.applied || database_is_between(&replica->database); }
+
+/* Writes the state to a file that no replica loads, once. Returns false if there is a folder for it, and it cannot. */
 static bool keep_lost(struct replica *replica) {
   const struct snapshots *snapshots = &replica->snapshots;
-  if (!snapshots->folder || !replica->database.applied || database_is_between(&replica->database)) return true;
+  if (!snapshots->folder || !has_any(replica) || replica->is_kept) return true;
   if (!snapshot_write(snapshots, &replica->database, replica->log.identity, true)) return false;
+  replica->is_kept = true;
   tell(replica, "wrote its rows at number %" PRIu64 " to a file that ends in .lost", replica->database.applied);
   return true;
 }
@@ -131,7 +135,7 @@ static void lose_rows(struct replica *replica, const char *why) {
   log_unfollow(&replica->log);
   replica->why_halted = MISSING_HISTORY;
   replica->sums = (struct sums){.own_count = 0}; /* those of the lost history say nothing of the new one */
-  if (replica->database.applied && !replica->snapshots.folder) {
+  if (has_any(replica) && !replica->snapshots.folder) {
     keep_apart(replica, why);
     return;
   }
@@ -162,11 +166,12 @@ static void become_orphan(struct replica *replica) {
 static void start_following(struct replica *replica, const char *identity) {
   replica->state = STATE_LATE;
   replica->fresh = 0;
+  replica->is_kept = false;
+  replica->why_halted = MISSING_OLD; /* what it was before says nothing of a later stop */
   replica->next_try = INT64_MAX;
   if (log_follow(&replica->log, replica->database.applied + 1, identity)) return;
   tell_once(replica, "cannot start a thread");
   replica->state = STATE_HALTED;
-  replica->why_halted = MISSING_OLD;
   again_later(replica);
 }
 
@@ -275,7 +280,7 @@ void on_missing(struct replica *replica, enum missing why) {
   replica->why_halted = why;
   bool is_new = !replica->trouble[0];
   tell_once(replica, "%s (number %" PRIu64 ")", words[why], replica->database.applied);
-  if (why == MISSING_OTHER_LOG && replica->database.applied) {
+  if (why == MISSING_OTHER_LOG && has_any(replica)) {
     become_orphan(replica);
   } else if (why == MISSING_OTHER_LOG) {
     close_rows(replica);
@@ -290,11 +295,11 @@ void on_missing(struct replica *replica, enum missing why) {
 
 /* The group. */
 
-/* Looks how old the rows are at most. The follower stores the last number before the time that it belongs to. */
+/* Looks how old the rows are at most. heard is read first: log_note stores it last. */
 static void look_at_age(struct replica *replica) {
   int64_t heard = atomic_load(&replica->log.heard);
   uint64_t last = atomic_load(&replica->log.last);
-  if (last != NOT_LOOKED && last <= replica->database.applied && heard > replica->fresh) replica->fresh = heard;
+  if (last <= replica->database.applied && heard > replica->fresh) replica->fresh = heard;
 }
 
 static void join_group(struct replica *replica) {
@@ -311,7 +316,7 @@ static void join_group(struct replica *replica) {
 
 void join_if_fresh(struct replica *replica) {
   look_at_age(replica);
-  bool may_join = replica->state == STATE_LATE && !replica->pending && replica->fresh;
+  bool may_join = replica->state == STATE_LATE && !database_is_between(&replica->database) && !replica->pending && replica->fresh;
   if (may_join && replica->fresh >= clock_now() - replica->options.lost_after / 2) join_group(replica);
 }
 
@@ -345,6 +350,11 @@ void step_aside(struct replica *replica) {
 /* Whether the log is known to have another history than the rows, which are still there because no folder has taken them. */
 static bool has_lost_history(const struct replica *replica) {
   return replica->state == STATE_HALTED && replica->why_halted == MISSING_HISTORY;
+}
+
+bool can_back_up(const struct replica *replica) {
+  bool is_last = has_lost_history(replica) || replica->state == STATE_ORPHANED;
+  return replica->has_rows && (is_last || !database_is_between(&replica->database));
 }
 
 /* Writes a snapshot. The replica leaves the group for that, so that nobody waits for it. */
@@ -391,7 +401,7 @@ void end_life(struct replica *replica) {
   bool has_news = replica->has_rows && replica->database.applied > replica->snapshot_at && replica->state != STATE_ORPHANED;
   end_tasks(replica);
   if (has_news && replica->options.snapshot_every) write_snapshot(replica);
-  if (replica->has_rows && has_lost_history(replica)) keep_lost(replica);
+  if (replica->has_rows && (has_lost_history(replica) || replica->state == STATE_ORPHANED)) keep_lost(replica);
   close_connections(replica);
   if (replica->has_rows) database_close(&replica->database);
   replica->has_rows = false;
@@ -426,18 +436,22 @@ void drop_contradicted(struct replica *replica, uint64_t number) {
   else drop_rows(replica, "most replicas have other rows");
 }
 
-/* Another replica had another history at a number. Either this one is wrong, or the other. It is looked into once a second. */
-static void on_other_history(struct replica *replica, const char *publisher, uint64_t number) {
-  if (clock_now() - replica->asked_log < PAUSE) return;
+bool look_into_history(struct replica *replica, const char *other, uint64_t number) {
+  if (clock_now() - replica->asked_log < PAUSE) return false;
   replica->asked_log = clock_now();
-  alarm_all(replica, "OTHER HISTORY: replica %s has another one at number %" PRIu64, publisher, number);
-  if (contradicts_log(replica, number)) {
-    on_missing(replica, MISSING_HISTORY);
-  } else if (!replica->is_grounded && !replica->is_doubted) {
-    replica->has_distrusted = true;
-    replica->distrusted = replica->began_with;
-    lose_rows(replica, "another replica contradicts the snapshot that it began from");
-  }
+  alarm_all(replica, "OTHER HISTORY: replica %s has another one at number %" PRIu64, other, number);
+  bool is_lost = contradicts_log(replica, number);
+  if (is_lost) on_missing(replica, MISSING_HISTORY);
+  return !is_lost;
+}
+
+/* The publisher of a message had another history. Where the log bears out what this replica applied, its snapshot may still be wrong. */
+static void on_other_history(struct replica *replica, const char *publisher, uint64_t number) {
+  bool is_suspect = look_into_history(replica, publisher, number) && !replica->is_grounded && !replica->is_doubted;
+  if (!is_suspect) return;
+  replica->has_distrusted = true;
+  replica->distrusted = replica->began_with;
+  lose_rows(replica, "another replica contradicts the snapshot that it began from");
 }
 
 /* Compares what the publisher of a message had applied with what this replica has. Returns false if the rows are gone after that. */
@@ -478,6 +492,7 @@ static void apply(struct replica *replica, natsMsg *message) {
   bool goes_on = applied == APPLIED && check_claim(replica, message);
   natsMsg_Destroy(message);
   if (applied == APPLY_NEWER) halt(replica);
+  if (applied == APPLY_OTHER) on_missing(replica, MISSING_HISTORY);
   if (applied == APPLY_BROKEN) drop_rows(replica, "half a script is applied");
   if (!goes_on) return;
   answer_applied(replica);
@@ -527,7 +542,6 @@ void advance(struct replica *replica) {
       return;
     }
     replica->state = replica->has_rows ? STATE_HALTED : STATE_LOADING;
-    replica->why_halted = MISSING_OLD;
     at_once(replica);
     return;
   case STATE_LOADING: begin(replica, 0); return;

@@ -17,7 +17,6 @@ static void on_published(jsCtx *jetstream, natsMsg *message, jsPubAck *taken, js
 
 natsStatus log_open(struct log *log, const struct connecting *connecting, const char *name, const char *replica, struct queue *queue) {
   *log = (struct log){.name = name, .replica = replica, .queue = queue};
-  atomic_store(&log->last, NOT_LOOKED);
   jsOptions options;
   natsStatus status = jsOptions_Init(&options);
   options.Wait = CALL_WAIT;
@@ -62,6 +61,14 @@ static void read_identity(const char *description, char identity[IDENTITY_BYTES]
   memcpy(identity, is_one ? read : "", is_one ? IDENTITY_BYTES : 1);
 }
 
+void log_note(struct log *log, uint64_t last, int64_t heard) {
+  unsigned long long last_before = atomic_load(&log->last);
+  long long heard_before = atomic_load(&log->heard);
+  /* A failed exchange loads the number again. */
+  while (last_before < last && !atomic_compare_exchange_weak(&log->last, &last_before, last)) continue;
+  while (heard_before < heard && !atomic_compare_exchange_weak(&log->heard, &heard_before, heard)) continue;
+}
+
 natsStatus log_look(struct log *log, struct extent *extent) {
   jsStreamInfo *info = NULL;
   int64_t asked = clock_now();
@@ -71,12 +78,8 @@ natsStatus log_look(struct log *log, struct extent *extent) {
   read_identity(info->Config ? info->Config->Description : NULL, extent->identity);
   int64_t silence = silence_of(info->Cluster), heard = silence < asked ? asked - silence : 0;
   jsStreamInfo_Destroy(info);
-  if (strcmp(extent->identity, log->identity)) return NATS_OK;
-  /* A new leader may for a moment not count its newest messages, so the number goes up alone. It is stored before the time it belongs to.
-   */
-  uint64_t last = atomic_load(&log->last);
-  if (last == NOT_LOOKED || extent->last > last) atomic_store(&log->last, extent->last);
-  if (heard > atomic_load(&log->heard)) atomic_store(&log->heard, heard);
+  /* A new leader may for a moment not count its newest messages. The number stays then. */
+  if (!strcmp(extent->identity, log->identity)) log_note(log, extent->last, heard);
   return NATS_OK;
 }
 

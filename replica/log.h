@@ -11,9 +11,6 @@
  * followed again; for which the log may be shorter than it was; for the next message. */
 enum { CALL_WAIT = 1000, LEAST_LOOK_EVERY = 10, LOOK_EVERY = 1000, LONGEST_QUIET = 1000, LONGEST_SHORT = 10000, NEXT_WAIT = 200 };
 
-/* What log->last is before the first look. */
-#define NOT_LOOKED UINT64_MAX
-
 struct log {
   natsConnection *connection;
   jsCtx *jetstream;
@@ -24,8 +21,8 @@ struct log {
   pthread_t follower;
   bool is_followed, is_stuck; /* whether it has a follower; whether a write failed though there was a server */
   atomic_bool is_ending;
-  atomic_llong heard; /* when the leader of the stream surely led it, as it said last */
-  atomic_ullong last; /* the greatest number of a message, as it said then or later; NOT_LOOKED at first */
+  atomic_llong heard; /* the latest time at which the leader of the stream surely led it; 0 before the first look */
+  atomic_ullong last; /* the greatest number of a message that a look found, at that time or later; 0 before the first look */
   uint64_t next;      /* the number of the message that the follower waits for */
   char identity[IDENTITY_BYTES];
 };
@@ -36,6 +33,12 @@ void log_close(struct log *log);
 
 /* Asks the leader of the stream for its extent. The identity is empty if the stream is no log of this format. */
 natsStatus log_look(struct log *log, struct extent *extent);
+
+/*
+ * Stores what a look found. Any thread may look, so a number only ever rises: a look that ends late does not hide a newer one. last is
+ * stored before heard, so a thread that reads heard first finds in last all messages of that time.
+ */
+void log_note(struct log *log, uint64_t last, int64_t heard);
 
 /* What the log says of a message: that it leads from one chain hash to another, that it does not, or nothing. */
 enum said { SAID_YES, SAID_NO, SAID_NOTHING };

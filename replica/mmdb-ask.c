@@ -9,6 +9,7 @@
 #include "connect.h"
 #include "database.h"
 #include "entry.h"
+#include "load.h"
 #include "script.h"
 #include <errno.h>
 #include <getopt.h>
@@ -375,21 +376,40 @@ static bool load_line(struct asker *asker, struct bytes *script, struct text lin
   return bytes_add(script, line.at, line.length) && bytes_add(script, "\n", 1);
 }
 
-static bool take_script(struct asker *asker) {
-  struct bytes script = {NULL, 0, 0};
+/* Returns what follows the first line of a script that is loaded: nothing, which is reported, of a snapshot that is not whole. */
+static FILE *after_first(struct text first) {
+  const char *wrong = NULL;
+  FILE *input = begins_snapshot(first) ? open_whole(stdin, first, &wrong) : stdin;
+  if (!input) fprintf(stderr, "mmdb-ask: nothing of the snapshot was sent: %s\n", wrong);
+  return input;
+}
+
+/* Takes all lines of the standard input. */
+static bool take_lines(struct asker *asker, struct bytes *script) {
+  FILE *input = stdin;
   char *bytes = NULL;
   size_t room = 0;
-  bool is_done = mmdb_open(&asker->reader) == MMDB_DONE;
-  for (ssize_t length; is_done && (length = getline(&bytes, &room, stdin)) > 0;) {
+  bool is_done = true, is_first = true;
+  for (ssize_t length; is_done && (length = getline(&bytes, &room, input)) > 0; is_first = false) {
     struct text rest = {(const uint8_t *)bytes, (size_t)length}, line;
-    if (!next_line(&rest, &line)) continue;
-    is_done = asker->loads ? load_line(asker, &script, line) : take_line(asker, &script, line);
+    if (is_first && asker->loads) input = after_first(rest);
+    if (input && next_line(&rest, &line)) is_done = asker->loads ? load_line(asker, script, line) : take_line(asker, script, line);
+    is_done = is_done && input;
   }
+  if (input && ferror(input)) fprintf(stderr, "mmdb-ask: the input cannot be read\n");
+  is_done = is_done && !ferror(input);
+  if (input && input != stdin) fclose(input);
+  free(bytes);
+  return is_done;
+}
+
+static bool take_script(struct asker *asker) {
+  struct bytes script = {NULL, 0, 0};
+  bool is_done = mmdb_open(&asker->reader) == MMDB_DONE && take_lines(asker, &script);
   if (is_done && asker->loads) is_done = end_load(asker, &script);
   is_done = is_done && send_gathered(asker);
   if (is_done && script.length) fprintf(stderr, "mmdb-ask: the input ends in a transaction, which was not sent\n");
-  is_done = is_done && !script.length && !ferror(stdin);
-  free(bytes);
+  is_done = is_done && !script.length;
   bytes_free(&script);
   bytes_free(&asker->gathered);
   mmdb_close(&asker->reader);
@@ -624,11 +644,13 @@ static bool act(struct asker *asker) {
 
 int main(int count, char **words) {
   static struct asker asker;
+  open_standard_files();
   if (!read_options(&asker, count, words) || !choose_prefix(&asker)) {
     fputs(usage, stderr);
     return 2;
   }
   bool is_done = connect_asker(&asker) && act(&asker);
+  if (ferror(stdout)) fprintf(stderr, "mmdb-ask: what it prints cannot be written\n");
   natsConnection_Destroy(asker.connection);
   nats_Close();
   free(asker.servers);

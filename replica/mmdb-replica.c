@@ -234,12 +234,16 @@ static bool open_replica(struct replica *replica) {
 
 int main(int count, char **words) {
   static struct replica replica; /* the thread that waits for signals may outlive this function */
+  open_standard_files();
   if (!read_options(&replica.options, count, words)) {
     fputs(usage, stderr);
     return 2;
   }
   umask(S_IRWXG | S_IRWXO);
-  if (!open_replica(&replica)) return 1;
+  if (!open_replica(&replica)) {
+    tell(&replica, "cannot start: an allocation failed, or no thread can be made");
+    return 1;
+  }
   live(&replica);
   end_life(&replica);
   member_close(&replica.member);

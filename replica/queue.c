@@ -1,9 +1,10 @@
 #include "queue.h"
+#include "connect.h"
 #include <errno.h>
 #include <stdlib.h>
 #include <time.h>
 
-/* What a message takes beside its bytes: its event, its headers and what libnats keeps of it. */
+/* What a message takes beside its block: its event, and what libnats keeps of its headers. */
 enum { MESSAGE_OVERHEAD = 512 };
 
 bool queue_open(struct queue *queue) {
@@ -28,7 +29,7 @@ static bool is_request(const struct event *event) {
          event->kind == EVENT_SNAPSHOT;
 }
 
-static size_t bytes_of(const natsMsg *message) { return message ? (size_t)natsMsg_GetDataLength(message) + MESSAGE_OVERHEAD : 0; }
+static size_t bytes_of(const natsMsg *message) { return message ? size_of_message(message) + MESSAGE_OVERHEAD : 0; }
 
 static bool has_room(const struct queue *queue) {
   return queue->messages < MOST_MESSAGES_AHEAD && queue->message_bytes < MOST_MESSAGE_BYTES_AHEAD;

@@ -142,6 +142,7 @@ struct replica {
   bool has_rows, is_stopped, is_doubted, is_grounded, has_distrusted;
   bool is_away;             /* it left the group to write a snapshot, which nobody needs to know */
   bool is_apart;            /* its rows are not those of the log, and it keeps them until it is ended */
+  bool is_kept;             /* a .lost file has its rows as they are */
   struct digest began_with; /* the chain hash of the snapshot that it began from */
   struct digest distrusted; /* that of a snapshot that another replica contradicted */
   int64_t asked_log;        /* when it asked the log about a claim of another replica */
@@ -240,11 +241,11 @@ size_t count_tasks(const struct replica *replica);
 
 /*
  * compare.c: makes a sum of the database, if the number that is applied is an agreed one; publishes one that was made; takes one from
- * another replica.
+ * another replica. The chain hash is that of the number.
  */
 bool make_sum(const struct summing *summing, struct digest *sum);
 void publish_sum(struct replica *replica);
-void publish_own_sum(struct replica *replica, uint64_t number, const struct digest *digest);
+void publish_own_sum(struct replica *replica, uint64_t number, const struct digest *digest, const struct digest *chain);
 void on_sum(struct replica *replica, natsMsg *message);
 
 /* status.c */
@@ -259,9 +260,18 @@ void on_tick(struct replica *replica);
 void advance(struct replica *replica);
 void end_life(struct replica *replica);
 
+/* Whether the rows can be backed up: they are those at a number, or no message will make them so. */
+bool can_back_up(const struct replica *replica);
+
 /* Leaves the group for a work that takes long; joins it if the rows are fresh enough. */
 void step_aside(struct replica *replica);
 void join_if_fresh(struct replica *replica);
+
+/*
+ * Another replica had another history at a number, so one of the two is wrong. Asks the log, once a second: what it contradicts is lost.
+ * Returns whether the log was asked, and does not contradict the rows.
+ */
+bool look_into_history(struct replica *replica, const char *other, uint64_t number);
 
 /* Most replicas have other rows at a number: drops the rows, and begins again. Rows that the log does not lead to are not dropped. */
 void drop_contradicted(struct replica *replica, uint64_t number);

@@ -42,7 +42,8 @@ bool snapshot_put(FILE *file, const struct snapshots *snapshots, struct database
 
 /*
  * Writes a snapshot under another name, flushes it, renames it into place, and reads it back. A snapshot of a state that the log does not
- * have (is_lost) gets a name under which no replica loads it. Returns false, and says so on standard error, if any of this fails.
+ * have (is_lost) is named NAME-IDENTITY-NUMBER-REPLICA-CHAIN.lost, which no replica loads. In the midst of a message it has a line
+ * "-- part ENTRIES". Returns false, and says so on standard error, if any of this fails.
  */
 bool snapshot_write(const struct snapshots *snapshots, struct database *database, const char *identity, bool is_lost);
 

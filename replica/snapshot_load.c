@@ -1,17 +1,10 @@
+#include "reader.h"
 #include "snapshot.h"
 #include <dirent.h>
 #include <errno.h>
 #include <inttypes.h>
 #include <stdlib.h>
 #include <string.h>
-
-/* A file that is read, with the digest of the lines before the one at hand. */
-struct reader {
-  FILE *file;
-  char *line;
-  size_t room, length;
-  struct digester digester;
-};
 
 static const char no_memory[] = "an allocation failed";
 
@@ -69,26 +62,13 @@ bool snapshot_path(const struct snapshots *snapshots, const char *identity, uint
 
 /* Reading. */
 
-/* Reads a line, without its line feed. Returns false if none is left. */
-static bool read_line(struct reader *reader) {
-  if (reader->line && reader->length) {
-    reader->line[reader->length - 1] = '\n';
-    digester_add(&reader->digester, reader->line, reader->length);
-  }
-  ssize_t length = getline(&reader->line, &reader->room, reader->file);
-  if (length <= 0 || reader->line[length - 1] != '\n') return false;
-  reader->length = (size_t)length;
-  reader->line[length - 1] = 0;
-  return true;
-}
-
 static struct text text_of_line(const struct reader *reader) { return (struct text){(const uint8_t *)reader->line, reader->length - 1}; }
 
 /* Reads a line "-- WORD VALUE", and returns the value, or NULL. */
 static const char *read_value(struct reader *reader, const char *word) {
   size_t length = strlen(word);
-  bool is_it =
-      read_line(reader) && !strncmp(reader->line, "-- ", 3) && !strncmp(reader->line + 3, word, length) && reader->line[3 + length] == ' ';
+  bool is_it = reader_next(reader) && !strncmp(reader->line, "-- ", 3) && !strncmp(reader->line + 3, word, length) &&
+               reader->line[3 + length] == ' ';
   return is_it ? reader->line + 4 + length : NULL;
 }
 
@@ -108,7 +88,7 @@ static const char *read_head(struct reader *reader, const char *log, struct head
   char form[24], log_of_file[MOST_NAME_BYTES + 1];
   int end = 0;
   snprintf(form, sizeof form, "-- mmdb snapshot %d", LOG_FORMAT);
-  if (!read_line(reader) || strcmp(reader->line, form)) return "it is no snapshot of this format";
+  if (!reader_next(reader) || strcmp(reader->line, form)) return "it is no snapshot of this format";
   const char *value = read_value(reader, "log");
   if (!value || sscanf(value, "%32s %16s%n", log_of_file, head->identity, &end) != 2 || value[end]) return "it names no log";
   if (strcmp(log_of_file, log)) return "it is of another log";
@@ -120,17 +100,6 @@ static const char *read_head(struct reader *reader, const char *log, struct head
   value = read_value(reader, "replica");
   if (!value || sscanf(value, "%32s", head->replica) != 1) return "it names no replica";
   return read_digest_line(reader, "sum", &head->sum) ? NULL : "it has no sum";
-}
-
-/* Returns whether the line at hand is the last one: then wrong says why the bytes before it are not those that were written, or is NULL. */
-static bool is_end(struct reader *reader, const char **wrong) {
-  struct digest written, read;
-  if (strncmp(reader->line, "-- end ", 7)) return false;
-  bool has_digest = strlen(reader->line + 7) == DIGEST_DIGITS && read_digest(reader->line + 7, &written);
-  if (!has_digest || !digester_end(&reader->digester, &read) || !is_same_digest(&written, &read))
-    *wrong = "its bytes do not have their digest";
-  else *wrong = fgetc(reader->file) == EOF ? NULL : "it goes on after its end";
-  return true;
 }
 
 /* Reads the replies after the line of an id, and keeps it. */
@@ -146,7 +115,7 @@ static bool read_recent(struct reader *reader, struct database *database) {
   recent.outcome = (enum outcome)outcome;
   replies->length = 0;
   for (; lines; lines--) {
-    if (!read_line(reader) || strncmp(reader->line, "-- > ", 5)) return false;
+    if (!reader_next(reader) || strncmp(reader->line, "-- > ", 5)) return false;
     if (!bytes_add(replies, reader->line + 5, reader->length - 6) || !bytes_add(replies, "\n", 1)) return false;
   }
   recent.replies = (struct text){replies->at, replies->length};
@@ -156,38 +125,30 @@ static bool read_recent(struct reader *reader, struct database *database) {
 /* Returns why the lines after the head do not make the database again, or NULL. */
 static const char *read_body(struct reader *reader, struct database *database) {
   const char *wrong;
-  while (read_line(reader)) {
-    if (is_end(reader, &wrong)) return wrong;
+  while (reader_next(reader)) {
+    if (reader_is_end(reader, &wrong)) return wrong;
     bool is_done = strncmp(reader->line, "-- id ", 6) ? database_restore(database, text_of_line(reader)) : read_recent(reader, database);
     if (!is_done) return "a line of it is refused";
   }
   return "it has no end";
 }
 
-static bool open_reader(struct reader *reader, const char *path) {
-  *reader = (struct reader){.file = fopen(path, "re")};
-  if (!reader->file || !digester_open(&reader->digester)) return false;
-  digester_begin(&reader->digester);
-  return true;
-}
+static bool open_file(struct reader *reader, const char *path) { return reader_open(reader, fopen(path, "re")); }
 
-static void close_reader(struct reader *reader) {
+static void close_file(struct reader *reader) {
   if (reader->file) fclose(reader->file);
-  digester_close(&reader->digester);
-  free(reader->line);
+  reader_close(reader);
 }
 
 const char *snapshot_verify(const char *path, const struct snapshots *snapshots, const char *identity, struct head *head) {
   struct reader reader;
   const char *wrong = NULL;
-  bool has_end = false;
   errno = ENOMEM;
-  if (!open_reader(&reader, path)) wrong = strerror(errno);
+  if (!open_file(&reader, path)) wrong = strerror(errno);
   if (!wrong) wrong = read_head(&reader, snapshots->log, head);
   if (!wrong && strcmp(head->identity, identity)) wrong = "it is of another log";
-  while (!wrong && !has_end && read_line(&reader)) has_end = is_end(&reader, &wrong);
-  if (!wrong && !has_end) wrong = "it has no end";
-  close_reader(&reader);
+  if (!wrong) wrong = reader_finish(&reader);
+  close_file(&reader);
   return wrong;
 }
 
@@ -222,8 +183,8 @@ static const char *load_file(struct database *database, const char *path, const 
   const char *wrong;
   if (!database_open(database, wanted->extent->identity)) return no_memory;
   errno = ENOMEM;
-  wrong = open_reader(&reader, path) ? read_snapshot(&reader, database, log, wanted) : strerror(errno);
-  close_reader(&reader);
+  wrong = open_file(&reader, path) ? read_snapshot(&reader, database, log, wanted) : strerror(errno);
+  close_file(&reader);
   if (wrong) database_close(database);
   return wrong;
 }

@@ -45,6 +45,9 @@ static void put_head(struct writer *writer, const struct snapshots *snapshots, c
   snprintf(head, sizeof head, "-- before %s\n-- chain %s\n-- forgotten %" PRIu64 "\n-- replica %s\n-- sum %s\n", before, chain,
            database->recents.forgotten, snapshots->replica, rows);
   put_words(writer, head);
+  if (!database_is_between(database)) return;
+  snprintf(head, sizeof head, "-- part %zu\n", database_part(database));
+  put_words(writer, head);
 }
 
 static void put_recent(struct writer *writer, const struct recent *recent) {
@@ -116,9 +119,14 @@ static bool put_all(struct writer *writer, const struct snapshots *snapshots, st
 
 bool snapshot_put(FILE *file, const struct snapshots *snapshots, struct database *database, const char *identity) {
   struct writer writer = {.file = file};
+  struct bytes replies = database->replies;
   errno = ENOMEM;
   if (!digester_open(&writer.digester)) return false;
+  /* Those of an entry that has run stay for its id, which may not be kept yet. */
+  database->replies = (struct bytes){NULL, 0, 0};
   bool is_done = put_all(&writer, snapshots, database, identity);
+  bytes_free(&database->replies);
+  database->replies = replies;
   digester_close(&writer.digester);
   return fflush(file) == 0 && is_done;
 }
@@ -160,9 +168,12 @@ static const char *read_back(const char *path, const struct snapshots *snapshots
   return is_same ? NULL : "it has another place in the log than was written";
 }
 
-static bool path_of_lost(const struct snapshots *snapshots, const char *identity, uint64_t number, char path[PATH_MAX]) {
-  int length =
-      snprintf(path, PATH_MAX, "%s/%s-%s-%020" PRIu64 "-%s.lost", snapshots->folder, snapshots->log, identity, number, snapshots->replica);
+/* The name has the start of the chain hash: a replica may lose two histories that end at one number. */
+static bool path_of_lost(const struct snapshots *snapshots, const struct database *database, const char *identity, char path[PATH_MAX]) {
+  char chain[DIGEST_TEXT_BYTES];
+  write_digest(chain, &database->chain);
+  int length = snprintf(path, PATH_MAX, "%s/%s-%s-%020" PRIu64 "-%s-%.8s.lost", snapshots->folder, snapshots->log, identity,
+                        database->applied, snapshots->replica, chain);
   return length > 0 && length < PATH_MAX;
 }
 
@@ -170,7 +181,7 @@ bool snapshot_write(const struct snapshots *snapshots, struct database *database
   char path[PATH_MAX], part[PATH_MAX];
   uint64_t number = database->applied;
   const char *wrong = NULL;
-  bool has_path = is_lost ? path_of_lost(snapshots, identity, number, path) : snapshot_path(snapshots, identity, number, path);
+  bool has_path = is_lost ? path_of_lost(snapshots, database, identity, path) : snapshot_path(snapshots, identity, number, path);
   if (!has_path || !write_part(part, snapshots, database, identity)) {
     wrong = strerror(errno);
   } else {

@@ -18,7 +18,6 @@ static bool print_status(struct replica *replica, struct bytes *text) {
   struct load load = queue_load(&replica->queue);
   char chain[DIGEST_TEXT_BYTES] = "";
   if (replica->has_rows) write_digest(chain, &database->chain);
-  if (last == NOT_LOOKED) last = 0;
   int64_t age = replica->fresh ? clock_now() - replica->fresh : -1;
   return bytes_print(text, "{\"replica\": \"%s\", \"state\": \"%s\", \"log\": \"%s\", \"sequence\": %" PRIu64 ", \"chain\": \"%s\", ",
                      replica->options.replica, states[replica->state], replica->log.identity, applied, chain) &&
@@ -54,7 +53,7 @@ static bool send_parts(struct replica *replica, const char *inbox, FILE *file, u
 }
 
 void on_backup(struct replica *replica, natsMsg *request) {
-  if (!replica->has_rows || database_is_between(&replica->database)) {
+  if (!can_back_up(replica)) {
     reply_bare(replica, request, "unready");
     return;
   }

@@ -45,13 +45,23 @@ static const struct sum *own_at(const struct sums *sums, uint64_t number) {
   return NULL;
 }
 
-/* How many other replicas have a sum at the number and in the log of another sum. */
-static size_t count_equal(const struct sums *sums, const struct sum *place, const struct digest *sum) {
+static bool is_there(const struct sum *own, const struct sum *other) {
+  return other->number == own->number && !strcmp(other->identity, own->identity);
+}
+
+static bool has_other_history(const struct sum *own, const struct sum *other) {
+  return own->has_chain && other->has_chain && !is_same_digest(&own->chain, &other->chain);
+}
+
+/* Whether a sum says something of the rows that the own one is of. */
+static bool is_comparable(const struct sum *own, const struct sum *other) { return is_there(own, other) && !has_other_history(own, other); }
+
+/* How many other replicas have a sum, at the number and in the history of the own one. */
+static size_t count_equal(const struct sums *sums, const struct sum *own, const struct digest *sum) {
   size_t count = 0;
   for (size_t i = 0; i < kept(sums->other_count); i++) {
     const struct sum *other = &sums->others[i];
-    bool is_there = other->number == place->number && !strcmp(other->identity, place->identity);
-    count += is_there && is_same_digest(&other->sum, sum);
+    count += is_comparable(own, other) && is_same_digest(&other->sum, sum);
   }
   return count;
 }
@@ -62,11 +72,18 @@ enum agreement sums_judge(const struct sums *sums, uint64_t number) {
   size_t with_own = 1 + count_equal(sums, own, &own->sum), most = 0;
   for (size_t i = 0; i < kept(sums->other_count); i++) {
     const struct sum *other = &sums->others[i];
-    bool differs = other->number == number && !strcmp(other->identity, own->identity) && !is_same_digest(&other->sum, &own->sum);
+    bool differs = is_comparable(own, other) && !is_same_digest(&other->sum, &own->sum);
     size_t count = differs ? count_equal(sums, own, &other->sum) : 0;
     if (count > most) most = count;
   }
   if (!most) return with_own > 1 ? SUMS_AGREE : SUMS_ALONE;
   if (with_own > most) return SUMS_RIGHT;
   return most > with_own && most > 1 ? SUMS_WRONG : SUMS_TIE;
+}
+
+const struct sum *sums_of_other_history(const struct sums *sums, uint64_t number) {
+  const struct sum *own = own_at(sums, number);
+  for (size_t i = 0; own && i < kept(sums->other_count); i++)
+    if (is_there(own, &sums->others[i]) && has_other_history(own, &sums->others[i])) return &sums->others[i];
+  return NULL;
 }

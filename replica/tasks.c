@@ -105,7 +105,7 @@ static void end_sum(struct replica *replica, const struct task *task) {
   bool is_done = task->child.end == CHILD_DONE && bytes->length == DIGEST_BYTES;
   if (is_done) memcpy(sum.at, bytes->at, DIGEST_BYTES);
   /* Rows that were dropped since then have no say. */
-  if (is_done && replica->has_rows && task->life == replica->lives) publish_own_sum(replica, task->number, &sum);
+  if (is_done && replica->has_rows && task->life == replica->lives) publish_own_sum(replica, task->number, &sum, &task->chain);
   else if (!is_done && !atomic_load(&task->child.is_unwanted))
     tell(replica, "no sum at number %" PRIu64 ": it was not finished", task->number);
 }

@@ -20,6 +20,11 @@ NOT_NOW = ("unready", "unavailable", "behind", "memory", "orphaned", "503", "")
 VALUE = re.compile(r"'((?:[^']|'')*)'|(-?[0-9]+)")
 
 
+def lines_of(replies: str) -> list[str]:
+    """The lines of replies. A text in them may have any other sign at which str.splitlines would split."""
+    return replies.split("\n")[:-1]
+
+
 class Refused(Exception):
     """A replica refused a request: str() has its status, and what is wrong."""
 
@@ -51,13 +56,13 @@ class Replicas:
             headers["Mmdb-Condition"] = "rows"
         if time.monotonic() - self.seen > 1:
             self.ask("TABLES")  # an id is new after a number that is no older than the ids that replicas keep
-        return self.request("change", script, {**headers, "Mmdb-Since": str(self.number)}).body.splitlines()
+        return lines_of(self.request("change", script, {**headers, "Mmdb-Since": str(self.number)}).body)
 
     def ask(self, question: str) -> Rows:
         """Returns the rows of a question. They contain all that this object has seen before."""
         answer = self.request("ask", question, {"Mmdb-At-Least": str(self.number)})
         columns = [tuple(column.split(" ")) for column in answer.headers.get("Mmdb-Columns", "").split(", ") if column]
-        lines = answer.body.splitlines()[:-1] if columns else []
+        lines = lines_of(answer.body)[:-1] if columns else []
         rows = [tuple(int(number) if number else text.replace("''", "'") for text, number in VALUE.findall(line)) for line in lines]
         return Rows(columns, rows)  # type: ignore[arg-type]
 
@@ -68,7 +73,7 @@ class Replicas:
         until = time.monotonic() + self.wait
         while time.monotonic() < until:
             try:
-                answer = self.send(f"{self.log}.{word}", body.encode(), headers)
+                answer = self.send(f"{self.log}.{word}", body.encode(errors="surrogateescape"), headers)
             except OSError:
                 self.socket = None
                 time.sleep(0.1)
@@ -99,11 +104,13 @@ class Replicas:
             if words[0] == "PING":
                 self.socket.sendall(b"PONG\r\n")
             elif words[0] in ("MSG", "HMSG"):
-                block = self.lines.read(int(words[-1]) + 2)[:-2]
+                block = self.lines.read(int(words[-1]) + 2)
+                if not block.endswith(b"\r\n") or len(block) != int(words[-1]) + 2:
+                    raise ConnectionError("the connection ended in the midst of a message")
                 if words[1] == reply:
                     length = int(words[-2]) if words[0] == "HMSG" else 0
                     pairs = [line.split(":", 1) for line in block[:length].decode().splitlines() if ":" in line]
-                    return Answer({name: value.strip() for name, value in pairs}, block[length:].decode())
+                    return Answer({name: value.strip() for name, value in pairs}, block[length:-2].decode(errors="surrogateescape"))
 
 
 def main() -> None:

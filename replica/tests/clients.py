@@ -6,9 +6,11 @@
 PROGRAMS is the folder of mmdb-replica and mmdb-ask. Requires nats-server and rustc. The status is 0 only if all passed.
 """
 
+import socket
 import subprocess
 import sys
 import tempfile
+import threading
 import time
 from pathlib import Path
 
@@ -17,7 +19,7 @@ sys.path.insert(0, str(TOP / "tests" / "replicas"))
 from cluster import LOG, Cluster, Failed, must  # noqa: E402
 
 SCRIPT = """TABLE {0} (id INT KEY, s TEXT)
-INSERT {0} (1, 'it''s'), (-2, ''), (3, '(4, ''x''), é')
+INSERT {0} (1, 'it''s'), (-2, ''), (3, '(4, ''x''), é\x85\x0c')
 UPDATE {0} SET s = 'y' WHERE id = 1
 SELECT a.s, a.id FROM {0} a
 SCAN {0}
@@ -28,12 +30,12 @@ ok 3
 ok 1
 ['s', 'id']
 ('', -2)
-("(4, 'x'), é", 3)
+("(4, 'x'), é\\x85\\x0c", 3)
 ('y', 1)
 ['id', 's']
 (-2, '')
 (1, 'y')
-(3, "(4, 'x'), é")
+(3, "(4, 'x'), é\\x85\\x0c")
 ['id']
 """
 RUST = """ok
@@ -41,14 +43,36 @@ ok 3
 ok 1
 ["s TEXT", "id INT"]
 [Text(""), Int(-2)]
-[Text("(4, 'x'), é"), Int(3)]
+[Text("(4, 'x'), é\\u{85}\\u{c}"), Int(3)]
 [Text("y"), Int(1)]
 ["id INT", "s TEXT"]
 [Int(-2), Text("")]
 [Int(1), Text("y")]
-[Int(3), Text("(4, 'x'), é")]
+[Int(3), Text("(4, 'x'), é\\u{85}\\u{c}")]
 ["id INT"]
 """
+
+
+class CutServer:
+    """A server that ends its first connection in the midst of an answer, and answers in full on the second."""
+
+    def __init__(self) -> None:
+        self.listener = socket.create_server(("127.0.0.1", 0))
+        self.address = "{}:{}".format(*self.listener.getsockname())
+        threading.Thread(target=self.run, daemon=True).start()
+
+    def run(self) -> None:
+        head = b"NATS/1.0\r\nMmdb-Status: done\r\nMmdb-Log: 0123456789abcdef\r\nMmdb-Sequence: 1\r\nMmdb-Columns: id INT\r\n\r\n"
+        block = head + b"(1)\n(2)\nrows 2\n"
+        for length in (len(head) + 4, len(block)):
+            client = self.listener.accept()[0]
+            client.sendall(b"INFO {}\r\n")
+            said = client.makefile("rb")
+            words = next(line for line in said if line.startswith(b"HPUB")).split()
+            client.sendall(b"HMSG %s 1 %d %d\r\n" % (words[2], len(head), len(block)) + block[:length] + b"\r\n"[: length - len(head) - 4])
+            client.shutdown(socket.SHUT_WR)
+            said.read()
+            client.close()
 
 
 def run(words: list[str], cluster: Cluster, script: str) -> subprocess.CompletedProcess[str]:
@@ -71,6 +95,8 @@ def compare(cluster: Cluster, folder: Path) -> None:
         must(done.returncode == 0 and done.stdout == wanted, f"{words[-1]} printed {done.stdout}{done.stderr}")
         refused = run(words, cluster, f"INSERT {table} (1, 'again')\n")
         must(refused.returncode == 1 and "error 40 duplicate key" in refused.stderr, f"{words[-1]} is not refused: {refused}")
+        cut = subprocess.run([*words, CutServer().address], input="SCAN t\n", capture_output=True, text=True, timeout=60)
+        must(cut.returncode == 0 and "2" in cut.stdout, f"{words[-1]} took a part of an answer for the whole one: {cut}")
 
 
 def main() -> int:

@@ -1,6 +1,7 @@
 /*
  * Fails each allocation in turn while messages are applied, snapshots are written and loaded, and changes are gathered: a call that reports
- * want of memory succeeds when it is made again, and the rows are those of a run without failures.
+ * want of memory succeeds when it is made again, and the rows are those of a run without failures. In the midst of a message, the state can
+ * be written.
  *
  *   memory FOLDER
  *
@@ -43,6 +44,8 @@ static void check(bool holds, const char *what, int number) {
 
 #define MUST(holds) check(holds, #holds, __LINE__)
 
+static const char *folder;
+static size_t parts; /* how often memory was refused in the midst of a message */
 static const char identity[] = "0123456789abcdef";
 static const char checked[] = "0 00000000000000000000000000000000";
 static const char *const scripts[][2] = {
@@ -65,6 +68,20 @@ static bool make_body(struct bytes *body, size_t place) {
   return true;
 }
 
+/*
+ * In the midst of a message, the state can be written, and another message with its number is noticed. Neither changes what the rest of the
+ * message leads to.
+ */
+static void keep_part(struct database *database, const struct message *message) {
+  const struct snapshots snapshots = {.folder = folder, .log = "log", .replica = "r"};
+  struct message other = *message;
+  other.body.length--;
+  if (!database_is_between(database)) return;
+  parts++;
+  MUST(snapshot_write(&snapshots, database, identity, true));
+  MUST(database_apply(database, &other) == APPLY_OTHER && database_is_between(database));
+}
+
 /* Applies a message. Every time that an allocation fails, the next call goes on. */
 static void apply(struct database *database, size_t place, const struct bytes *body) {
   struct message message = {.number = place + 1, .format = "2", .checked = checked, .body = {body->at, body->length}};
@@ -73,6 +90,7 @@ static void apply(struct database *database, size_t place, const struct bytes *b
   if (applied == APPLY_MEMORY) {
     left = -1;
     MUST(!mmdb_in_transaction(&database->db) && database->applied == place);
+    keep_part(database, &message);
     MUST(database_apply(database, &message) == APPLIED);
   }
   left = -1;
@@ -103,7 +121,7 @@ static void messages(struct digest *sum) {
   MUST(!apply_all(MESSAGES, 0, sum));
   for (size_t failing = 0; failing < MESSAGES; failing++)
     for (long count = 0; apply_all(failing, count, &other) && !has_failed; count++, tries++) MUST(is_same_digest(sum, &other));
-  MUST(tries > MESSAGES);
+  MUST(tries > MESSAGES && parts > MESSAGES);
 }
 
 static void openings(void) {
@@ -129,7 +147,7 @@ static bool says_yes(void *closure, const struct head *head) {
 }
 
 /* Writes and loads a snapshot, and fails an allocation. What is loaded has the rows; what is not written leaves no file. */
-static void snapshots_of(const char *folder, const struct digest *sum) {
+static void snapshots_of(const struct digest *sum) {
   const struct snapshots snapshots = {.folder = folder, .log = "log", .replica = "r"};
   struct extent extent = {.identity = "0123456789abcdef", .first = 1, .last = MESSAGES};
   struct wanted wanted = {.extent = &extent, .least = 1, .agrees = says_yes};
@@ -170,8 +188,9 @@ static void snapshots_of(const char *folder, const struct digest *sum) {
 int main(int words, char **word) {
   struct digest sum;
   if (words != 2) return 2;
+  folder = word[1];
   openings();
   messages(&sum);
-  snapshots_of(word[1], &sum);
+  snapshots_of(&sum);
   return has_failed;
 }

@@ -580,6 +580,73 @@ def lost_rows_at_the_end(case: Case) -> None:
     must("'lost'" not in files.get(".snapshot", ""), "a snapshot has rows that the log does not have")
 
 
+def rows_of_an_orphan_at_the_end(case: Case) -> None:
+    """Rows of a log that is gone, which no folder took at once, go into a .lost file when the replica ends."""
+    folder, away = case.cluster.snapshots, case.folder / "away"
+    replica, server = case.replica("a", *case.snapshots, "--lost-after", "300"), case.cluster.servers[0]
+    case.table()
+    case.insert(0, 5)
+    server.kill()
+    shutil.rmtree(case.folder / "s0")
+    folder.rename(away)
+    server.start()
+    case.connection.close()
+    case.cluster.make_log(case.until)
+    case.wait_for("a", "orphaned", 40)
+    away.rename(folder)
+    must(replica.stop() == 0, "the replica did not end well")
+    lost = [path.read_text() for path in folder.glob("*.lost")]
+    must(len(lost) == 1 and lost[0].count("'row'") == 5, f"the rows are gone: {replica.said()[-600:]}")
+
+
+def part_of_a_message(case: Case) -> None:
+    """Rows that the log lost go into a .lost file also if memory was short in the midst of a message."""
+    refuse, source = case.folder / "refuse.so", Path(__file__).resolve().parent / "refuse.c"
+    subprocess.run(["cc", "-O1", "-D_GNU_SOURCE", "-shared", "-fPIC", "-o", str(refuse), str(source)], check=True)
+    replica = case.cluster.replica("a", *case.snapshots, environment={"LD_PRELOAD": str(refuse)})
+    case.wait_for("a", "ready")
+    case.table()
+    case.insert(0, 5, "both")
+    case.keep_log()
+    case.insert(100, 5, "lost")
+    found = case.status("a")
+    rows = [", ".join(f"({number}, 0, 'large')" for number in range(first, first + 150)) for first in range(1000, 16000, 150)]
+    large = "BEGIN\n" + "".join(f"INSERT t {values}\n" for values in rows) + "COMMIT\n"
+    replica.send(signal.SIGUSR2)
+    publish(case, [("p-1", b"INSERT t (500, 0, 'part')\n"), ("p-2", large.encode())], found["sequence"], found["chain"])
+    replica.wait_until_it_says("memory was refused", case.until)
+    case.put_kept_log_back()
+    case.cluster.servers[0].start()
+    case.connection.close()
+    case.wait_until(lambda: case.status("a")["lives"] == 2, f"the replica did not begin again: {replica.said()[-600:]}", 40)
+    lost = [path.read_text() for path in case.cluster.snapshots.glob("*.lost")]
+    must(len(lost) == 1, f"there are {len(lost)} .lost files: {replica.said()[-600:]}")
+    must("-- part 1\n" in lost[0] and lost[0].count("'lost'") == 5 and "'part'" in lost[0] and "'large'" not in lost[0], "rows are gone")
+
+
+def sums_of_another_history(case: Case) -> None:
+    """A late replica keeps its rows against the sums of two that lost messages of the log: they say another chain hash."""
+    replica = case.replica("a", "--sum-every", "10")
+    case.table()
+    case.insert(0, 29 - case.state()["last_seq"])
+    number, identity = case.state()["last_seq"] // 10 * 10, case.identity()
+
+    def publish_sums(number: int, chain: str) -> None:
+        for name in "yz":
+            case.connection.publish(LOG + ".sum", f"{name} {identity} {number} {'0' * 32}".encode(), {"Mmdb-Chain": chain})
+
+    publish_sums(number, "1" * 32)
+    replica.wait_until_it_says("OTHER HISTORY: replica [yz] has another one at number", case.until)
+    case.insert(100, 1)
+    found = case.wait_for("a", "ready")
+    must(found["lives"] == 1 and not found["doubted"], f"right rows were dropped: {replica.said()[-600:]}")
+    # Sums of the same history count.
+    case.insert(101, 40 - found["sequence"])
+    case.wait_until(lambda: case.status("a")["summed"] == 40, "there is no sum at number 40")
+    publish_sums(40, case.status("a")["chain"])
+    case.wait_until(lambda: case.status("a")["lives"] == 2, "most replicas have another sum, and the rows stay")
+
+
 def sums_of_lost_history(case: Case) -> None:
     """Sums of messages that the log lost are none of the rows that a replica has after it began again."""
     options = ["--sum-every", "10"]
@@ -776,6 +843,24 @@ def bounded_memory(case: Case) -> None:
         case.connection.publish(LOG + ".ask", b"SELECT " + b"x" * 4000, {"Mmdb-At-Least": str(10**9 + number)}, "_INBOX.gone")
     case.ask(b"TABLES")
     must(memory_of(replica) - before < 300, f"memory went from {before} to {memory_of(replica)} MiB")
+
+
+def many_headers(case: Case) -> None:
+    """Requests and sums with many headers are dropped before they are read, which would take much time and memory."""
+    replica = case.replica("a", "--sum-every", "0")
+    case.table()
+    before = memory_of(replica)
+    many = {f"k{number}": "1" for number in range(50000)}
+    answer = case.request(".ask", b"TABLES", **many)
+    must(answer.headers["Mmdb-Status"] == "invalid" and b"headers" in answer.body, f"50,000 headers were answered {answer}")
+    block = b"NATS/1.0\r\nMmdb-At-Least: 1000000\r\n" + b"".join(f"{name}:1\r\n".encode() for name in many) + b"\r\n"
+    for subject in (".ask _INBOX.gone", ".sum"):
+        for _ in range(40):
+            case.connection.send(f"HPUB {LOG}{subject} {len(block)} {len(block)}\r\n".encode() + block + b"\r\n")
+    case.ask(b"TABLES")
+    must(memory_of(replica) - before < 40, f"memory went from {before} to {memory_of(replica)} MiB")
+    answer = case.request(".ask", b"TABLES", k="1" * 8000)
+    must(answer.headers["Mmdb-Status"] == "done", f"8,000 bytes of headers were answered {answer}")
 
 
 def leaves_under_load(case: Case) -> None:
@@ -1008,14 +1093,65 @@ def asked_by(case: Case, *options: str, script: bytes = b"") -> "subprocess.Comp
 
 
 def full_output(case: Case) -> None:
-    """mmdb-ask fails if what it prints cannot be written."""
+    """mmdb-ask fails, and says so, if what it prints cannot be written, or if its input cannot be read."""
     case.replica("a")
     case.table()
     words = [str(case.cluster.programs / "mmdb-ask"), "--servers", case.cluster.urls(), "--name", LOG]
     for options in (["--status"], ["--backup", "a"], ["--numbers"]):
         with open("/dev/full", "wb") as full:
-            found = subprocess.run([*words, *options], input=b"TABLES\n", stdout=full, stderr=subprocess.DEVNULL, timeout=30)
-        must(found.returncode == 1, f"mmdb-ask {options[0]} ended with status {found.returncode}")
+            found = subprocess.run([*words, *options], input=b"TABLES\n", stdout=full, stderr=subprocess.PIPE, timeout=30)
+        must(found.returncode == 1 and b"cannot be written\n" in found.stderr, f"mmdb-ask {options[0]} ended so: {found}")
+    descriptor = os.open(case.folder, os.O_RDONLY)
+    found = subprocess.run(words, stdin=descriptor, capture_output=True, timeout=30)
+    os.close(descriptor)
+    must(found.returncode == 1 and b"cannot be read\n" in found.stderr, f"mmdb-ask without an input ended so: {found}")
+
+
+def closed_files(case: Case) -> None:
+    """Programs that are started without a standard output or a standard error send nothing of what they print to the servers."""
+    words = [str(case.cluster.programs / "mmdb-replica"), "--servers", case.cluster.urls(), "--name", LOG, "--replica", "a"]
+    replica = Process("a", ["sh", "-c", 'exec "$@" 2>&-', "sh", *words], case.folder)
+    case.cluster.replicas["a"] = replica
+    replica.start()
+    case.wait_for("a", "ready")
+    case.table()
+    words = [str(case.cluster.programs / "mmdb-ask"), "--servers", case.cluster.urls(), "--name", LOG, "--numbers"]
+    asked = subprocess.run(["sh", "-c", 'exec "$@" >&-', "sh", *words], input=b"TABLES\n", stderr=subprocess.DEVNULL, timeout=30)
+    must(asked.returncode == 1, f"mmdb-ask without an output ended with status {asked.returncode}")
+    said = case.cluster.servers[0].said()
+    must("arser" not in said, f"a server was sent what is no message: {said[-600:]}")
+
+
+def cut_snapshot(case: Case) -> None:
+    """mmdb-ask --load sends nothing of a snapshot that is cut off, changed, or goes on after its end."""
+    case.replica("a")
+    case.table()
+    case.insert(0, 20)
+    backup = asked_by(case, "--backup", "a").stdout
+    last = case.state()["last_seq"]
+    lines = backup.splitlines(keepends=True)
+    broken = {
+        "it has no end": [b"".join(lines[:-1]), backup[:-1], backup[: len(backup) // 2], backup[:12]],
+        "its bytes do not have their digest": [backup.replace(b"(7, 0, 'row')", b"(7, 1, 'row')"), backup[:-1] + b"\0DELETE t\n"],
+        "it goes on after its end": [backup + b"DELETE t\n", backup + b"\n", backup + backup],
+    }
+    path = case.folder / "broken"
+    words = [str(case.cluster.programs / "mmdb-ask"), "--servers", case.cluster.urls(), "--name", LOG, "--load"]
+    for wrong, inputs in broken.items():
+        for given in inputs:
+            path.write_bytes(given)
+            with open(path, "rb") as file:
+                by_file = subprocess.run(words, stdin=file, capture_output=True, timeout=30)
+            for found in (by_file, asked_by(case, "--load", script=given)):
+                must((found.returncode, found.stdout) == (1, b"") and wrong.encode() in found.stderr, f"{wrong}: {found}")
+    must(case.state()["last_seq"] == last, "something of a broken snapshot was sent")
+    case.change(b"DROP TABLE t\n")
+    path.write_bytes(backup)
+    with open(path, "rb") as file:
+        found = subprocess.run(words, stdin=file, capture_output=True, timeout=30)
+    must(found.returncode == 0 and b"rows 20\n" in case.ask(b"SCAN t", "a", case.state()["last_seq"]), f"a whole one: {found}")
+    found = asked_by(case, "--load", script=b"-- words\nINSERT t (100, 0, 'x')\n")
+    must(found.returncode == 0 and case.ask(b"SCAN t").endswith(b"rows 21\n"), f"a script that is no snapshot: {found}")
 
 
 def lost_part_of_a_backup(case: Case) -> None:
@@ -1086,6 +1222,9 @@ TESTS: list[tuple[Callable[[Case], None], int]] = [
     (lost_end, 1),
     (no_folder_for_rows, 1),
     (lost_rows_at_the_end, 1),
+    (rows_of_an_orphan_at_the_end, 1),
+    (part_of_a_message, 1),
+    (sums_of_another_history, 1),
     (sums_of_lost_history, 1),
     (snapshot_short_of_the_log, 1),
     (delayed_copy, 1),
@@ -1095,6 +1234,7 @@ TESTS: list[tuple[Callable[[Case], None], int]] = [
     (blocked_server, 3),
     (dead_requests, 1),
     (bounded_memory, 1),
+    (many_headers, 1),
     (leaves_under_load, 1),
     (ends_without_servers, 1),
     (snapshot_at_the_end, 1),
@@ -1106,6 +1246,8 @@ TESTS: list[tuple[Callable[[Case], None], int]] = [
     (changes_in_one_request, 1),
     (changes_sent_together, 1),
     (full_output, 1),
+    (closed_files, 1),
+    (cut_snapshot, 1),
     (lost_part_of_a_backup, 1),
     (slow_reader_of_a_backup, 1),
     (linearizable_again, 1),

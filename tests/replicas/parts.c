@@ -1,6 +1,6 @@
 /*
- * Tests the parts of a replica that need no network: scripts, entries, ids, messages of the log, the chain hash, snapshots, sums, the queue
- * and login files, good ones and broken ones.
+ * Tests the parts of a replica that need no network: scripts, entries, ids, messages of the log, the chain hash, snapshots, sums, the
+ * queue, what looks at the log found, and login files, good ones and broken ones.
  *
  *   parts FOLDER
  *
@@ -9,6 +9,8 @@
 #include "child.h"
 #include "connect.h"
 #include "entry.h"
+#include "load.h"
+#include "log.h"
 #include "queue.h"
 #include "script.h"
 #include "snapshot.h"
@@ -526,6 +528,96 @@ static void kept_snapshots(const struct snapshots *snapshots, struct database *d
   MUST(snapshot_write(snapshots, database, identity, true) && files_in(folder) == 5 && loads_at(snapshots, extent_of(identity, 1, 40), 19));
 }
 
+/* Finds the only other file of a folder, if its name has an ending. */
+static bool find_file(const char *folder, const char *ending, const char *other, char path[PATH_MAX]) {
+  size_t count = 0;
+  DIR *opened = opendir(folder);
+  for (struct dirent *entry = opened ? readdir(opened) : NULL; entry; entry = readdir(opened)) {
+    const char *end = strstr(entry->d_name, ending);
+    if (!end || end[strlen(ending)] || strstr(other, entry->d_name)) continue;
+    snprintf(path, PATH_MAX, "%s/%s", folder, entry->d_name);
+    count++;
+  }
+  if (opened) closedir(opened);
+  return count == 1;
+}
+
+static bool has_line(const char *path, const char *line) {
+  char read[256];
+  bool has_it = false;
+  FILE *file = fopen(path, "r");
+  while (file && fgets(read, sizeof read, file)) has_it = has_it || !strcmp(read, line);
+  if (file) fclose(file);
+  return has_it;
+}
+
+/*
+ * What the log lost is written in the midst of a message too, and does not hide another history that ended at the same number. The replies
+ * of an entry whose id is not kept yet stay.
+ */
+static void lost_parts(const char *folder) {
+  const struct snapshots snapshots = {.folder = folder, .log = "log", .replica = "r"};
+  struct database database;
+  struct head head;
+  char path[PATH_MAX], other[PATH_MAX], as_snapshot[PATH_MAX];
+  fill(&database);
+  database.progress = (struct progress){.entries = 2, .has_run = true, .chain = database.chain};
+  database.replies.length = 0;
+  MUST(bytes_add(&database.replies, "ok 7\n", 5) && snapshot_write(&snapshots, &database, identity, true));
+  MUST(database.replies.length == 5 && !memcmp(database.replies.at, "ok 7\n", 5));
+  MUST(find_file(folder, ".lost", "", path) && has_line(path, "-- part 3\n") && has_line(path, "-- sequence 15\n"));
+  MUST(!snapshot_verify(path, &snapshots, identity, &head) && head.number == 15);
+  MUST(apply_body(&database, 15, text_of("x 0 0 8\nDELETE t\n")) == APPLY_OTHER && database_part(&database) == 3);
+  database.progress = (struct progress){.entries = 0};
+  database.chain.at[0] ^= 1;
+  MUST(snapshot_write(&snapshots, &database, identity, true) && find_file(folder, ".lost", path, other) && files_in(folder) == 2);
+  MUST(!has_line(other, "-- part 3\n") && !unlink(other));
+  MUST(snapshot_path(&snapshots, identity, 15, as_snapshot) && !rename(path, as_snapshot));
+  MUST(loads_at(&snapshots, extent_of(identity, 1, 20), 0) && !unlink(as_snapshot));
+  database_close(&database);
+}
+
+/* Whether a snapshot is given out whole, by a file or through a pipe, and goes on after its first line. */
+static bool is_given(const char *path, bool by_pipe) {
+  char line[256], command[PATH_MAX + 8];
+  const char *wrong = NULL;
+  snprintf(command, sizeof command, "cat %s", path);
+  FILE *input = by_pipe ? popen(command, "r") : fopen(path, "r");
+  bool has_first = input && fgets(line, sizeof line, input);
+  FILE *whole = has_first ? open_whole(input, text_of(line), &wrong) : NULL;
+  MUST(!has_first || (whole == NULL) == (wrong != NULL));
+  bool goes_on = whole && fgets(line, sizeof line, whole) && !strcmp(line, "-- log log 0123456789abcdef\n");
+  if (whole && whole != input) fclose(whole);
+  if (input && by_pipe) pclose(input);
+  else if (input) fclose(input);
+  return goes_on;
+}
+
+/* A snapshot is loaded by mmdb-ask only if it is whole. */
+static void loaded_snapshots(const char *folder) {
+  const struct snapshots snapshots = {.folder = folder, .log = "log", .replica = "r"};
+  static char bytes[1 << 16];
+  struct database database;
+  char path[PATH_MAX];
+  fill(&database);
+  MUST(snapshot_path(&snapshots, identity, 15, path) && snapshot_write(&snapshots, &database, identity, false));
+  database_close(&database);
+  FILE *file = fopen(path, "r");
+  size_t length = file ? fread(bytes, 1, sizeof bytes - 1, file) : 0;
+  if (file) fclose(file);
+  MUST(is_given(path, false) && is_given(path, true));
+  for (size_t cut = 1; cut < length; cut += 97) {
+    write_back(path, bytes, length - cut);
+    MUST(!is_given(path, false) && (cut % 5 || !is_given(path, true)));
+  }
+  bytes[length] = '\n';
+  write_back(path, bytes, length + 1);
+  MUST(!is_given(path, false) && !is_given(path, true) && !unlink(path));
+  MUST(begins_snapshot(text_of("-- mmdb snapshot 2\n")) && begins_snapshot(text_of("-- mmdb snapshot 1")));
+  MUST(begins_snapshot(text_of("-- mmdb")) && !begins_snapshot(text_of("-- mmdb\n")) && !begins_snapshot(text_of("-- mmdx")));
+  MUST(!begins_snapshot(text_of("")) && !begins_snapshot(text_of("TABLES\n")));
+}
+
 static void snapshots_of(const char *folder) {
   const struct snapshots snapshots = {.folder = folder, .log = "log", .replica = "r"};
   struct database database, again;
@@ -608,6 +700,31 @@ static void compared_sums(void) {
   MUST(sums_judge(&sums, 202) == SUMS_ALONE); /* a sum of another log says nothing */
 }
 
+static void add_chained(struct sums *sums, const char *replica, uint8_t value, uint8_t chain) {
+  struct sum sum = sum_of(replica, 100, value);
+  sum.has_chain = true;
+  sum.chain.at[0] = chain;
+  sums_add(sums, &sum, !strcmp(replica, "own"));
+}
+
+/* Replicas of another history have no say, however many they are, but they are noticed. */
+static void sums_of_histories(void) {
+  static struct sums sums;
+  add_chained(&sums, "a", 2, 9);
+  MUST(!sums_of_other_history(&sums, 100));
+  add_chained(&sums, "own", 1, 8);
+  add_chained(&sums, "b", 2, 9);
+  MUST(sums_judge(&sums, 100) == SUMS_ALONE && !strcmp(sums_of_other_history(&sums, 100)->replica, "a"));
+  add_chained(&sums, "c", 1, 8);
+  MUST(sums_judge(&sums, 100) == SUMS_AGREE && !sums_of_other_history(&sums, 101));
+  add_chained(&sums, "a", 2, 8);
+  MUST(sums_judge(&sums, 100) == SUMS_RIGHT);
+  add_chained(&sums, "b", 2, 8);
+  MUST(sums_judge(&sums, 100) == SUMS_TIE && !sums_of_other_history(&sums, 100));
+  add_sum(&sums, "d", 100, 2); /* it does not say of which history it is */
+  MUST(sums_judge(&sums, 100) == SUMS_WRONG && !sums_of_other_history(&sums, 100));
+}
+
 /* The queue. */
 
 static natsMsg *message_of(size_t length) {
@@ -688,6 +805,45 @@ static void children(void) {
   nats_Close();
 }
 
+/* Looks. */
+
+enum { LOOKS = 8000000 };
+
+/* What a thread notes: every second number, each as the last one and as the time that belongs to it. */
+struct looker {
+  struct log *log;
+  pthread_barrier_t *begin;
+  pthread_t thread;
+  uint64_t first;
+};
+
+static void *look_often(void *closure) {
+  struct looker *looker = closure;
+  pthread_barrier_wait(looker->begin);
+  for (uint64_t number = looker->first; number <= LOOKS; number += 2) log_note(looker->log, number, (int64_t)number);
+  return NULL;
+}
+
+/* Two threads look at the log. Whoever reads the time and then the number finds a number of that time or later, and neither ever falls. */
+static void noted(void) {
+  static struct log log;
+  pthread_barrier_t begin;
+  struct looker lookers[] = {{.log = &log, .begin = &begin, .first = 1}, {.log = &log, .begin = &begin, .first = 2}};
+  int64_t before = 0;
+  bool is_right = true;
+  MUST(!pthread_barrier_init(&begin, NULL, 3));
+  for (int i = 0; i < 2; i++) MUST(!pthread_create(&lookers[i].thread, NULL, look_often, &lookers[i]));
+  pthread_barrier_wait(&begin);
+  while (before < LOOKS && is_right) {
+    int64_t heard = atomic_load(&log.heard);
+    is_right = heard >= before && atomic_load(&log.last) >= (uint64_t)heard;
+    before = heard;
+  }
+  for (int i = 0; i < 2; i++) MUST(!pthread_join(lookers[i].thread, NULL));
+  MUST(!pthread_barrier_destroy(&begin));
+  MUST(is_right && atomic_load(&log.last) == LOOKS && atomic_load(&log.heard) == LOOKS);
+}
+
 /* Logins. */
 
 static void write_login(const char *path, const char *text, mode_t mode) {
@@ -728,9 +884,13 @@ int main(int words, char **word) {
   reads();
   stale();
   chains();
+  lost_parts(word[1]);
+  loaded_snapshots(word[1]);
   snapshots_of(word[1]);
   logins(word[1]);
   compared_sums();
+  sums_of_histories();
+  noted();
   queued();
   children();
   return has_failed;

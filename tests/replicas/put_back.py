@@ -90,9 +90,9 @@ FAULTS = [
     Fault(
         "a replica that publishes to a log that was made again drops its rows",
         [
-            Edit("life.c", "  if (why == MISSING_OTHER_LOG && replica->database.applied) {\n",
+            Edit("life.c", "  if (why == MISSING_OTHER_LOG && has_any(replica)) {\n",
                  "  if (why == MISSING_HISTORY) {\n    lose_rows(replica, words[why]);\n"
-                 "  } else if (why == MISSING_OTHER_LOG && replica->database.applied) {\n"),
+                 "  } else if (why == MISSING_OTHER_LOG && has_any(replica)) {\n"),
         ],
         "log_made_again_under_load",
     ),
@@ -227,13 +227,46 @@ FAULTS = [
     # Rows that the log does not have, and logs that are made again.
     Fault(
         "rows that the log lost are dropped where there is no folder",
-        [Edit("life.c", "if (replica->database.applied && !replica->snapshots.folder) {", "if (!replica->database.applied) {")],
+        [Edit("life.c", "if (has_any(replica) && !replica->snapshots.folder) {", "if (!replica->database.applied) {")],
         "no_folder_for_rows",
     ),
     Fault(
         "a log that is made again while another one is cut off raises no alarm",
         [Edit("life.c", "  replica->cut_below = last + 1;\n", "")],
         "cut_of_another_log",
+    ),
+    Fault(
+        "rows that the log lost are dropped in the midst of a message",
+        [Edit("life.c", "|| replica->is_kept) return true;", "|| replica->is_kept || database_is_between(&replica->database)) return true;")],
+        "part_of_a_message",
+    ),
+    Fault(
+        "another message is taken for the rest of one that is applied in part",
+        [Edit("database.c", "if (database_is_between(database) && !is_same_digest(&chain", "if (!database && !is_same_digest(&chain")],
+        program="parts",
+    ),
+    Fault(
+        "a .lost file replaces one of another history",
+        [Edit("snapshot_write.c", "  write_digest(chain, &database->chain);\n  int length", "  strcpy(chain, \"00000000\");\n  int length")],
+        program="parts",
+    ),
+    Fault(
+        "rows of an orphan that no folder took at once are lost at its end",
+        [Edit("life.c", "(has_lost_history(replica) || replica->state == STATE_ORPHANED)) keep_lost", "has_lost_history(replica)) keep_lost")],
+        "rows_of_an_orphan_at_the_end",
+    ),
+    Fault(
+        "sums of another history count",
+        [Edit("sums.c", "return own->has_chain && other->has_chain &&", "return !own->number && other->has_chain &&")],
+        "sums_of_another_history",
+    ),
+    Fault(
+        "an older look at the log hides a newer one",
+        [
+            Edit("log.c", "while (last_before < last && !atomic_compare_exchange_weak(&log->last, &last_before, last)) continue;",
+                 "if (last_before < last) atomic_store(&log->last, last);"),
+        ],
+        program="parts",
     ),
     # Children.
     Fault(
@@ -254,7 +287,7 @@ FAULTS = [
     ),
     Fault(
         "the sum of a child is not published",
-        [Edit("tasks.c", "publish_own_sum(replica, task->number, &sum);", "tell(replica, \"summed\");")],
+        [Edit("tasks.c", "publish_own_sum(replica, task->number, &sum, &task->chain);", "tell(replica, \"summed\");")],
         "sums_of_children",
     ),
     # libnats.
@@ -324,6 +357,21 @@ FAULTS = [
         "a backup lacks its end",
         [Edit("status.c", "(length = fread(part, 1, PART_BYTES, file));", "(length = fread(part, 1, PART_BYTES, file) / 2);")],
         program="restore.py",
+    ),
+    Fault(
+        "a backup that is cut off is loaded",
+        [Edit("load.c", "? strerror(errno) : refuse_rest(file);", "? strerror(errno) : refuse_rest ? NULL : \"\";")],
+        "cut_snapshot",
+    ),
+    Fault(
+        "what is printed without an output goes to a server",
+        [Edit("mmdb-ask.c", "  open_standard_files();\n", "")],
+        "closed_files",
+    ),
+    Fault(
+        "many headers are read",
+        [Edit("answers.c", "if (size_of_message(message) > body.length + MOST_HEAD_BYTES)", "if (!message)")],
+        "many_headers",
     ),
     Fault(
         "a backup that lost a part on its way is taken for whole",

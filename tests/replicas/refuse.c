@@ -1,5 +1,6 @@
 /*
- * Preloaded into a process, it fails all allocations of libmmdb for 0.3 s each time that the process gets SIGUSR1:
+ * Preloaded into a process, it fails all allocations of libmmdb for 0.3 s each time that the process gets SIGUSR1, and all of 64 KiB or
+ * more from the first SIGUSR2 on:
  *
  *     cc -shared -fPIC -o refuse.so refuse.c
  *     LD_PRELOAD=./refuse.so mmdb-replica ..
@@ -17,10 +18,11 @@ void *__libc_malloc(size_t size);
 void *__libc_calloc(size_t count, size_t size);
 void *__libc_realloc(void *block, size_t size);
 
-enum { MILLISECONDS = 300 };
+enum { MILLISECONDS = 300, LARGE = 65536 };
 
 static uintptr_t first, end; /* where libmmdb.so is */
 static volatile int64_t until;
+static volatile sig_atomic_t fails_large;
 
 static int64_t now(void) {
   struct timespec time;
@@ -28,21 +30,29 @@ static int64_t now(void) {
   return (int64_t)time.tv_sec * 1000 + time.tv_nsec / 1000000;
 }
 
-static int is_refused(void *caller) {
-  if (!until || (uintptr_t)caller < first || (uintptr_t)caller >= end || now() > until) return 0;
+static int is_refused(void *caller, size_t size) {
+  if ((uintptr_t)caller < first || (uintptr_t)caller >= end) return 0;
+  if (!(fails_large && size >= LARGE) && (!until || now() > until)) return 0;
   errno = ENOMEM;
   return 1;
 }
 
-void *malloc(size_t size) { return is_refused(__builtin_return_address(0)) ? NULL : __libc_malloc(size); }
+void *malloc(size_t size) { return is_refused(__builtin_return_address(0), size) ? NULL : __libc_malloc(size); }
 
-void *calloc(size_t count, size_t size) { return is_refused(__builtin_return_address(0)) ? NULL : __libc_calloc(count, size); }
+void *calloc(size_t count, size_t size) {
+  return is_refused(__builtin_return_address(0), count * size) ? NULL : __libc_calloc(count, size);
+}
 
-void *realloc(void *block, size_t size) { return is_refused(__builtin_return_address(0)) ? NULL : __libc_realloc(block, size); }
+void *realloc(void *block, size_t size) { return is_refused(__builtin_return_address(0), size) ? NULL : __libc_realloc(block, size); }
 
 static void on_signal(int number) {
   (void)number;
   until = now() + MILLISECONDS;
+}
+
+static void on_other_signal(int number) {
+  (void)number;
+  fails_large = 1;
 }
 
 static int look(struct dl_phdr_info *object, size_t size, void *closure) {
@@ -59,4 +69,5 @@ static int look(struct dl_phdr_info *object, size_t size, void *closure) {
 __attribute__((constructor)) static void begin(void) {
   dl_iterate_phdr(look, NULL);
   signal(SIGUSR1, on_signal);
+  signal(SIGUSR2, on_other_signal);
 }
