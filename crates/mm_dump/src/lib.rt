@@ -1,10 +1,12 @@
 //! A dump: a script that restores a database.
 #![tactic(auto)]
 
+mod definition_lines;
 mod insert_lines;
 mod laws;
 mod open_line;
 
+pub use definition_lines::{write_index, write_table};
 pub use insert_lines::InsertLines;
 pub use laws::{
     dumped_lines_restore, dumped_scripts_restore, dumps_restore, entries_fit_lines,

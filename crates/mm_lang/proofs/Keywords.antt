@@ -5,7 +5,7 @@ use Rattle.std.proofs.lemmas.Bool.{cond-true, cond-false, eqb-true, false≢true
 use Rattle.std.proofs.lemmas.Bool.Decides.{Decides-eqb}
 use Rattle.mm_lang.specs.declared.read.keyword.Keyword.{Keyword}
 use Rattle.mm_lang.specs.declared.read.keyword.TheConstants.{KEYWORDS}
-use Rattle.mm_lang.specs.Words.{is_word, keyword_named, keyword_text}
+use Rattle.mm_lang.specs.Words.{is_word, keyword_named}
 use Rattle.mm_lang.specs.steps.Letters.{begins_keyword, begins_with}
 use Rattle.mm_lang.proofs.SpelledWords.{is_word-Decides}
 

@@ -7,13 +7,14 @@ mod Keywords
 pub mod BufferedLines
 mod BufferedPieces
 pub mod Lexing
-mod ListingTexts
+pub mod ListingTexts
 mod Lists
 pub mod LiteralOrder
 pub mod Literals
 mod Operands
 pub mod Pieces
 pub mod Preparing
+pub mod QueryTexts
 pub mod Readings
 pub mod ReplyLemmas
 mod SelectReadings

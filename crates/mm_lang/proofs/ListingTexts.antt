@@ -11,7 +11,7 @@ use Rattle.mm_value.specs.declared.device.Watched.{Watched}
 use Rattle.mm_query.specs.declared.listing.ListedQuery.{ListedQuery}
 use Rattle.mm_query.specs.declared.listing.ListedTable.{ListedTable}
 use Rattle.mm_query.specs.declared.listing.Listing.{Listing}
-use Rattle.mm_lang.specs.ReplyText.{column_text, columns_text, index_line, listing_text, query_line, role_text, rows_listed, table_line, table_lines}
+use Rattle.mm_lang.specs.ReplyText.{column_text, columns_text, index_line, listing_text, query_line, role_text, table_lines}
 use Rattle.mm_lang.specs.Spelling.{kind_word, type_word}
 use Rattle.mm_lang.specs.Words.{keyword_text}
 
@@ -85,13 +85,6 @@ index_parts index name table column kind named on by is =
     ∙ regrouped (codes "INDEX ") name (codes " ON ") table (codes " (") column (codes ") ") kind
 
 -- ---- tables, and all
-
--- a table in the parts in which its line is written
-pub table_parts : (listed : ListedTable) (name : List ℕ) (columns : List Column) → name ≡ listed.table.definition.name
-    → columns ≡ listed.table.definition.columns
-    → table_line listed ≡ ((codes "TABLE " ++ name) ++ (codes " (" ++ columns_text columns ++ codes ")")) ++ rows_listed listed.rows
-table_parts listed name columns named are =
-    λ i. codes "TABLE " ++ sym named i ++ (codes " (" ++ columns_text (sym are i) ++ codes ")") ++ rows_listed listed.rows
 
 -- what is listed of a catalog in the parts in which it is written
 pub listing_parts : (listing : Listing) (tables : List ListedTable) (standing : List ListedQuery) → tables ≡ listing.tables → standing ≡ listing.standing

@@ -4,6 +4,7 @@ pub mod Grammar
 pub mod Lines
 pub mod Phrases
 pub mod Reading
+pub mod QueryText
 pub mod ReplyText
 pub mod Spelling
 pub mod Templates

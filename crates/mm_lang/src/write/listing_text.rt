@@ -3,7 +3,7 @@ ghost use Rattle.std.specs.Prelude.{◌≡◌, false, ◌∷◌, ◌++◌, codes
 ghost use Rattle.std.specs.List.{flat_map};
 ghost use Rattle.mm_value.specs.Device.{Writes};
 ghost use Rattle.mm_value.specs.Watched.{has_failed};
-ghost use Rattle.mm_lang.specs.ReplyText.{column_text, columns_text, index_line, listing_text, on_delete_text, query_line, role_text, table_line, table_lines};
+ghost use Rattle.mm_lang.specs.ReplyText.{column_text, columns_text, index_line, listing_text, on_delete_text, query_line, role_text, table_line, table_lines, table_listed};
 ghost use Rattle.mm_lang.specs.Spelling.{kind_word, type_word};
 ghost use Rattle.mm_lang.specs.Words.{keyword_text};
 ghost use Rattle.mm_lang.specs.declared.read.keyword.Keyword.TheVariants.{Ref};
@@ -11,7 +11,7 @@ ghost use Rattle.mm_lang.specs.declared.read.keyword.Keyword.TheVariants.{Ref};
 use crate::read::keyword::Keyword;
 use crate::write::reply_text::{write_after_space, write_count, write_four, write_two};
 use mm_query::{ListedQuery, ListedTable, Listing};
-use mm_schema::{Column, IndexDef, IndexKind, OnDelete, Role};
+use mm_schema::{Column, IndexDef, IndexKind, OnDelete, Role, TableDef};
 use mm_value::{ColType, Watched, WriteError, put_all};
 use std::io::Write;
 
@@ -59,10 +59,21 @@ fn write_table_line<W: Write>(
     requires { has_failed writer.old ≡ false }
     ensures { Writes W.contents writer.old writer.new result (table_line listed.now) }
 {
-    let definition = &listed.table.definition;
-    write_two(b"TABLE ", definition.name.bytes(), writer)?;
-    write_columns(definition.columns.as_slice(), writer)?;
+    write_table_definition(&listed.table.definition, writer)?;
     write_count(b" rows ", listed.rows, writer)
+}
+
+/// Writes a table as the TABLE that creates it, without a line feed. Takes no memory. After `WriteError` the writer has failed, and a
+/// front of the text was written.
+pub fn write_table_definition<W: Write>(
+    definition: &TableDef,
+    writer: &mut Watched<W>,
+) -> Result<(), WriteError>
+    requires { has_failed writer.old ≡ false }
+    ensures { Writes W.contents writer.old writer.new result (table_listed definition.now) }
+{
+    write_two(b"TABLE ", definition.name.bytes(), writer)?;
+    write_columns(definition.columns.as_slice(), writer)
 }
 
 /// Writes columns in parentheses, behind a space.
@@ -170,8 +181,9 @@ fn write_indexes<W: Write>(indexes: &[IndexDef], writer: &mut Watched<W>) -> Res
     Ok(())
 }
 
-/// Writes the line of an index.
-fn write_index<W: Write>(index: &IndexDef, writer: &mut Watched<W>) -> Result<(), WriteError>
+/// Writes the line of an index: the INDEX that creates it, and a line feed. Takes no memory. After `WriteError` the writer has failed, and a
+/// front of the line was written.
+pub fn write_index<W: Write>(index: &IndexDef, writer: &mut Watched<W>) -> Result<(), WriteError>
     requires { has_failed writer.old ≡ false }
     ensures { Writes W.contents writer.old writer.new result (index_line index.now) }
 {

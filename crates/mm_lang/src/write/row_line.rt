@@ -232,3 +232,29 @@ impl RowLines {
         self.put(b"''", writer)
     }
 }
+
+/// Writes a row without a line feed. Allocates nothing. After `WriteError` the writer has failed, and a prefix of the row's text was
+/// written.
+pub fn write_row<R: AsRow, W: Write>(row: &R, writer: &mut Watched<W>) -> Result<(), WriteError>
+    requires { has_failed writer.old ≡ false }
+    ensures { Writes W.contents writer.old writer.new result (row_text (R.AsRow.row row.now)) }
+{
+    let mut line = RowLines::new();
+    line.put(b"(", writer)?;
+    line.put_values(row, writer)?;
+    line.put(b")", writer)?;
+    line.write_out(writer)
+}
+
+/// Writes a value as a literal.
+pub(crate) fn write_literal<W: Write>(
+    value: &Value,
+    writer: &mut Watched<W>,
+) -> Result<(), WriteError>
+    requires { has_failed writer.old ≡ false }
+    ensures { Writes W.contents writer.old writer.new result (value_text value.now) }
+{
+    let mut line = RowLines::new();
+    line.put_value(value.as_ref(), writer)?;
+    line.write_out(writer)
+}
