@@ -7,13 +7,14 @@ use Rattle.mm_link.specs.Grown.{HasGrown, HasGrownTo}
 use Rattle.mm_link.specs.declared.link.Link.{Link}
 use Rattle.mm_link.proofs.SameRows.{Follows-grown}
 use Rattle.mm_schema.specs.declared.reference.Reference.{Reference}
-use Rattle.mm_tables.specs.Tables.{Stored, extents_of, extent_in, key_in, shape_of, slots_in, state_of}
+use Rattle.mm_tables.specs.Tables.{Stored, extents_of, extent_in, key_in, keys_of, shape_of, slots_in, state_of}
 use Rattle.mm_tables.specs.declared.log_record.LogRecord.{LogRecord}
 use Rattle.mm_tables.specs.declared.logged_table.LoggedTable.{LoggedTable}
 use Rattle.mm_base.specs.Bases.{IsSound, references_of}
 use Rattle.mm_base.specs.Joined.{GrownTo, HasFollowed, HaveEntriesFor, IsJoined, KeepsSize}
-use Rattle.mm_base.proofs.InBases.{lawful_from_state}
-use Rattle.mm_base.proofs.Joining.{joined_same}
+use Rattle.mm_base.proofs.InBases.{lawful_from_keys, lawful_from_state}
+use Rattle.mm_base.proofs.Joining.{joined_alike, joined_same, types_from_shapes, types_of}
+use Rattle.mm_base.proofs.Keeping.{keys_from_shapes}
 
 pub KeepsSize-refl : (links : List Link) → EachTurns KeepsSize links links
 KeepsSize-refl links = record {
@@ -126,6 +127,23 @@ sound_grown old new old_links new_links turned shapes extents state log sound = 
   lawful = lawful_from_state old.tables new.tables shapes (state_of old.tables) state sound.lawful;
   joined = joined_grown old.tables new.tables extents old_links new_links turned old.log new.log shapes state log sound.joined;
 }
+
+-- the indexes of tables have changed, or their capacity, and the links stay
+pub sound_alike : (old new : Stored) (links : List Link) → keys_of new.tables ≡ keys_of old.tables → types_of new.tables ≡ types_of old.tables
+    → extents_of new.tables ≡ extents_of old.tables → state_of new.tables ≡ state_of old.tables → new.log ≡ old.log
+    → IsSound old links → IsSound new links
+sound_alike old new links keys types extents state log sound = record {
+  lawful = lawful_from_keys old.tables new.tables keys (state_of old.tables) (state_of new.tables) state sound.lawful;
+  joined = λ k d within.
+      joined_alike old.tables new.tables keys (get_or links k d) types old.log new.log extents state log (sound.joined k d within);
+}
+
+-- the capacity of tables has changed
+pub sound_same : (old new : Stored) (links : List Link) → map shape_of new.tables ≡ map shape_of old.tables
+    → extents_of new.tables ≡ extents_of old.tables → state_of new.tables ≡ state_of old.tables → new.log ≡ old.log
+    → IsSound old links → IsSound new links
+sound_same old new links shapes =
+    sound_alike old new links (keys_from_shapes old.tables new.tables shapes) (types_from_shapes old.tables new.tables shapes)
 
 pub always_ok : {T E : Type 0} (result : Result T E) (P : Type 0) → P → OnOk result P
 always_ok (Ok value) P holds = holds

@@ -1,8 +1,8 @@
 -- The rows of all tables, when one table changes, or comes, or goes.
-use Rattle.std.proofs.Common.{◌≡◌, ℕ, ◌+◌, ◌<◌, ◌≤◌, ⊎_elim, List, [], ◌∷◌, ◌++◌, length, map, get_or, set, sym, ap, ap₂, ◌∙◌, subst, arith}
+use Rattle.std.proofs.Common.{◌≡◌, ℕ, ◌+◌, ◌<◌, ◌≤◌, ⊎_elim, List, [], ◌∷◌, ◌++◌, length, map, drop, get_or, set, sym, ap, ap₂, ◌∙◌, subst, arith}
 use Rattle.std.specs.Prelude.{remove, Result, Ok, Err, OnOk, OnErr}
 use Rattle.std.proofs.lemmas.Bool.{cases_lt}
-use Rattle.std.proofs.lemmas.List.{get_or-map, get_or_append_left, get_or_default, length-append, length-map, map-append, set-get_or}
+use Rattle.std.proofs.lemmas.List.{drop_all, get_or-map, get_or_append_left, get_or_default, length-append, length-map, map-append, set-get_or}
 use Rattle.std.proofs.lemmas.List.Edits.{length-remove, get_or-remove_below, get_or-remove_above}
 use Rattle.std.proofs.Math.Seq.{get_or-append_seam}
 use Rattle.mm_value.specs.declared.col_type.ColType.{ColType}
@@ -15,8 +15,11 @@ use Rattle.mm_indexed.specs.RowLists.{rows_of}
 use Rattle.mm_indexed.specs.Twins.{AreApart}
 use Rattle.mm_tables.specs.Commands.{after, IsCommand}
 use Rattle.mm_tables.specs.Edits.{put}
-use Rattle.mm_tables.specs.Tables.{AddsTable, HoldsAt, Shape, Stored, at_mark, extent_in, no_slots, slots_of, shape_of, state_of, slots_in, keys_of, key_in}
+use Rattle.mm_tables.specs.Log.{before}
+use Rattle.mm_tables.specs.Tables.{AddsTable, HoldsAt, Shape, Stored, at_mark, back, extent_in, no_slots, slots_of, shape_of, state_of}
+use Rattle.mm_tables.specs.Tables.{slots_in, keys_of, key_in}
 use Rattle.mm_tables.specs.declared.edit.Edit.{Edit}
+use Rattle.mm_tables.specs.declared.log_record.LogRecord.{LogRecord}
 use Rattle.mm_tables.specs.declared.logged_table.LoggedTable.{LoggedTable}
 use Rattle.mm_tables.proofs.InTables.{extent_read, key_read, size_from_shapes, slots_read}
 use Rattle.mm_base.specs.Bases.{IsLawful, IsWhole, AreLawful, rows_at_mark, rows_of_state}
@@ -28,15 +31,23 @@ use Rattle.mm_base.proofs.Keeping.{SameLive-staged, SameLive-settled, IsLawful-s
 use Rattle.mm_base.proofs.Keeping.{AreLawful-set, rows_of_state-set, rows_of_state-same, rows_of_state-push, rows_of_state-remove}
 use Rattle.mm_base.proofs.Keeping.{keys_from_shapes, keys_size, map_remove}
 
+-- ---- tables of the same keys, with one state, the current one or that at a mark
+
+module _ (old new : List LoggedTable) (keys : keys_of new ≡ keys_of old) (was now : List Slots) (same : now ≡ was) where
+  pub lawful_from_keys : AreLawful (keys_of old) was → AreLawful (keys_of new) now
+  lawful_from_keys lawful = subst (λ (ks : List ℕ). AreLawful ks now) (sym keys) (subst (AreLawful (keys_of old)) (sym same) lawful)
+
+  pub rows_from_keys : rows_of_state (keys_of new) now ≡ rows_of_state (keys_of old) was
+  rows_from_keys = ap₂ rows_of_state keys same
+
 -- ---- tables of the same shapes
 
 module _ (old new : List LoggedTable) (shapes : map shape_of new ≡ map shape_of old) where
   pub lawful_from_state : (state : List Slots) → state_of new ≡ state → AreLawful (keys_of old) state → AreLawful (keys_of new) (state_of new)
-  lawful_from_state state is lawful =
-      subst (λ (keys : List ℕ). AreLawful keys (state_of new)) (sym (keys_from_shapes old new shapes)) (subst (AreLawful (keys_of old)) (sym is) lawful)
+  lawful_from_state state = lawful_from_keys old new (keys_from_shapes old new shapes) state (state_of new)
 
   pub rows_from_state : (state : List Slots) → state_of new ≡ state → rows_of_state (keys_of new) (state_of new) ≡ rows_of_state (keys_of old) state
-  rows_from_state state is = ap₂ rows_of_state (keys_from_shapes old new shapes) is
+  rows_from_state state = rows_from_keys old new (keys_from_shapes old new shapes) state (state_of new)
 
   -- a row was staged
   module _ (t : ℕ) (r : RowRef) (row : List Value) (free : slots_in old t r ≡ Free)
@@ -99,12 +110,21 @@ module _ (old new : List LoggedTable) (shapes : map shape_of new ≡ map shape_o
 -- Where the state at a mark and the shapes of the tables stay, so do the rows at the mark, and they are lawful as before.
 module _ (old new : Stored) (mark : ℕ) (shapes : map shape_of new.tables ≡ map shape_of old.tables) (same : at_mark new mark ≡ at_mark old mark) where
   pub rows_at_mark-kept : rows_at_mark new mark ≡ rows_at_mark old mark
-  rows_at_mark-kept = ap₂ rows_of_state (keys_from_shapes old.tables new.tables shapes) same
+  rows_at_mark-kept = rows_from_keys old.tables new.tables (keys_from_shapes old.tables new.tables shapes) (at_mark old mark) (at_mark new mark) same
 
   pub lawful_at_mark-kept : AreLawful (keys_of old.tables) (at_mark old mark) → AreLawful (keys_of new.tables) (at_mark new mark)
-  lawful_at_mark-kept lawful =
-      subst (λ (keys : List ℕ). AreLawful keys (at_mark new mark)) (sym (keys_from_shapes old.tables new.tables shapes))
-      (subst (AreLawful (keys_of old.tables)) (sym same) lawful)
+  lawful_at_mark-kept =
+      lawful_from_keys old.tables new.tables (keys_from_shapes old.tables new.tables shapes) (at_mark old mark) (at_mark new mark) same
+
+-- The log is empty: the state at each mark is the current one.
+at_mark-empty : (s : Stored) (mark : ℕ) → s.log ≡ [] → at_mark s mark ≡ state_of s.tables
+at_mark-empty s mark empty =
+    ap (λ (rs : List LogRecord). before back (drop mark rs) (state_of s.tables)) empty
+    ∙ ap (λ (rs : List LogRecord). before back rs (state_of s.tables)) (drop_all mark [] (omega arith))
+
+pub lawful_at_mark-empty : (s : Stored) (mark : ℕ) → s.log ≡ [] → AreLawful (keys_of s.tables) (state_of s.tables)
+    → AreLawful (keys_of s.tables) (at_mark s mark)
+lawful_at_mark-empty s mark empty = subst (AreLawful (keys_of s.tables)) (sym (at_mark-empty s mark empty))
 
 -- ---- a table comes
 

@@ -21,18 +21,19 @@ use Rattle.mm_schema.specs.declared.reference.Reference.{Reference}
 use Rattle.mm_tables.specs.Commands.{after, IsCommand}
 use Rattle.mm_tables.specs.Edits.{put}
 use Rattle.mm_tables.specs.Log.{before, StandsBack}
-use Rattle.mm_tables.specs.Tables.{Holds, IsLogged, back, extent_in, extents_of, key_in, keys_of, logged, shape_of, slots_in, slots_of, state_of}
+use Rattle.mm_tables.specs.Tables.{Shape, Holds, IsLogged, back, extent_in, extents_of, key_in, keys_of, logged, shape_of, slots_in, slots_of, state_of}
 use Rattle.mm_tables.specs.declared.edit.Edit.{Edit}
 use Rattle.mm_tables.specs.declared.edit.Edit.TheVariants.{Stage}
 use Rattle.mm_tables.specs.declared.log_record.LogRecord.{LogRecord}
 use Rattle.mm_tables.specs.declared.logged_table.LoggedTable.{LoggedTable}
 use Rattle.mm_tables.proofs.InTables.{key_same}
 use Rattle.mm_tables.proofs.Logs.{StandsBack-pop, StandsBack-push}
+use Rattle.mm_value.specs.declared.col_type.ColType.{ColType}
 use Rattle.mm_value.specs.declared.row_ref.RowRef.{RowRef}
 use Rattle.mm_value.specs.declared.values.Value.{Value}
 use Rattle.mm_base.specs.Joined.{BehindEdits, BehindUndo, FollowsRows, HasEntries, IsBehindIn, IsBetween, IsJoined, LogKeeps}
 use Rattle.mm_base.specs.Orphans.{BringsTargets, SparesAll}
-use Rattle.mm_base.proofs.Keeping.{SameLive, SameLive-staged}
+use Rattle.mm_base.proofs.Keeping.{SameLive, SameLive-staged, keys_from_shapes}
 
 pub apart_in : (tables : List LoggedTable) (link : Link) → IsBetween (map shape_of tables) link.reference → link.reference.from ≢ link.reference.to
 apart_in tables link between same = let below : link.reference.to < link.reference.from = between.to in let no : ⊥ = omega (arith, below, same) in no
@@ -52,6 +53,58 @@ undone_all log es now was marks =
     ap (λ (xs : List LogRecord). before back xs now) (sym (drop-append_seam log es))
     ∙ (marks ∙ ap (λ (xs : List LogRecord). before back xs was) (drop_all (length log) log (omega arith)))
 
+-- ---- the types of all tables
+
+abbrev types_in_shapes : List Shape → List (List ColType)
+types_in_shapes shapes = map (λ (x : Shape). x.types) shapes
+
+abbrev pub types_of : List LoggedTable → List (List ColType)
+types_of tables = types_in_shapes (map shape_of tables)
+
+pub types_from_shapes : (old new : List LoggedTable) → map shape_of new ≡ map shape_of old → types_of new ≡ types_of old
+types_from_shapes old new same = ap types_in_shapes same
+
+types_size : (tables : List LoggedTable) → length (types_of tables) ≡ length (map shape_of tables)
+types_size tables = length-map (map shape_of tables) (λ (x : Shape). x.types)
+
+-- ---- tables of the same keys
+
+module _ (old new : List LoggedTable) (keys : keys_of new ≡ keys_of old) (link : Link) where
+  target_key : key_in new link.reference.to ≡ key_in old link.reference.to
+  target_key = ap (λ (ks : List ℕ). get_or ks link.reference.to 0) keys
+
+  pub entries_from : extents_of new ≡ extents_of old → HasEntries old link → HasEntries new link
+  entries_from same has = record {
+    referrers = subst (λ (es : List ℕ). get_or es link.reference.from 0 ≤ length link.ties.targets) (sym same) has.referrers;
+    targets = subst (λ (es : List ℕ). get_or es link.reference.to 0 ≤ link.ties.extent) (sym same) has.targets;
+  }
+
+  pub follows_from : (state : List Slots) → state_of new ≡ state → FollowsIn link.reference (key_in old link.reference.to) state link.ties
+      → FollowsRows new link
+  follows_from state is follows =
+      subst (λ (k : ℕ). FollowsIn link.reference k (state_of new) link.ties) (sym target_key)
+      (subst (λ (s : List Slots). FollowsIn link.reference (key_in old link.reference.to) s link.ties) (sym is) follows)
+
+  pub keeps_from : (state : List Slots) (log : List LogRecord) → state_of new ≡ state
+      → StandsBack back (KeepsLink link.reference (key_in old link.reference.to)) log state → LogKeeps new log link
+  keeps_from state log is keeps =
+      subst (λ (k : ℕ). StandsBack back (KeepsLink link.reference k) log (state_of new)) (sym target_key)
+      (subst (λ (s : List Slots). StandsBack back (KeepsLink link.reference (key_in old link.reference.to)) log s) (sym is) keeps)
+
+  -- only indexes have changed
+  pub joined_alike : types_of new ≡ types_of old → (log new_log : List LogRecord) → extents_of new ≡ extents_of old → state_of new ≡ state_of old
+      → new_log ≡ log → IsJoined old log link → IsJoined new new_log link
+  joined_alike types log new_log extents state same joined = record {
+    between = record {
+      from = omega (arith, joined.between.from, types_size old, types_size new, ap (λ (ts : List (List ColType)). length ts) types);
+      column = subst (λ (ts : List (List ColType)). link.reference.column < length (get_or ts link.reference.from [])) (sym types) joined.between.column;
+      to = joined.between.to;
+    };
+    entries = entries_from extents joined.entries;
+    follows = follows_from (state_of old) state joined.follows;
+    logged = subst (λ (rs : List LogRecord). LogKeeps new rs link) (sym same) (keeps_from (state_of old) log state joined.logged);
+  }
+
 -- ---- tables of the same shapes
 
 module _ (old new : List LoggedTable) (shapes : map shape_of new ≡ map shape_of old) (link : Link) where
@@ -62,31 +115,19 @@ module _ (old new : List LoggedTable) (shapes : map shape_of new ≡ map shape_o
   between_to = subst (λ ss. IsBetween ss r) (sym shapes)
 
   pub entries_to : extents_of new ≡ extents_of old → HasEntries old link → HasEntries new link
-  entries_to same has = record {
-    referrers = subst (λ (n : ℕ). n ≤ length link.ties.targets) (sym (ap (λ (es : List ℕ). get_or es r.from 0) same)) has.referrers;
-    targets = subst (λ (n : ℕ). n ≤ link.ties.extent) (sym (ap (λ (es : List ℕ). get_or es r.to 0) same)) has.targets;
-  }
+  entries_to = entries_from old new (keys_from_shapes old new shapes) link
 
   pub follows_to : (state : List Slots) → state_of new ≡ state → FollowsIn r (key_in old r.to) state link.ties → FollowsRows new link
-  follows_to state is follows =
-      subst (λ (k : ℕ). FollowsIn r k (state_of new) link.ties) (sym (key_same old new r.to shapes))
-      (subst (λ (s : List Slots). FollowsIn r (key_in old r.to) s link.ties) (sym is) follows)
+  follows_to = follows_from old new (keys_from_shapes old new shapes) link
 
   pub keeps_to : (state : List Slots) (log : List LogRecord) → state_of new ≡ state → StandsBack back (KeepsLink r (key_in old r.to)) log state
       → LogKeeps new log link
-  keeps_to state log is keeps =
-      subst (λ (k : ℕ). StandsBack back (KeepsLink r k) log (state_of new)) (sym (key_same old new r.to shapes))
-      (subst (λ (s : List Slots). StandsBack back (KeepsLink r (key_in old r.to)) log s) (sym is) keeps)
+  keeps_to = keeps_from old new (keys_from_shapes old new shapes) link
 
   -- nothing has changed
   pub joined_same : (log new_log : List LogRecord) → extents_of new ≡ extents_of old → state_of new ≡ state_of old → new_log ≡ log
       → IsJoined old log link → IsJoined new new_log link
-  joined_same log new_log extents state same joined = record {
-    between = between_to joined.between;
-    entries = entries_to extents joined.entries;
-    follows = follows_to (state_of old) state joined.follows;
-    logged = subst (λ (rs : List LogRecord). LogKeeps new rs link) (sym same) (keeps_to (state_of old) log state joined.logged);
-  }
+  joined_same = joined_alike old new (keys_from_shapes old new shapes) link (types_from_shapes old new shapes)
 
   -- each table has the same rows in use, and the log is empty
   pub joined_settled : (log : List LogRecord) → extents_of new ≡ extents_of old → ((t : ℕ) → SameRows (slots_in old t) (slots_in new t))

@@ -12,8 +12,10 @@ pub mod Retied
 pub mod OrphanRows
 pub mod Undoing
 pub mod Chained
+pub mod Indexing
 pub mod Moving
 pub mod Staged
 pub mod Asked
 pub mod Making
 pub mod Deletions
+pub mod KeptTargets

@@ -1,20 +1,22 @@
 //! The rows of all tables. Edits that leave two rows with one key, a row without its target, or too many rows, are refused.
 ghost use Rattle.std.specs.Prelude.{◌≡◌, ◌≢◌, ◌↔◌, ◌+◌, ◌<◌, ◌≤◌, ◌^◌, ℕ, false, [], ◌∷◌, ◌++◌, All, Contains, List, None, length, map, take, remove};
-ghost use Rattle.std.specs.Prelude.{slice_set, IsTrue, OnOk, OnErr};
+ghost use Rattle.std.specs.Prelude.{slice_index_or, slice_set, IsTrue, OnOk, OnErr};
 ghost use Rattle.std.specs.Result.{result_err};
 ghost use Rattle.mm_value.specs.declared.row_ref.RowRef.{RowRef};
 ghost use Rattle.mm_value.specs.Storable.{AreStorable};
 ghost use Rattle.mm_schema.specs.Refused.{first_refusal};
 ghost use Rattle.mm_schema.specs.Rows.{has_duplicate_keys, most_rows};
-ghost use Rattle.mm_partition.specs.Places.{Free, Hidden};
+ghost use Rattle.mm_partition.specs.Places.{Free, Hidden, slot_at};
 ghost use Rattle.mm_partition.specs.Types.{HasTypes};
 ghost use Rattle.mm_row_order.specs.Refs.{HasRow, row_at};
 ghost use Rattle.mm_indexed.specs.RowLists.{rows_of};
 ghost use Rattle.mm_link.specs.Links.{RefersTo};
 ghost use Rattle.mm_tables.specs.Edits.{put, came_by};
 ghost use Rattle.mm_tables.specs.Commands.{after, IsCommand};
-ghost use Rattle.mm_tables.specs.Tables.{AddsTable, shape_of, state_of, slots_in, keys_of, key_in, at_mark, HasCapacity, HoldsAt, KeepsOthers, logged};
+ghost use Rattle.mm_tables.specs.Tables.{AddsTable, IndexAdded, without_index, shape_of, state_of, slots_in, keys_of, key_in, at_mark, logged};
+ghost use Rattle.mm_tables.specs.Tables.{HasCapacity, HasFewSpares, HasRoom, HasRoomFor, HoldsAt, KeepsOthers};
 ghost use Rattle.mm_tables.specs.declared.edit.Edit.{Edit as EditOf};
+ghost use Rattle.mm_tables.specs.declared.logged_table.LoggedTable.{LoggedTable};
 ghost use Rattle.mm_tables.specs.declared.edit.Edit.TheVariants as made;
 ghost use Rattle.mm_base.specs.RowLists.{rows_in};
 ghost use Rattle.mm_base.specs.Bases.{AreLawful, IsWhole, KeepsEntries, rows_now, rows_at_mark, rows_made, edit_conditions};
@@ -22,15 +24,17 @@ ghost use Rattle.mm_base.specs.Bases.{references_of, references_without};
 ghost use Rattle.mm_base.specs.Columns.{IsFrom, IsReference};
 ghost use Rattle.mm_base.specs.Joined.{HaveEntriesFor};
 
+mod targets;
+
 use crate::commands::{Orphans, change, undo};
 use crate::links::{
     drop_links, follow, has_other_target, has_reference, new_links, reserve_all, retie_all,
 };
 use crate::orphans::{bring_orphans, leave_orphans};
-use crate::whole::{is_whole, lawful_rows, slots_with};
+use crate::whole::{are_few, is_whole, lawful_rows, slots_with};
 use mm_indexed::IndexedRows;
 use mm_link::Link;
-use mm_schema::Reference;
+use mm_schema::{IndexKind, Reference};
 use mm_tables::{Edit, Tables};
 use mm_value::{ColType, Refusal, RowRef, Value};
 use std::alloc::{AllocError, Global};
@@ -121,6 +125,9 @@ impl BaseTables {
         requires { table < length self.now.stored.tables }
         ensures table { HoldsAt (λ x. result.now ≡ x.rows) self.now.stored.tables table }
         ensures whole { IsWhole result.now }
+        ensures few { length result.now.refs ≤ most_rows }
+        ensures slots { slot_at result.now.places ≡ slots_in self.now.stored.tables table }
+        ensures key { result.now.key ≡ key_in self.now.stored.tables table }
         ensures rows { rows_of result.now ≡ rows_in (key_in self.now.stored.tables table) (slots_in self.now.stored.tables table) }
     {
         lawful_rows(&self.tables, table)
@@ -193,6 +200,53 @@ impl BaseTables {
         drop_links(&mut self.links, table);
     }
 
+    /// Appends an index on a column of a table over the rows in use, with capacity for the undo of the log. `AllocError` if an allocation
+    /// fails; then nothing changes.
+    pub fn add_index(
+        &mut self,
+        alloc: Global,
+        table: usize,
+        column: usize,
+        kind: IndexKind,
+    ) -> Result<(), AllocError>
+        requires within { table < length self.old.stored.tables }
+        requires column { HoldsAt (λ x. column < length x.rows.places.types) self.old.stored.tables table }
+        ensures added { OnOk result ((d : LoggedTable)
+            → IndexAdded column kind (slice_index_or self.old.stored.tables table d) (slice_index_or self.new.stored.tables table d)) }
+        ensures rest { self.new.stored ≡ record self.old.stored { tables = self.new.stored.tables } }
+        ensures others { KeepsOthers table self.old.stored.tables self.new.stored.tables }
+        ensures state { state_of self.new.stored.tables ≡ state_of self.old.stored.tables }
+        ensures rows { rows_now self.new.stored ≡ rows_now self.old.stored }
+        ensures marks { (mark : ℕ) → at_mark self.new.stored mark ≡ at_mark self.old.stored mark }
+        ensures saved { (mark : ℕ) → rows_at_mark self.new.stored mark ≡ rows_at_mark self.old.stored mark }
+        ensures keys { keys_of self.new.stored.tables ≡ keys_of self.old.stored.tables }
+        ensures links { self.new.links ≡ self.old.links }
+        ensures entries { KeepsEntries self.old self.new }
+        ensures err { OnErr result (self.new ≡ self.old) }
+    {
+        are_few(&self.tables, table);
+        self.tables.add_index(alloc, table, column, kind)
+    }
+
+    /// Drops the index of a table at a place, counted from 0. The places of those after it fall by one.
+    pub fn drop_index(&mut self, table: usize, index: usize)
+        requires within { table < length self.old.stored.tables }
+        requires index { HoldsAt (λ x. index < length x.rows.indexes) self.old.stored.tables table }
+        ensures dropped { (d : LoggedTable) → slice_index_or self.new.stored.tables table d
+            ≡ without_index index (slice_index_or self.old.stored.tables table d) }
+        ensures rest { self.new.stored ≡ record self.old.stored { tables = self.new.stored.tables } }
+        ensures others { KeepsOthers table self.old.stored.tables self.new.stored.tables }
+        ensures state { state_of self.new.stored.tables ≡ state_of self.old.stored.tables }
+        ensures rows { rows_now self.new.stored ≡ rows_now self.old.stored }
+        ensures marks { (mark : ℕ) → at_mark self.new.stored mark ≡ at_mark self.old.stored mark }
+        ensures saved { (mark : ℕ) → rows_at_mark self.new.stored mark ≡ rows_at_mark self.old.stored mark }
+        ensures keys { keys_of self.new.stored.tables ≡ keys_of self.old.stored.tables }
+        ensures links { self.new.links ≡ self.old.links }
+        ensures entries { KeepsEntries self.old self.new }
+    {
+        self.tables.drop_index(table, index);
+    }
+
     /// Makes capacity for a command with `rows` new rows and `edits` edits of a table, in the table and in the log, and for its undo.
     /// `AllocError` if an allocation fails; then there may be more capacity, and all else is as before.
     pub fn reserve(
@@ -211,6 +265,7 @@ impl BaseTables {
         ensures room { self.old.stored.log_room ≤ self.new.stored.log_room }
         ensures state { state_of self.new.stored.tables ≡ state_of self.old.stored.tables }
         ensures log { self.new.stored.log ≡ self.old.stored.log }
+        ensures undone { self.new.stored.undone ≡ self.old.stored.undone }
         ensures shapes { map shape_of self.new.stored.tables ≡ map shape_of self.old.stored.tables }
         ensures links { references_of self.new.links ≡ references_of self.old.links }
         ensures entries { OnOk result (HaveEntriesFor rows table self.new.stored.tables self.new.links) }
@@ -221,6 +276,30 @@ impl BaseTables {
         reserve_all(alloc, &mut self.links, table, slots)?;
         self.tables.reserve(alloc, table, rows, edits)?;
         self.tables.reserve_log(records)
+    }
+
+    /// Makes capacity for these edits of a table, in the table and in the log, and for their undo: an `Update` needs none in the index on
+    /// the key. `AllocError` if an allocation fails; then there may be more capacity, and all else is as before.
+    pub fn reserve_for(
+        &mut self,
+        alloc: Global,
+        table: usize,
+        edits: &[Edit],
+    ) -> Result<(), AllocError>
+        requires { table < length self.old.stored.tables }
+        ensures capacity { OnOk result (HoldsAt (HasRoomFor edits.now) self.new.stored.tables table) }
+        ensures log_room { OnOk result (length edits.now ≤ self.new.stored.log_room) }
+        ensures kept { (n k m : ℕ) → HoldsAt (HasRoom n k m) self.old.stored.tables table → HoldsAt (HasRoom n k m) self.new.stored.tables table }
+        ensures others { KeepsOthers table self.old.stored.tables self.new.stored.tables }
+        ensures room { self.old.stored.log_room ≤ self.new.stored.log_room }
+        ensures state { state_of self.new.stored.tables ≡ state_of self.old.stored.tables }
+        ensures rest { self.new.stored ≡ record self.old.stored { tables = self.new.stored.tables; log_room = self.new.stored.log_room } }
+        ensures shapes { map shape_of self.new.stored.tables ≡ map shape_of self.old.stored.tables }
+        ensures links { self.new.links ≡ self.old.links }
+        ensures entries { KeepsEntries self.old self.new }
+    {
+        self.tables.reserve_for(alloc, table, edits)?;
+        self.tables.reserve_log(edits.len())
     }
 
     /// Moves the values of a new row of a table into a free slot that is hidden, logs that, and returns its reference. The rows in use
@@ -262,7 +341,7 @@ impl BaseTables {
         requires lawful { AreLawful (keys_of self.old.stored.tables) (at_mark self.old.stored mark) }
         requires within { table < length self.old.stored.tables }
         requires command { IsCommand (key_in self.old.stored.tables table) edits.now (slots_in self.old.stored.tables table) }
-        requires capacity { HoldsAt (HasCapacity 0 (length edits.now)) self.old.stored.tables table }
+        requires capacity { HoldsAt (HasRoomFor edits.now) self.old.stored.tables table }
         requires log_room { length edits.now ≤ self.old.stored.log_room }
         ensures due { result_err result ≡ first_refusal (edit_conditions self.old table edits.now) }
         ensures rows { OnOk result (rows_now self.new.stored
@@ -310,7 +389,8 @@ impl BaseTables {
         undo(&mut self.tables, &mut self.links, mark);
     }
 
-    /// Ends the transaction: the rows in use stay, every other slot becomes free, and the log is empty. Allocates nothing and cannot fail.
+    /// Ends the transaction: the rows in use stay, every other slot becomes free, and the log is empty. Each tree of a table that the log
+    /// names keeps at most 64 spare nodes. Allocates nothing and cannot fail.
     pub fn settle(&mut self)
         ensures rows { rows_now self.new.stored ≡ rows_now self.old.stored }
         ensures log { self.new.stored.log ≡ [] }
@@ -318,6 +398,7 @@ impl BaseTables {
             → slots_in self.new.stored.tables t at ≡ slots_in self.old.stored.tables t at }
         ensures rest { (t : ℕ) (at : RowRef) → (HasRow (slots_in self.old.stored.tables t) at → ⊥)
             → slots_in self.new.stored.tables t at ≡ Free }
+        ensures spares { All (λ r. HoldsAt (HasFewSpares 64) self.new.stored.tables r.table) self.old.stored.log }
         ensures shapes { map shape_of self.new.stored.tables ≡ map shape_of self.old.stored.tables }
         ensures links { self.new.links ≡ self.old.links }
         ensures entries { KeepsEntries self.old self.new }

@@ -5,7 +5,7 @@ ghost use Rattle.mm_indexed.specs.Index.{EachTurns};
 ghost use Rattle.mm_schema.specs.Refused.{first_refusal};
 ghost use Rattle.mm_schema.specs.Rows.{table_rows_conditions};
 ghost use Rattle.mm_tables.specs.Commands.{after, IsCommand};
-ghost use Rattle.mm_tables.specs.Tables.{HasCapacity, HoldsAt, KeepsOthers, at_mark, extents_of, key_in, keys_of, logged, shape_of, slots_in, state_of};
+ghost use Rattle.mm_tables.specs.Tables.{HasRoomFor, HoldsAt, KeepsOthers, at_mark, extents_of, key_in, keys_of, logged, shape_of, slots_in, state_of};
 ghost use Rattle.mm_value.specs.declared.refusal.Refusal.TheVariants as refusals;
 ghost use Rattle.mm_base.specs.Bases.{AreLawful, rows_made, rows_now};
 ghost use Rattle.mm_base.specs.Joined.{IsJoined, KeepsSize};
@@ -52,7 +52,7 @@ pub fn change(
     requires lawful { AreLawful (keys_of tables.old.tables) (state_of tables.old.tables) }
     requires within { table < length tables.old.tables }
     requires command { IsCommand (key_in tables.old.tables table) edits.now (slots_in tables.old.tables table) }
-    requires capacity { HoldsAt (HasCapacity 0 (length edits.now)) tables.old.tables table }
+    requires capacity { HoldsAt (HasRoomFor edits.now) tables.old.tables table }
     requires log_room { length edits.now ≤ tables.old.log_room }
     ensures due { result_err result ≡ first_refusal (table_rows_conditions (key_in tables.old.tables table)
         (rows_made tables.old table edits.now) orphans.lacks orphans.leaves) }

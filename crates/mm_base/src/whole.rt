@@ -1,5 +1,5 @@
 //! What holds of each table, and the number of its rows.
-ghost use Rattle.std.specs.Prelude.{◌≡◌, ◌+◌, ◌<◌, length, map, nat_lt, IfOk};
+ghost use Rattle.std.specs.Prelude.{◌≡◌, ◌+◌, ◌<◌, ◌≤◌, length, map, nat_lt, IfOk};
 ghost use Rattle.mm_schema.specs.Rows.{most_rows};
 ghost use Rattle.mm_indexed.specs.Twins.{AreApart};
 ghost use Rattle.mm_indexed.specs.RowLists.{rows_of};
@@ -55,10 +55,20 @@ pub fn lawful_rows(tables: &Tables, table: usize) -> &IndexedRows
     ensures slots { slot_at result.now.places ≡ slots_in tables.now.tables table }
     ensures key { result.now.key ≡ key_in tables.now.tables table }
     ensures rows { rows_of result.now ≡ rows_at tables.now.tables table }
+    ensures few { length result.now.refs ≤ most_rows }
 {
     let rows = read(tables, table);
     is_whole(rows);
     rows
+}
+
+/// Lemma: a lawful table has at most 1,048,576 rows. The call does nothing.
+pub fn are_few(tables: &Tables, table: usize)
+    requires within { table < length tables.now.tables }
+    requires lawful { AreLawful (keys_of tables.now.tables) (state_of tables.now.tables) }
+    ensures { HoldsAt (λ x. length x.rows.refs ≤ most_rows) tables.now.tables table }
+{
+    lawful_rows(tables, table);
 }
 
 /// Lemma: the slot of each row in use of a table is below 2^32 - 1. The call does nothing.

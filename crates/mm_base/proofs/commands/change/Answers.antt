@@ -1,6 +1,5 @@
 use Rattle.std.proofs.Common.{sym, ◌∙◌, arith}
 use Rattle.mm_tables.specs.Tables.{state_of}
-use Rattle.mm_tables.proofs.Room.{HasRoomFor-any}
 use Rattle.mm_base.proofs.InBases.{lawful_from_state}
 use Rattle.mm_base.proofs.Made.{apart_now, full_due, kept_lawful, kept_rows, lawful_here, twins_due}
 use Rattle.mm_base.proofs.Making.{at_end, full_none, log_end}
@@ -9,9 +8,6 @@ use Rattle.mm_base.proofs.commands.change.Goals as goal
 pub make-requires-clause-apart : goal.make-requires-clause-apart
 make-requires-clause-apart c =
     (lawful_here c.args.tables.now.tables c.args.table c.args.edits.now c.requires.within c.requires.lawful c.requires.command).apart
-
-pub make-requires-clause-capacity : goal.make-requires-clause-capacity
-make-requires-clause-capacity c d = HasRoomFor-any c.args.edits.now _ (c.requires.capacity d)
 
 pub returns-then-not-make-clause-due : goal.returns-then-not-make-clause-due
 returns-then-not-make-clause-due c =
