@@ -6,12 +6,12 @@ use Rattle.std.proofs.lemmas.List.{get_or-map, length-map}
 use Rattle.std.proofs.lemmas.List.Elements.{All-map}
 use Rattle.std.proofs.lemmas.List.Sums.{get_or-le-sum_by}
 use Rattle.mm_partition.specs.Places.{slot_at}
-use Rattle.mm_relation.specs.Edits.{edit_name, named}
-use Rattle.mm_relation.specs.Kept.{IsKept, StoredRows}
-use Rattle.mm_relation.specs.Refs.{row_at}
-use Rattle.mm_relation.specs.RowLists.{rows_of}
-use Rattle.mm_relation.specs.declared.indexes.names.Side.TheVariants.{Old}
+use Rattle.mm_store.specs.RowEdits.{old_refs}
+use Rattle.mm_indexed.specs.Kept.{StoredRows}
+use Rattle.mm_row_order.specs.Refs.{row_at}
+use Rattle.mm_indexed.specs.RowLists.{rows_of}
 use Rattle.mm_store.proofs.Shown.{table_seen}
+use Rattle.mm_store.specs.Joined.{IsTable}
 use Rattle.mm_store.specs.Seen.{Seen}
 use Rattle.mm_store.specs.Tables.{IsAt, Tables, rows_with}
 use Rattle.mm_value.specs.declared.row_ref.RowRef.{RowRef}
@@ -48,19 +48,19 @@ module _ (seen : Seen) (changes : List TableChange) (table : ℕ) (stored : Stor
     abbrev store : Tables
     store = seen.store
 
-    was : IsKept stored.places.types stored.key (slot_at stored.places) stored.refs stored.indexes
-    was = (table_seen seen table stored at).kept
+    is_table : IsTable stored
+    is_table = table_seen seen table stored at
 
     -- A row that goes is one before the change.
     pub gone_are_rows : All (IsRowOf store changes table) (gone_at store changes table)
     gone_are_rows =
         subst (All (IsRowOf store changes table)) (sym (gone_is store changes table stored at))
-        (All-map (IsRowOf store changes table) (row_at (slot_at stored.places)) (named edit_name Old (edits_at changes table))
+        (All-map (IsRowOf store changes table) (row_at (slot_at stored.places)) (old_refs (edits_at changes table))
         (λ k d within.
-        let gone : RowRef = get_or (named edit_name Old (edits_at changes table)) k d in
+        let gone : RowRef = get_or (old_refs (edits_at changes table)) k d in
         let before_is : before_at store table ≡ rows_of stored = ap (λ o. option_map_or rows_of o []) at in
         inl (subst (λ l. Contains l (row_at (slot_at stored.places) gone)) (sym before_is)
-        (mapped_there (row_at (slot_at stored.places)) stored.refs gone ((was.held gone).1 ((fit table stored at).standing.live k d within))))))
+        (mapped_there (row_at (slot_at stored.places)) stored.refs gone ((is_table.kept.held gone).1 ((fit table stored at).standing.live k d within))))))
 
     -- A row that comes is one after it.
     pub come_are_rows : All (IsRowOf store changes table) (come_at changes table)
@@ -72,6 +72,6 @@ module _ (seen : Seen) (changes : List TableChange) (table : ℕ) (stored : Stor
         (omega (
           arith,
           ap (count_of row) after_is,
-          after_edits stored was (edits_at changes table) (fit table stored at) (λ r. cond (same_row row r) 1 0),
+          after_edits stored is_table (edits_at changes table) (fit table stored at) (λ r. cond (same_row row r) 1 0),
           counted_there (come_at changes table) k d within,
         )))

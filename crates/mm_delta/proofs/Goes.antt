@@ -1,124 +1,167 @@
 -- The rows that stay and those that come are the rows after the edits.
-use Rattle.std.proofs.Common.{◌≡◌, ◌≢◌, ℕ, ◌+◌, true, false, not, cond, ◌||◌, List, [], ◌∷◌, ◌++◌, get_or, map, inl, inr, refl, sym, ap, ◌∙◌, arith, zero-add}
-use Rattle.std.specs.List.{All, AllPairs, filter, list_any, sum_by}
+use Rattle.std.proofs.Common.{◌≡◌, ◌≢◌, ℕ, ◌+◌, Bool, true, false, not, cond, ◌||◌, List, [], ◌∷◌, ◌++◌, append-nil, get_or, map, inl, inr}
+use Rattle.std.proofs.Common.{refl, sym, ap, ap₂, ◌∙◌, subst, arith}
+use Rattle.std.specs.List.{All, AllPairs, Contains, filter, filter_map, list_any, sum_by}
 use Rattle.std.specs.List.Sorted.{IsPermutation}
-use Rattle.std.proofs.lemmas.Bool.{cases_Bool}
-use Rattle.std.proofs.lemmas.List.Elements.{All-head, All-tail}
-use Rattle.std.proofs.lemmas.List.Folds.{list_any_at, list_any_none}
-use Rattle.std.proofs.lemmas.List.Sums.{sum_by-append, sum_by-cons}
-use Rattle.std.proofs.lemmas.List.Sorted.{sum_by-IsPermutation}
-use Rattle.mm_order.proofs.Pairs.{AllPairs-append_across}
+use Rattle.std.specs.Ordering.{is_eq}
+use Rattle.std.proofs.lemmas.Bool.{cases_Bool, false≢true}
+use Rattle.std.proofs.lemmas.Cmp.{tied_itself}
+use Rattle.std.proofs.lemmas.List.Elements.{All-contains, All-head, All-tail, Contains-append_cases, Contains-append_left, Contains-append_right}
+use Rattle.std.proofs.lemmas.List.Elements.{Contains-get_or}
+use Rattle.std.proofs.lemmas.List.Folds.{Any-from_list_any, list_any_at}
+use Rattle.std.proofs.lemmas.List.Kept.{AllPairs-filter}
+use Rattle.std.proofs.lemmas.List.Sums.{sum_by-append}
+use Rattle.std.proofs.lemmas.List.Sorted.{IsPermutation-refl, sum_by-IsPermutation}
+use Rattle.mm_base.proofs.References.{IsPermutation-same, in_filter, out_of_filter}
+use Rattle.mm_indexed.proofs.Building.{distinct}
+use Rattle.mm_indexed.proofs.RefTests.{same_from_test, test_from_same}
+use Rattle.mm_indexed.specs.Kept.{StoredRows}
+use Rattle.mm_indexed.specs.RowLists.{rows_of}
+use Rattle.mm_order.proofs.Filtered.{filter-all}
+use Rattle.mm_order.proofs.Pairs.{AllPairs-append}
 use Rattle.mm_partition.specs.Places.{slot_at}
-use Rattle.mm_relation.specs.Before.{same_ref}
-use Rattle.mm_relation.specs.Edits.{new_rows}
-use Rattle.mm_relation.specs.Kept.{IsKept, StoredRows, rows_after}
-use Rattle.mm_relation.specs.Refs.{Slots, row_at}
-use Rattle.mm_relation.specs.RowLists.{rows_of}
-use Rattle.mm_relation.specs.declared.edits.Edit.{Edit}
-use Rattle.mm_relation.specs.declared.edits.Edit.TheVariants.{Add, Swap, Gone}
-use Rattle.mm_relation.proofs.Apply.{split}
-use Rattle.mm_relation.proofs.Changed.{olds}
-use Rattle.mm_relation.proofs.Phase.{distinct}
-use Rattle.mm_relation.proofs.RefTests.{same_from_test, test_from_same}
-use Rattle.mm_relation.proofs.RowLists.{IsPermutation-changed}
-use Rattle.mm_relation.proofs.Steps.{AllPairs-permutation}
+use Rattle.mm_row_order.specs.Refs.{HasRow, Slots, row_at}
+use Rattle.mm_schema.proofs.Duplicates.{column_cmp_total}
+use Rattle.mm_schema.proofs.InOrder.{IsPermutation-in_order}
+use Rattle.mm_schema.proofs.Orderings.{equal_from_is_eq}
+use Rattle.mm_schema.specs.Rows.{Pair, changed, column_cmp, goes, same_in_column, unsorted}
+use Rattle.mm_store.proofs.RowLists.{come}
+use Rattle.mm_store.specs.Joined.{IsTable}
+use Rattle.mm_store.specs.RowEdits.{edit_pairs, new_rows, old_refs}
 use Rattle.mm_store.specs.Tables.{AreFit, rows_with}
+use Rattle.mm_store.specs.declared.edit.Edit.{Edit}
+use Rattle.mm_store.specs.declared.edit.Edit.TheVariants.{Add, Swap, Gone}
+use Rattle.mm_tables.specs.Edits.{same_ref}
 use Rattle.mm_value.specs.declared.row_ref.RowRef.{RowRef}
 use Rattle.mm_value.specs.declared.values.Value.{Value}
 use Rattle.mm_delta.specs.Steps.{stays, takes}
-use Rattle.mm_delta.proofs.SumOfTerms.{sum_by-filter}
+use Rattle.mm_delta.proofs.Product.{filter-map}
 use Rattle.mm_delta.proofs.Sums.{Balance, sum_by-map}
 
--- ---- sums over lists of which something holds of all
+-- Two tests that agree at each element of a list keep the same of it.
+pub filter_same : {X : Type 0} (p q : X → Bool) (xs : List X) → All (λ x. p x ≡ q x) xs → filter p xs ≡ filter q xs
+filter_same p q [] all = refl
+filter_same p q (x ∷ xs) all =
+    λ i. cond (All-head (λ y. p y ≡ q y) x xs all i) (x ∷ filter_same p q xs (All-tail (λ y. p y ≡ q y) x xs all) i)
+    (filter_same p q xs (All-tail (λ y. p y ≡ q y) x xs all) i)
 
-sum_of_all : {X : Type 0} (f g : X → ℕ) (xs : List X) → All (λ x. f x ≡ g x) xs → sum_by f xs ≡ sum_by g xs
-sum_of_all f g [] all = refl
-sum_of_all f g (x ∷ xs) all =
-    sum_by-cons f x xs ∙ (λ i. All-head (λ y. f y ≡ g y) x xs all i + sum_of_all f g xs (All-tail (λ y. f y ≡ g y) x xs all) i) ∙ sym (sum_by-cons g x xs)
-
-sum_of_none : {X : Type 0} (f : X → ℕ) (xs : List X) → All (λ x. f x ≡ 0) xs → sum_by f xs ≡ 0
-sum_of_none f [] all = refl
-sum_of_none f (x ∷ xs) all =
-    sum_by-cons f x xs ∙ (λ i. All-head (λ y. f y ≡ 0) x xs all i + sum_of_none f xs (All-tail (λ y. f y ≡ 0) x xs all) i)
+-- Changed rows are those before they are sorted, in some order.
+changed_moved : (key : ℕ) (pairs : List Pair) (rows : List (List Value)) → IsPermutation (unsorted key pairs rows) (changed key pairs rows)
+changed_moved key [] rows =
+    subst (λ xs. IsPermutation xs rows) (sym (append-nil (filter (λ _. true) rows) ∙ filter-all (λ _. true) rows (λ k d within. refl)))
+    (IsPermutation-refl rows)
+changed_moved key (p ∷ ps) rows = IsPermutation-in_order (column_cmp key) (unsorted key (p ∷ ps) rows)
 
 -- ---- the references that edits take
 
-takes_named : (edits : List Edit) (at : RowRef) → list_any (takes at) edits ≡ list_any (λ (r : RowRef). same_ref r at) (olds edits)
+takes_named : (edits : List Edit) (at : RowRef) → list_any (takes at) edits ≡ list_any (λ (r : RowRef). same_ref r at) (old_refs edits)
 takes_named [] at = refl
 takes_named (Add row ∷ edits) at = takes_named edits at
 takes_named (Swap r row ∷ edits) at = ap (λ b. same_ref r at || b) (takes_named edits at)
 takes_named (Gone r ∷ edits) at = ap (λ b. same_ref r at || b) (takes_named edits at)
 
-apart_turned : (a b : RowRef) → a ≢ b → b ≢ a
-apart_turned a b apart same = apart (sym same)
-
-module _ (stored : StoredRows) (was : IsKept stored.places.types stored.key (slot_at stored.places) stored.refs stored.indexes)
-    (edits : List Edit) (fit : AreFit stored edits) where
+module _ (stored : StoredRows) (is_table : IsTable stored) where
   abbrev now : Slots
   now = slot_at stored.places
 
-  kept : List RowRef
-  kept = (split stored.places.types stored.key now stored.refs stored.indexes was edits fit.standing).0
+  -- A row in use has the key of another where it is the same row.
+  same_test : (at r : RowRef) → HasRow now at → HasRow now r → same_in_column stored.key (row_at now at) (row_at now r) ≡ same_ref r at
+  same_test at r live there =
+      elim (cases_Bool (same_ref r at)) [
+        | inl met ↦ ap (λ x. same_in_column stored.key (row_at now at) (row_at now x)) (same_from_test r at met)
+            ∙ (ap is_eq (tied_itself (column_cmp_total stored.key) (row_at now at)) ∙ sym met)
+        | inr unmet ↦ elim (cases_Bool (same_in_column stored.key (row_at now at) (row_at now r))) [
+          | inl tied ↦ absurd (is_table.apart r there (
+            at,
+            live,
+            λ same. false≢true (sym unmet ∙ test_from_same r at (sym same)),
+            equal_from_is_eq (column_cmp stored.key (row_at now at) (row_at now r)) tied,
+          ))
+          | inr apart ↦ apart ∙ sym unmet
+        ]
+      ]
 
-  same : IsPermutation stored.refs (olds edits ++ kept)
-  unfolding kept
-  same = (split stored.places.types stored.key now stored.refs stored.indexes was edits fit.standing).1
+  -- So it goes where an edit takes it.
+  goes_taken : (at : RowRef) → HasRow now at → (edits : List Edit) → All (HasRow now) (old_refs edits)
+      → list_any (λ (p : Pair). goes stored.key (row_at now at) p.0) (edit_pairs now edits) ≡ list_any (takes at) edits
+  goes_taken at live [] all = refl
+  goes_taken at live (Add row ∷ edits) all = goes_taken at live edits all
+  goes_taken at live (Swap r row ∷ edits) all =
+      ap₂ (λ a b. a || b) (same_test at r live (All-head (HasRow now) r (old_refs edits) all))
+      (goes_taken at live edits (All-tail (HasRow now) r (old_refs edits) all))
+  goes_taken at live (Gone r ∷ edits) all =
+      ap₂ (λ a b. a || b) (same_test at r live (All-head (HasRow now) r (old_refs edits) all))
+      (goes_taken at live edits (All-tail (HasRow now) r (old_refs edits) all))
 
-  apart : AllPairs (λ a b. a ≢ b) (olds edits ++ kept)
-  apart = AllPairs-permutation (λ a b. a ≢ b) apart_turned stored.refs (olds edits ++ kept) same (distinct stored.key now stored.refs was.by_key)
+  module _ (edits : List Edit) (fit : AreFit stored edits) where
+    abbrev kept : List RowRef
+    kept = filter (stays edits) stored.refs
 
-  gone_taken : All (λ at. stays edits at ≡ false) (olds edits)
-  gone_taken k d within =
-      let at : RowRef = get_or (olds edits) k d in
-      ap not (takes_named edits at ∙ list_any_at (λ (r : RowRef). same_ref r at) (olds edits) k d within (test_from_same at at refl))
+    -- Before they are sorted, the rows after the edits are those that stay and those that come.
+    unsorted_is : unsorted stored.key (edit_pairs now edits) (rows_of stored) ≡ map (row_at now) kept ++ new_rows edits
+    unsorted_is =
+        let stays_in : List Value → Bool = λ row. not (list_any (λ (p : Pair). goes stored.key row p.0) (edit_pairs now edits)) in
+        ap₂ (λ (xs ys : List (List Value)). xs ++ ys)
+        (filter-map stays_in (row_at now) stored.refs
+        ∙ ap (map (row_at now)) (filter_same (λ at. stays_in (row_at now at)) (stays edits) stored.refs
+        (λ k d within.
+        let at : RowRef = get_or stored.refs k d in
+        ap not (goes_taken at ((is_table.kept.held at).0 (Contains-get_or stored.refs k d within)) edits fit.standing.live))))
+        (come now edits)
 
-  kept_stay : All (λ at. stays edits at ≡ true) kept
-  kept_stay k d within =
-      let at : RowRef = get_or kept k d in
-      ap not (takes_named edits at ∙ list_any_none (λ (r : RowRef). same_ref r at) (olds edits)
-      (λ i e below.
-      elim (cases_Bool (same_ref (get_or (olds edits) i e) at)) [
-        | inl met ↦ absurd (AllPairs-append_across (λ a b. a ≢ b) (olds edits) kept apart i e below k d within
-            (same_from_test (get_or (olds edits) i e) at met))
-        | inr unmet ↦ unmet
-      ]))
+    -- The rows after the edits are those that come and those that stay.
+    pub after_edits : (f : List Value → ℕ) → sum_by f (rows_with stored edits) ≡ sum_by f (map (row_at now) kept) + sum_by f (new_rows edits)
+    after_edits f =
+        sum_by-IsPermutation f (unsorted stored.key (edit_pairs now edits) (rows_of stored)) (rows_with stored edits)
+        (changed_moved stored.key (edit_pairs now edits) (rows_of stored))
+        ∙ ap (sum_by f) unsorted_is
+        ∙ sum_by-append f (map (row_at now) kept) (new_rows edits)
 
-  -- What stays in sum is what is kept.
-  sum_staying : (g : RowRef → ℕ) → sum_by g (filter (stays edits) stored.refs) ≡ sum_by g kept
-  sum_staying g =
-      let h : RowRef → ℕ = λ at. cond (stays edits at) (g at) 0 in
-      sum_by-filter g (stays edits) stored.refs
-      ∙ sym (sum_by-IsPermutation h stored.refs (olds edits ++ kept) same)
-      ∙ sum_by-append h (olds edits) kept
-      ∙ (λ i. sum_of_none h (olds edits) (λ k d within. ap (λ b. cond b (g (get_or (olds edits) k d)) 0) (gone_taken k d within)) i
-      + sum_of_all h g kept (λ k d within. ap (λ b. cond b (g (get_or kept k d)) 0) (kept_stay k d within)) i)
-      ∙ zero-add (sum_by g kept)
+    gone_taken : (at : RowRef) → Contains (old_refs edits) at → stays edits at ≡ false
+    gone_taken at (k, within, is) =
+        ap not (takes_named edits at
+        ∙ list_any_at (λ (r : RowRef). same_ref r at) (old_refs edits) k at within (test_from_same (get_or (old_refs edits) k at) at is))
 
-  -- The rows after the edits are those that come and those that stay.
-  pub after_edits : (f : List Value → ℕ) → sum_by f (rows_with stored edits)
-      ≡ sum_by f (map (row_at now) (filter (stays edits) stored.refs)) + sum_by f (new_rows edits)
-  after_edits f =
-      omega (
-        arith,
-        sum_by-IsPermutation f (rows_after now edits kept) (rows_with stored edits)
-            (IsPermutation-changed stored.key now stored.refs was.by_key edits kept same),
-        sum_by-append f (new_rows edits) (map (row_at now) kept),
-        sum_by-map f (row_at now) kept,
-        sum_by-map f (row_at now) (filter (stays edits) stored.refs),
-        sum_staying (λ at. f (row_at now at)),
-      )
+    stay_apart : (at : RowRef) → Contains (old_refs edits) at → Contains kept at → ⊥
+    stay_apart at goes here = false≢true (sym (gone_taken at goes) ∙ (out_of_filter (stays edits) stored.refs at here).1)
 
-  -- The rows after the edits and those that go are in sum the rows before them and those that come.
-  pub edits_balance : Balance (rows_with stored edits) (map (row_at now) (olds edits)) (rows_of stored) (new_rows edits)
-  edits_balance f =
-      omega (
-        arith,
-        sum_by-IsPermutation f (rows_after now edits kept) (rows_with stored edits)
-            (IsPermutation-changed stored.key now stored.refs was.by_key edits kept same),
-        sum_by-append f (new_rows edits) (map (row_at now) kept),
-        sum_by-map f (row_at now) kept,
-        sum_by-map f (row_at now) (olds edits),
-        sum_by-map f (row_at now) stored.refs,
-        sum_by-IsPermutation (λ at. f (row_at now at)) stored.refs (olds edits ++ kept) same,
-        sum_by-append (λ at. f (row_at now at)) (olds edits) kept,
-      )
+    -- A reference that no edit takes stays.
+    cases : (at : RowRef) → Contains stored.refs at → Contains (old_refs edits ++ kept) at
+    cases at here =
+        elim (cases_Bool (list_any (λ (r : RowRef). same_ref r at) (old_refs edits))) [
+          | inl met ↦
+              let found = Any-from_list_any (λ (r : RowRef). same_ref r at) (old_refs edits) met in
+              Contains-append_left (old_refs edits) kept at
+              (subst (Contains (old_refs edits)) (same_from_test found.1 at found.4) (found.0, found.2, found.3))
+          | inr unmet ↦ Contains-append_right (old_refs edits) kept at
+              (in_filter (stays edits) stored.refs at here (ap not (takes_named edits at ∙ unmet)))
+        ]
+
+    -- The references of the rows that go and of those that stay are those of all rows.
+    same : IsPermutation stored.refs (old_refs edits ++ kept)
+    same =
+        let all : AllPairs (λ a b. a ≢ b) stored.refs = distinct stored.key now stored.refs is_table.kept.by_key in
+        IsPermutation-same stored.refs (old_refs edits ++ kept) all
+        (AllPairs-append (λ (a b : RowRef). a ≢ b) (old_refs edits) kept fit.standing.apart (AllPairs-filter (λ a b. a ≢ b) (stays edits) stored.refs all)
+        (λ i e below k d within is.
+        stay_apart (get_or (old_refs edits) i e) (Contains-get_or (old_refs edits) i e below)
+        (subst (Contains kept) (sym is) (Contains-get_or kept k d within))))
+        cases
+        (λ at here.
+        elim (Contains-append_cases (old_refs edits) kept at here) [
+          | inl goes ↦ (is_table.kept.held at).1 (All-contains (HasRow now) (old_refs edits) at fit.standing.live goes)
+          | inr stays_there ↦ (out_of_filter (stays edits) stored.refs at stays_there).0
+        ])
+
+    -- The rows after the edits and those that go are in sum the rows before them and those that come.
+    pub edits_balance : Balance (rows_with stored edits) (map (row_at now) (old_refs edits)) (rows_of stored) (new_rows edits)
+    edits_balance f =
+        omega (
+          arith,
+          after_edits f,
+          sum_by-map f (row_at now) kept,
+          sum_by-map f (row_at now) (old_refs edits),
+          sum_by-map f (row_at now) stored.refs,
+          sum_by-IsPermutation (λ at. f (row_at now at)) stored.refs (old_refs edits ++ kept) same,
+          sum_by-append (λ at. f (row_at now at)) (old_refs edits) kept,
+        )

@@ -8,9 +8,9 @@ use Rattle.std.proofs.lemmas.List.Sorted.{IsPermutation-refl}
 use Rattle.mm_partition.specs.Places.{AreRowsStorable, slot_at}
 use Rattle.mm_query.specs.Atoms.{value_in}
 use Rattle.mm_query.proofs.Storables.{value_in_storable}
-use Rattle.mm_relation.specs.Kept.{StoredRows}
-use Rattle.mm_relation.specs.Refs.{row_at}
-use Rattle.mm_relation.proofs.Storables.{row_storable}
+use Rattle.mm_indexed.specs.Kept.{StoredRows}
+use Rattle.mm_row_order.specs.Refs.{row_at}
+use Rattle.mm_store.proofs.Storables.{row_storable}
 use Rattle.mm_value.specs.Equality.{same_value}
 use Rattle.mm_value.specs.Storable.{AreStorable, IsStorable}
 use Rattle.mm_value.specs.declared.row_ref.RowRef.{RowRef}

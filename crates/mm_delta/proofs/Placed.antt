@@ -9,13 +9,14 @@ use Rattle.std.proofs.lemmas.List.Elements.{filter_map-append}
 use Rattle.std.proofs.lemmas.List.Sums.{sum_by-append}
 use Rattle.std.proofs.lemmas.List.Sorted.{length_permutation, sum_by-IsPermutation}
 use Rattle.mm_partition.specs.Places.{slot_at}
-use Rattle.mm_relation.specs.Edits.{new_rows}
-use Rattle.mm_relation.specs.Kept.{IsKept, StoredRows}
-use Rattle.mm_relation.specs.Refs.{Slots, row_at}
-use Rattle.mm_relation.specs.RowLists.{rows_of}
-use Rattle.mm_relation.specs.declared.edits.Edit.{Edit}
-use Rattle.mm_relation.specs.declared.edits.Edit.TheVariants.{Add, Swap, Gone}
+use Rattle.mm_store.specs.RowEdits.{new_rows}
+use Rattle.mm_indexed.specs.Kept.{StoredRows}
+use Rattle.mm_row_order.specs.Refs.{Slots, row_at}
+use Rattle.mm_indexed.specs.RowLists.{rows_of}
+use Rattle.mm_store.specs.declared.edit.Edit.{Edit}
+use Rattle.mm_store.specs.declared.edit.Edit.TheVariants.{Add, Swap, Gone}
 use Rattle.mm_store.proofs.Shown.{table_seen}
+use Rattle.mm_store.specs.Joined.{IsTable}
 use Rattle.mm_store.specs.Seen.{Seen}
 use Rattle.mm_store.specs.Tables.{AreFit, IsAt, Tables, rows_with}
 use Rattle.mm_value.specs.declared.row_ref.RowRef.{RowRef}
@@ -91,8 +92,8 @@ swapped true false n = refl
 swapped false true n = refl
 swapped false false n = refl
 
-module _ (stored : StoredRows) (was : IsKept stored.places.types stored.key (slot_at stored.places) stored.refs stored.indexes) (r : Option Required)
-    (refs : List RowRef) (found : IsPermutation refs (filter (λ at. passes r (row_at (slot_at stored.places) at)) stored.refs)) where
+module _ (stored : StoredRows) (is_table : IsTable stored) (r : Option Required) (refs : List RowRef)
+    (found : IsPermutation refs (filter (λ at. passes r (row_at (slot_at stored.places) at)) stored.refs)) where
   abbrev now : Slots
   now = slot_at stored.places
 
@@ -118,7 +119,7 @@ module _ (stored : StoredRows) (was : IsKept stored.places.types stored.key (slo
             (λ at. swapped (test at) (stays edits at) (f (row_at now at))),
         sum_by-filter (λ at. g (row_at now at)) (stays edits) stored.refs,
         sum_by-map g (row_at now) (filter (stays edits) stored.refs),
-        after_edits stored was edits fit g,
+        after_edits stored is_table edits fit g,
         sum_by-filter f (passes r) (rows_with stored edits),
         sum_by-filter f (passes r) (new_rows edits),
       )
@@ -148,6 +149,6 @@ few_read seen table stored at r r' refs found same edits left is =
       arith,
       ap length is,
       fewer (stays edits) refs,
-      found_count stored (table_seen seen table stored at).kept r refs found,
+      found_count stored (table_seen seen table stored at) r refs found,
       alike,
     )

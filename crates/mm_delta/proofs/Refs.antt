@@ -8,12 +8,12 @@ use Rattle.std.specs.Ordering.{is_eq}
 use Rattle.std.proofs.lemmas.List.Elements.{All-filter, All-head, All-tail, Contains-get_or}
 use Rattle.std.proofs.lemmas.List.Sorted.{All-permutation, IsPermutation-sym}
 use Rattle.std.proofs.lemmas.Option.{slice_get-get_or}
-use Rattle.mm_partition.specs.Places.{IsLive, slot_at}
-use Rattle.mm_relation.proofs.Typed.{HasTypes-length}
-use Rattle.mm_relation.specs.Kept.{IsKept, StoredRows}
-use Rattle.mm_relation.specs.Reads.{Appends, AreMatches, IsRange, has_value}
-use Rattle.mm_relation.specs.Refs.{Slots, row_at, row_in}
-use Rattle.mm_relation.specs.declared.indexes.index.Index.{Index}
+use Rattle.mm_partition.specs.Places.{IsLive, slot_at, row_in}
+use Rattle.mm_indexed.proofs.Typed.{HasTypes-length}
+use Rattle.mm_indexed.specs.Kept.{IsKept, StoredRows}
+use Rattle.mm_indexed.specs.Reads.{Appends, AreMatches, IsRange, has_value}
+use Rattle.mm_row_order.specs.Refs.{Slots, row_at}
+use Rattle.mm_indexed.specs.declared.indexes.index.Index.{Index}
 use Rattle.mm_store.specs.Looked.{IsIndexOn}
 use Rattle.mm_store.specs.declared.index_ref.IndexRef.{IndexRef}
 use Rattle.mm_store.specs.declared.index_ref.IndexRef.TheVariants.{Key, Tree, Hash}
@@ -22,13 +22,8 @@ use Rattle.mm_value.specs.declared.row_ref.RowRef.{RowRef}
 use Rattle.mm_value.specs.declared.values.Value.{Value}
 use Rattle.mm_value.specs.declared.values.Value.TheVariants.{Int}
 use Rattle.mm_delta.specs.Candidates.{Required, passes}
+use Rattle.mm_delta.proofs.Goes.{filter_same}
 use Rattle.mm_store.proofs.Looked.{any_of}
-
-filter_same : {X : Type 0} (p q : X → Bool) (xs : List X) → All (λ x. p x ≡ q x) xs → filter p xs ≡ filter q xs
-filter_same p q [] all = refl
-filter_same p q (x ∷ xs) all =
-    λ i. cond (All-head (λ y. p y ≡ q y) x xs all i) (x ∷ filter_same p q xs (All-tail (λ y. p y ≡ q y) x xs all) i)
-    (filter_same p q xs (All-tail (λ y. p y ≡ q y) x xs all) i)
 
 filter_everything : {X : Type 0} (xs : List X) → filter (λ x. true) xs ≡ xs
 filter_everything [] = refl

@@ -8,13 +8,13 @@ use Rattle.std.proofs.lemmas.List.{length-map}
 use Rattle.std.proofs.lemmas.List.FromFn.{map-range_with_len_more}
 use Rattle.std.proofs.lemmas.List.Sums.{sum_by-append, sum_by-cons, sum_by_push}
 use Rattle.mm_partition.specs.Places.{slot_at}
-use Rattle.mm_relation.specs.Edits.{edit_name, named, new_rows}
-use Rattle.mm_relation.specs.Kept.{IsKept, StoredRows}
-use Rattle.mm_relation.specs.Refs.{row_at}
-use Rattle.mm_relation.specs.RowLists.{rows_of}
-use Rattle.mm_relation.specs.declared.edits.Edit.{Edit}
-use Rattle.mm_relation.specs.declared.edits.Edit.TheVariants.{Add, Swap, Gone}
-use Rattle.mm_relation.specs.declared.indexes.names.Side.TheVariants.{Old}
+use Rattle.mm_store.specs.Joined.{IsTable}
+use Rattle.mm_store.specs.RowEdits.{old_refs, new_rows}
+use Rattle.mm_indexed.specs.Kept.{StoredRows}
+use Rattle.mm_row_order.specs.Refs.{row_at}
+use Rattle.mm_indexed.specs.RowLists.{rows_of}
+use Rattle.mm_store.specs.declared.edit.Edit.{Edit}
+use Rattle.mm_store.specs.declared.edit.Edit.TheVariants.{Add, Swap, Gone}
 use Rattle.mm_store.specs.Tables.{IsAt, Tables, rows_with}
 use Rattle.mm_value.specs.declared.values.Value.{Value}
 use Rattle.mm_query.specs.Queries.{bag_of}
@@ -42,15 +42,15 @@ all_come (Gone at ∷ edits) = all_come edits
 
 -- The rows that go, by the relation of the table.
 pub gone_is : (store : Tables) (changes : List TableChange) (table : ℕ) (stored : StoredRows) → IsAt store table stored
-    → gone_at store changes table ≡ map (row_at (slot_at stored.places)) (named edit_name Old (edits_at changes table))
+    → gone_at store changes table ≡ map (row_at (slot_at stored.places)) (old_refs (edits_at changes table))
 gone_is store changes table stored at =
-    ap (λ o. option_map_or (λ (s : StoredRows). map (row_at (slot_at s.places)) (named edit_name Old (edits_at changes table))) o []) at
+    ap (λ o. option_map_or (λ (s : StoredRows). map (row_at (slot_at s.places)) (old_refs (edits_at changes table))) o []) at
 
 -- The rows of a table after the change and those that go are those before it and those that come.
 pub table_balance : (store : Tables) (changes : List TableChange) (table : ℕ) (stored : StoredRows) → IsAt store table stored
-    → IsKept stored.places.types stored.key (slot_at stored.places) stored.refs stored.indexes → EachFit store changes
+    → IsTable stored → EachFit store changes
     → Balance (after_at store changes table) (gone_at store changes table) (before_at store table) (come_at changes table)
-table_balance store changes table stored at was fit f =
+table_balance store changes table stored at is_table fit f =
     let after_is : after_at store changes table ≡ rows_with stored (edits_at changes table) =
     ap (λ o. option_map_or (λ (s : StoredRows). rows_with s (edits_at changes table)) o []) at in
     let before_is : before_at store table ≡ rows_of stored = ap (λ o. option_map_or rows_of o []) at in
@@ -59,7 +59,7 @@ table_balance store changes table stored at was fit f =
       ap (sum_by f) after_is,
       ap (sum_by f) before_is,
       ap (sum_by f) (gone_is store changes table stored at),
-      edits_balance stored was (edits_at changes table) (fit table stored at) f,
+      edits_balance stored is_table (edits_at changes table) (fit table stored at) f,
     )
 
 -- ---- the other places
@@ -132,10 +132,10 @@ bound_is f gone come = omega (arith, sum_by-append (λ x. 1 + f x) gone come, on
 
 -- As many rows go as edits name one.
 pub gone_length : (store : Tables) (changes : List TableChange) (table : ℕ) (stored : StoredRows) → IsAt store table stored → (edits : List Edit)
-    → edits ≡ edits_at changes table → length (named edit_name Old edits) ≡ length (gone_at store changes table)
+    → edits ≡ edits_at changes table → length (old_refs edits) ≡ length (gone_at store changes table)
 gone_length store changes table stored at edits is =
-    ap (λ e. length (named edit_name Old e)) is
-    ∙ sym (ap length (gone_is store changes table stored at) ∙ length-map (named edit_name Old (edits_at changes table)) (row_at (slot_at stored.places)))
+    ap (λ e. length (old_refs e)) is
+    ∙ sym (ap length (gone_is store changes table stored at) ∙ length-map (old_refs (edits_at changes table)) (row_at (slot_at stored.places)))
 
 -- ---- place by place
 
@@ -172,16 +172,16 @@ module _ (q : BoundQuery) (store : Tables) (changes : List TableChange) (tables 
 
   -- One place more.
   pub counts_more : (k : ℕ) (stored : StoredRows) (first comes comes' goes goes' : ℕ) → k < length tables → IsAt store (get_or tables k 0) stored
-      → IsKept stored.places.types stored.key (slot_at stored.places) stored.refs stored.indexes → EachFit store changes
+      → IsTable stored → EachFit store changes
       → comes + first ≡ goes + halfway k → comes' + goes + added (gone_at store changes) k ≡ goes' + comes + added (come_at changes) k
       → comes' + first ≡ goes' + halfway (k + 1)
-  counts_more k stored first comes comes' goes goes' within at was fit so_far net =
+  counts_more k stored first comes comes' goes goes' within at is_table fit so_far net =
       omega (
         arith,
         so_far,
         net,
         one_place 0 q (before_at store) (after_at store changes) (gone_at store changes) (come_at changes) tables row k within
-            (table_balance store changes (get_or tables k 0) stored at was fit),
+            (table_balance store changes (get_or tables k 0) stored at is_table fit),
         ap halfway (next k),
       )
     where

@@ -1,12 +1,13 @@
 -- Edits that a query does not see change nothing of its bag.
 use Rattle.std.proofs.Common.{◌≡◌, ℕ, zero, suc, ◌+◌, ◌<◌, ◌≤◌, ◌==◌, ◌&&◌, ◌||◌, Bool, true, false, cond, not, pos, Some, None, List, [], ◌∷◌, ◌++◌, drop}
-use Rattle.std.proofs.Common.{get_or, length, map, take, inl, inr, refl, sym, ap, ◌∙◌, arith, length-take}
+use Rattle.std.proofs.Common.{get_or, length, map, take, ⊎_elim, inl, inr, refl, sym, ap, ◌∙◌, arith, length-take}
 use Rattle.std.specs.List.{All, cons_option, filter_map, list_all, sum_by}
 use Rattle.std.specs.Option.{option_map, option_map_or, unwrap_or}
 use Rattle.std.proofs.lemmas.Bool.{and_parts, cases_Bool, eq-eqb, eqb-true}
 use Rattle.std.proofs.lemmas.List.{length-append, length-map, take-append-drop, take_more}
-use Rattle.std.proofs.lemmas.List.Elements.{All-cons, All-head, All-nil, All-tail, filter_map-append}
+use Rattle.std.proofs.lemmas.List.Elements.{All-cons, All-contains, All-head, All-nil, All-tail, Contains-get_or, filter_map-append}
 use Rattle.std.proofs.lemmas.List.Sums.{sum_by-cons}
+use Rattle.mm_base.proofs.References.{in_filter_map, none_in, one_of as first_or_later, out_of_filter_map}
 use Rattle.mm_value.proofs.SameRows.{values_exact}
 use Rattle.mm_value.specs.Equality.{same_value}
 use Rattle.mm_value.specs.declared.values.Value.{Value}
@@ -20,11 +21,11 @@ use Rattle.mm_query.specs.declared.atom.Operand.TheVariants.{Literal, Column, Sh
 use Rattle.mm_query.specs.declared.bound_query.BoundQuery.{BoundQuery}
 use Rattle.mm_query.specs.declared.bound_query.FieldPlace.{FieldPlace}
 use Rattle.mm_multiset.specs.Counts.{count_of}
-use Rattle.mm_relation.specs.Edits.{edit_name, named, new_rows}
-use Rattle.mm_relation.specs.Refs.{Slots, row_at}
-use Rattle.mm_relation.specs.declared.edits.Edit.{Edit}
-use Rattle.mm_relation.specs.declared.edits.Edit.TheVariants.{Add, Swap, Gone}
-use Rattle.mm_relation.specs.declared.indexes.names.Side.TheVariants.{Old}
+use Rattle.mm_store.specs.RowEdits.{old_ref, old_refs, new_rows}
+use Rattle.mm_row_order.specs.Refs.{Slots, row_at}
+use Rattle.mm_value.specs.declared.row_ref.RowRef.{RowRef}
+use Rattle.mm_store.specs.declared.edit.Edit.{Edit}
+use Rattle.mm_store.specs.declared.edit.Edit.TheVariants.{Add, Swap, Gone}
 use Rattle.mm_delta.specs.Terms.{lists_around}
 use Rattle.mm_delta.specs.Unseen.{agree_for, agree_in, come_seen, gone_seen, looks_alike}
 use Rattle.mm_delta.proofs.Found.{Row, Rows}
@@ -129,7 +130,7 @@ same_count q after before tables k row x y within alike =
 
 module _ (q : BoundQuery) (k : ℕ) (now : Slots) where
   abbrev pub gone : List Edit → Rows
-  gone edits = map (row_at now) (named edit_name Old edits)
+  gone edits = map (row_at now) (old_refs edits)
 
   abbrev pub seen_gone : List Edit → Rows
   seen_gone edits = filter_map (gone_seen q k now) edits
@@ -222,18 +223,27 @@ module _ (q : BoundQuery) (k : ℕ) (now : Slots) where
 
 -- One edit more names as many more references as it names itself, ..
 pub one_named : (edits : List Edit) (i : ℕ) (edit : Edit) → i < length edits → edit ≡ get_or edits i edit
-    → length (named edit_name Old (take (i + 1) edits)) ≡ length (named edit_name Old (take i edits)) + length (named edit_name Old (edit ∷ []))
+    → length (old_refs (take (i + 1) edits)) ≡ length (old_refs (take i edits)) + length (old_refs (edit ∷ []))
 one_named edits i edit inside is =
-    ap (λ es. length (named edit_name Old es)) (take_more edits i edit inside ∙ ap (λ e. take i edits ++ e ∷ []) (sym is))
-    ∙ ap length (filter_map-append (λ e. edit_name e Old) (take i edits) (edit ∷ []))
-    ∙ length-append (named edit_name Old (take i edits)) (named edit_name Old (edit ∷ []))
+    ap (λ es. length (old_refs es)) (take_more edits i edit inside ∙ ap (λ e. take i edits ++ e ∷ []) (sym is))
+    ∙ ap length (filter_map-append old_ref (take i edits) (edit ∷ []))
+    ∙ length-append (old_refs (take i edits)) (old_refs (edit ∷ []))
+
+-- .. what holds of all references that they name holds of its own, ..
+pub one_taken : (P : RowRef → Type 0) (edits : List Edit) (i : ℕ) (edit : Edit) → i < length edits → edit ≡ get_or edits i edit → All P (old_refs edits)
+    → All P (old_refs (edit ∷ []))
+one_taken P edits i edit inside is all k d below =
+    let at : RowRef = get_or (old_refs (edit ∷ [])) k d in
+    let found = out_of_filter_map old_ref (edit ∷ []) at (Contains-get_or (old_refs (edit ∷ [])) k d below) in
+    let same : edit ≡ found.0 = ⊎_elim (λ (is : edit ≡ found.0). is) (λ none. absurd (none_in found.0 none)) (first_or_later found.0 edit [] found.1) in
+    All-contains P (old_refs edits) at all (in_filter_map old_ref edits edit at (i, inside, sym is) (ap old_ref same ∙ found.2))
 
 -- .. and the first ones name no more than all.
-pub first_named : (edits : List Edit) (n : ℕ) → length (named edit_name Old (take n edits)) ≤ length (named edit_name Old edits)
+pub first_named : (edits : List Edit) (n : ℕ) → length (old_refs (take n edits)) ≤ length (old_refs edits)
 first_named edits n =
     omega (
       arith,
-      ap (λ es. length (named edit_name Old es)) (take-append-drop n edits),
-      ap length (filter_map-append (λ e. edit_name e Old) (take n edits) (drop n edits)),
-      length-append (named edit_name Old (take n edits)) (named edit_name Old (drop n edits)),
+      ap (λ es. length (old_refs es)) (take-append-drop n edits),
+      ap length (filter_map-append old_ref (take n edits) (drop n edits)),
+      length-append (old_refs (take n edits)) (old_refs (drop n edits)),
     )

@@ -1,10 +1,9 @@
 -- What is found by hash among the edits of a table.
-use Rattle.std.specs.Prelude.{◌≡◌, ℕ, ℤ, FitsSigned, eqb, List, [], Some, filter_map, map}
+use Rattle.std.specs.Prelude.{◌≡◌, ℕ, ℤ, FitsSigned, eqb, List, [], Some, filter_map, map, Vec}
 use Rattle.std.specs.Int.{w64}
 use Rattle.std.specs.List.{list_any}
 use Rattle.std.specs.Map.{lookup}
 use Rattle.std.specs.Option.{option_map_or}
-use Rattle.std.specs.Prelude.{Vec}
 use Rattle.mm_partition.specs.Reads.{row_read}
 use Rattle.mm_partition.specs.declared.row_read.RowRead.{RowRead}
 use Rattle.mm_value.specs.Equality.{same_value}
@@ -12,7 +11,7 @@ use Rattle.mm_value.specs.declared.row_ref.RowRef.{RowRef}
 use Rattle.mm_value.specs.declared.values.Value.{Value}
 use Rattle.mm_value.specs.declared.values.Value.TheVariants.{Int}
 use Rattle.mm_delta.specs.Steps.{coming, takes}
-use Rattle.mm_relation.specs.declared.edits.Edit.{Edit}
+use Rattle.mm_store.specs.declared.edit.Edit.{Edit}
 
 -- The slots are those of the rows that the edits take away.
 abbrev pub AreGone : List Edit → List ℕ → Type 0

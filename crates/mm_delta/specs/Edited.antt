@@ -3,13 +3,12 @@ use Rattle.std.specs.Prelude.{ℕ, ◌==◌, Bool, false, ◌||◌, List, [], fi
 use Rattle.std.specs.List.{list_any}
 use Rattle.std.specs.Option.{option_map_or}
 use Rattle.mm_partition.specs.Places.{slot_at}
-use Rattle.mm_relation.specs.Edits.{edit_name, named, new_rows}
-use Rattle.mm_relation.specs.Index.{column_of}
-use Rattle.mm_relation.specs.Kept.{StoredRows}
-use Rattle.mm_relation.specs.Refs.{row_at}
-use Rattle.mm_relation.specs.declared.edits.Edit.{Edit}
-use Rattle.mm_relation.specs.declared.indexes.index.Index.{Index}
-use Rattle.mm_relation.specs.declared.indexes.names.Side.TheVariants.{Old}
+use Rattle.mm_store.specs.RowEdits.{new_rows, old_refs}
+use Rattle.mm_indexed.specs.Index.{column_of}
+use Rattle.mm_indexed.specs.Kept.{StoredRows}
+use Rattle.mm_row_order.specs.Refs.{row_at}
+use Rattle.mm_store.specs.declared.edit.Edit.{Edit}
+use Rattle.mm_indexed.specs.declared.indexes.index.Index.{Index}
 use Rattle.mm_store.specs.Tables.{Tables, rows_at, rows_with}
 use Rattle.mm_value.specs.declared.values.Value.{Value}
 use Rattle.mm_delta.specs.Walk.{rows_around}
@@ -30,7 +29,7 @@ after_at store changes table = option_map_or (λ stored. rows_with stored (edits
 -- Its rows that go.
 abbrev pub gone_at : Tables → List TableChange → ℕ → List (List Value)
 gone_at store changes table =
-    option_map_or (λ stored. map (row_at (slot_at stored.places)) (named edit_name Old (edits_at changes table))) (slice_get store.tables table) []
+    option_map_or (λ stored. map (row_at (slot_at stored.places)) (old_refs (edits_at changes table))) (slice_get store.tables table) []
 
 -- The rows that come.
 abbrev pub come_at : List TableChange → ℕ → List (List Value)

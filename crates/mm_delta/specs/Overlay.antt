@@ -1,6 +1,6 @@
 -- The edits that count where rows are looked for.
 use Rattle.std.specs.Prelude.{List}
-use Rattle.mm_relation.specs.declared.edits.Edit.{Edit}
+use Rattle.mm_store.specs.declared.edit.Edit.{Edit}
 use Rattle.mm_delta.specs.declared.overlay.Overlay.{Overlay}
 use Rattle.mm_delta.specs.declared.overlay.Overlay.TheVariants.{Listed, Indexed}
 

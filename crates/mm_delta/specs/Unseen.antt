@@ -10,9 +10,9 @@ use Rattle.mm_query.specs.Resolving.{column_of}
 use Rattle.mm_query.specs.declared.atom.Atom.{Atom}
 use Rattle.mm_query.specs.declared.bound_query.BoundQuery.{BoundQuery}
 use Rattle.mm_query.specs.declared.bound_query.FieldPlace.{FieldPlace}
-use Rattle.mm_relation.specs.Refs.{Slots, row_at}
-use Rattle.mm_relation.specs.declared.edits.Edit.{Edit}
-use Rattle.mm_relation.specs.declared.edits.Edit.TheVariants.{Add, Swap, Gone}
+use Rattle.mm_row_order.specs.Refs.{Slots, row_at}
+use Rattle.mm_store.specs.declared.edit.Edit.{Edit}
+use Rattle.mm_store.specs.declared.edit.Edit.TheVariants.{Add, Swap, Gone}
 
 -- Two rows have the same value in the column of a field, if it is a field of this place of FROM.
 abbrev pub agree_in : ℕ → List Value → List Value → FieldPlace → Bool

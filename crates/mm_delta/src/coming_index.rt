@@ -12,7 +12,7 @@ use crate::edited::row_come;
 use crate::wanted::{Wanted, number_value};
 use indexmap::IndexMap;
 use mm_partition::RowRead;
-use mm_relation::Edit;
+use mm_store::Edit;
 use mm_value::Value;
 use std::alloc::{AllocError, Global};
 

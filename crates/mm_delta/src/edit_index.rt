@@ -12,7 +12,7 @@ use crate::look_up::LookUp;
 use crate::rows::add_coming;
 use indexmap::IndexSet;
 use mm_partition::RowRead;
-use mm_relation::Edit;
+use mm_store::Edit;
 use mm_value::RowRef;
 use std::alloc::{AllocError, Global};
 use std::marker::Model;
@@ -27,7 +27,7 @@ pub(crate) struct EditIndex<'c> {
 
 impl<'c> Model for EditIndex<'c> {
     ghost use Rattle.std.specs.Prelude.{List, All};
-    ghost use Rattle.mm_relation.specs.declared.edits.Edit.{Edit as AnyEdit};
+    ghost use Rattle.mm_store.specs.declared.edit.Edit.{Edit as AnyEdit};
     ghost use Rattle.mm_delta.specs.EditIndex.{AreGone, AreUnder, HasNonePast};
 
     ghost Value = { List AnyEdit };

@@ -1,12 +1,11 @@
 //! Edits of tables.
 ghost use Rattle.std.specs.Prelude.{◌≡◌, not};
 ghost use Rattle.std.specs.Option.{option_copied};
-ghost use Rattle.mm_relation.specs.Edits.{edit_name, new_row};
-ghost use Rattle.mm_relation.specs.declared.indexes.names.Side.TheVariants.{Old};
+ghost use Rattle.mm_store.specs.RowEdits.{old_ref, new_row};
 ghost use Rattle.mm_delta.specs.Edited.{edits_at};
 ghost use Rattle.mm_delta.specs.Steps.{stays, takes};
 
-use mm_relation::Edit;
+use mm_store::Edit;
 use mm_value::{RowRef, Value};
 
 /// The edits of one table.
@@ -32,7 +31,7 @@ pub(crate) fn edits_of<'c>(changes: &[TableChange<'c>], table: usize) -> &'c [Ed
 
 /// The reference of the row that an edit takes away, if any.
 pub fn row_gone(edit: &Edit) -> Option<RowRef>
-    ensures { result ≡ edit_name edit.now Old }
+    ensures { result ≡ old_ref edit.now }
 {
     match edit {
         Edit::Add(_) => None,

@@ -8,8 +8,7 @@ use crate::edit_index::EditIndex;
 use crate::edited::{TableChange, edits_of};
 use crate::overlay::Overlay;
 use mm_query::BoundQuery;
-use mm_relation::Edit;
-use mm_store::View;
+use mm_store::{Edit, View};
 use std::alloc::{AllocError, Global};
 use std::marker::Model;
 

@@ -1,7 +1,7 @@
 //! By which index the rows at a place are found.
 ghost use Rattle.std.specs.Prelude.{◌≡◌, ◌<◌, length, map, is_some, IfOk, IfSome};
 ghost use Rattle.mm_partition.specs.Reads.{row_read};
-ghost use Rattle.mm_relation.specs.Kept.{StoredRows};
+ghost use Rattle.mm_indexed.specs.Kept.{StoredRows};
 ghost use Rattle.mm_store.specs.Looked.{IsIndexOn};
 ghost use Rattle.mm_store.specs.Tables.{IsAt};
 ghost use Rattle.mm_query.specs.Queries.{rows_read, value_at};

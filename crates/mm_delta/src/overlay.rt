@@ -8,7 +8,7 @@ use crate::edit_index::EditIndex;
 use crate::look_up::LookUp;
 use crate::rows::{add_coming, leave_standing};
 use mm_partition::RowRead;
-use mm_relation::Edit;
+use mm_store::Edit;
 use mm_value::RowRef;
 use std::alloc::AllocError;
 

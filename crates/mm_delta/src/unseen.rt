@@ -3,17 +3,15 @@ ghost use Rattle.std.specs.Prelude.{◌≡◌, ◌+◌, ◌++◌, ◌∷◌, ◌
 ghost use Rattle.std.specs.List.{cons_option, list_all};
 ghost use Rattle.mm_partition.specs.Reads.{row_read};
 ghost use Rattle.mm_partition.specs.Places.{IsLive, slot_at};
-ghost use Rattle.mm_relation.specs.Edits.{edit_name, named};
-ghost use Rattle.mm_relation.specs.Kept.{StoredRows};
-ghost use Rattle.mm_relation.specs.declared.indexes.names.Side.TheVariants.{Old};
+ghost use Rattle.mm_store.specs.RowEdits.{old_refs};
+ghost use Rattle.mm_indexed.specs.Kept.{StoredRows};
 ghost use Rattle.mm_store.specs.Tables.{AreFit, IsAt};
 ghost use Rattle.mm_delta.specs.Unseen.{agree_for, agree_in, come_seen, gone_seen, looks_alike};
 
 use crate::known::value_in;
 use mm_partition::RowRead;
 use mm_query::{Atom, BoundQuery, FieldPlace};
-use mm_relation::Edit;
-use mm_store::View;
+use mm_store::{Edit, View};
 use mm_value::compare;
 use std::alloc::{AllocError, Global};
 
@@ -85,12 +83,12 @@ impl<'c> Sight<'c> {
         seen: &mut SeenRows<'c>,
     ) -> Result<(), AllocError>
         requires there { table < length view.old.store.tables }
-        requires live { (stored : StoredRows) → IsAt view.old.store table stored → All (IsLive stored.places) (named edit_name Old (edit.now ∷ [])) }
+        requires live { (stored : StoredRows) → IsAt view.old.store table stored → All (IsLive stored.places) (old_refs (edit.now ∷ [])) }
         ensures gone { OnOk result ((stored : StoredRows) → IsAt view.old.store table stored → map row_read seen.new.gone.items
             ≡ map row_read seen.old.gone.items ++ cons_option (gone_seen self.now.query.now self.now.place (slot_at stored.places) edit.entry.now) []) }
         ensures come { OnOk result ((stored : StoredRows) → IsAt view.old.store table stored → map row_read seen.new.come.items
             ≡ map row_read seen.old.come.items ++ cons_option (come_seen self.now.query.now self.now.place (slot_at stored.places) edit.entry.now) []) }
-        ensures reads { view.new.reads ≤ view.old.reads + length (named edit_name Old (edit.entry.now ∷ [])) }
+        ensures reads { view.new.reads ≤ view.old.reads + length (old_refs (edit.entry.now ∷ [])) }
         ensures same { view.new.store ≡ view.old.store }
     {
         match edit {
@@ -123,7 +121,7 @@ impl<'c> Sight<'c> {
             → map row_read seen.gone.items ≡ filter_map (gone_seen self.now.query.now self.now.place (slot_at stored.places)) edits.now) }
         ensures come { IfOk result (λ seen. (stored : StoredRows) → IsAt view.old.store table stored
             → map row_read seen.come.items ≡ filter_map (come_seen self.now.query.now self.now.place (slot_at stored.places)) edits.now) }
-        ensures reads { view.new.reads ≤ view.old.reads + length (named edit_name Old edits.now) }
+        ensures reads { view.new.reads ≤ view.old.reads + length (old_refs edits.now) }
         ensures same { view.new.store ≡ view.old.store }
     {
         let mut seen = SeenRows {

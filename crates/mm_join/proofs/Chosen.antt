@@ -1,17 +1,16 @@
 -- The rows of a combination, one after another.
 use Rattle.std.proofs.Common.{◌≡◌, ℕ, zero, suc, Bool, cond, ◌+◌, ◌<◌, ◌≤◌, List, [], ◌∷◌, ◌++◌, Option, Some, get_or, drop, take, length, map, refl}
 use Rattle.std.proofs.Common.{sym, ap, ◌∙◌, subst, append_assoc, arith, length-append, length-drop}
-use Rattle.std.proofs.lemmas.List.{map-append, take-append-drop}
+use Rattle.std.proofs.lemmas.List.{map-append, take-append-drop, take_more}
 use Rattle.std.specs.Option.{option_map}
 use Rattle.mm_partition.specs.Views.{viewed}
 use Rattle.mm_partition.specs.declared.view.RowView.{RowView}
-use Rattle.mm_store.proofs.Lists.{take_more}
 use Rattle.mm_partition.specs.Places.{IsLive}
 use Rattle.mm_query.proofs.PlainEval.{empty_by_length}
 use Rattle.mm_query.specs.Queries.{none_fails, rows_read}
 use Rattle.mm_query.specs.declared.atom.Atom.{Atom}
 use Rattle.mm_query.specs.declared.bound_query.FieldPlace.{FieldPlace}
-use Rattle.mm_relation.specs.Kept.{StoredRows}
+use Rattle.mm_indexed.specs.Kept.{StoredRows}
 use Rattle.mm_select.proofs.Walks.{matches_append, matches_one}
 use Rattle.mm_select.specs.Matches.{matches}
 use Rattle.mm_store.specs.Tables.{IsAt, Tables}

@@ -1,6 +1,5 @@
 -- What a look-up by a value finds.
-use Rattle.std.proofs.Common.{◌≡◌, ℕ, ◌<◌, Bool, true, false, cond, List, [], ◌∷◌, ◌++◌, Option, Some, get_or, length, map, refl, sym, ap, ◌∙◌, subst}
-use Rattle.std.proofs.Common.{arith}
+use Rattle.std.proofs.Common.{◌≡◌, ℕ, ◌<◌, Bool, true, false, cond, List, [], ◌∷◌, ◌++◌, Option, Some, get_or, length, map, refl, sym, ap, ◌∙◌, subst, arith}
 use Rattle.std.specs.Prelude.{◌==◌, ℤ, FitsSigned, pos}
 use Rattle.std.specs.Int.{w64}
 use Rattle.std.specs.List.{All, count_by, filter}
@@ -17,16 +16,16 @@ use Rattle.std.proofs.lemmas.List.Sums.{length-filter}
 use Rattle.std.proofs.lemmas.Option.{slice_get-get_or}
 use Rattle.std.proofs.lemmas.Simd.{map-map}
 use Rattle.mlhash.specs.Bag.{refs_of}
-use Rattle.mm_partition.specs.Places.{AreRowsStorable, IsLive, slot_at}
+use Rattle.mm_partition.specs.Places.{AreRowsStorable, IsLive, slot_at, row_in}
 use Rattle.mm_query.specs.Atoms.{value_in}
 use Rattle.mm_query.proofs.Storables.{value_in_storable}
-use Rattle.mm_relation.proofs.Bags.{IsPermutation-filter}
-use Rattle.mm_relation.proofs.RefTests.{pair_from_test, pair_itself, same_pair}
-use Rattle.mm_relation.proofs.Storables.{row_storable}
-use Rattle.mm_relation.proofs.Typed.{HasTypes-length}
-use Rattle.mm_relation.specs.Kept.{IsKept, StoredRows}
-use Rattle.mm_relation.specs.Reads.{AreMatches, has_value}
-use Rattle.mm_relation.specs.Refs.{Slots, row_at, row_in}
+use Rattle.mm_indexed.proofs.Bags.{IsPermutation-filter}
+use Rattle.mm_indexed.proofs.RefTests.{pair_from_test, pair_itself, same_pair}
+use Rattle.mm_store.proofs.Storables.{row_storable}
+use Rattle.mm_indexed.proofs.Typed.{HasTypes-length}
+use Rattle.mm_indexed.specs.Kept.{IsKept, StoredRows}
+use Rattle.mm_indexed.specs.Reads.{AreMatches, has_value}
+use Rattle.mm_row_order.specs.Refs.{Slots, row_at}
 use Rattle.mm_select.proofs.Along.{column_in, filter_moved}
 use Rattle.mm_select.proofs.Fits.{filter-map}
 use Rattle.mm_store.specs.Looked.{IsIndexOn}

@@ -20,7 +20,7 @@ use Rattle.mm_query.specs.declared.atom.Comparison.{Comparison}
 use Rattle.mm_query.specs.declared.atom.Operand.{Operand}
 use Rattle.mm_query.specs.declared.atom.Operand.TheVariants.{Literal, Column, Shifted}
 use Rattle.mm_query.specs.declared.bound_query.FieldPlace.{FieldPlace}
-use Rattle.mm_relation.proofs.Bags.{IsPermutation-from_counts}
+use Rattle.mm_indexed.proofs.Bags.{IsPermutation-from_counts}
 use Rattle.mm_schema.proofs.Orderings.{equal_from_is_eq}
 use Rattle.mm_select.specs.Fitting.{fitting}
 use Rattle.mm_value.proofs.Orders.{row_cmp_exact, row_cmp_total}

@@ -3,18 +3,20 @@ use Rattle.std.proofs.Common.{◌≡◌, ◌≢◌, ℕ, ◌+◌, ◌<◌, ◌�
 use Rattle.std.proofs.Math.Nat.{min-le_left}
 use Rattle.std.specs.Prelude.{MatchOption, min, pos, slice_get}
 use Rattle.std.specs.Option.{option_map, unwrap_or}
+use Rattle.std.specs.Ordering.{nat_cmp}
 use Rattle.std.specs.declared.cmp.Ordering.{Ordering}
 use Rattle.std.specs.declared.cmp.Ordering.TheVariants.{Less, Equal, Greater}
 use Rattle.std.proofs.lemmas.Bool.{cases_order}
 use Rattle.std.proofs.lemmas.List.{get_or-map, length-map}
 use Rattle.std.proofs.lemmas.List.Sorted.{IsNonDecreasingBy-from_default}
 use Rattle.std.proofs.lemmas.Option.{get_or_from_slice_get, slice_get-get_or}
-use Rattle.mm_partition.specs.Places.{slot_at}
+use Rattle.mm_partition.specs.Places.{slot_at, row_in}
 use Rattle.mm_query.specs.Atoms.{value_in}
-use Rattle.mm_relation.specs.Kept.{StoredRows}
-use Rattle.mm_relation.specs.Reads.{IsWalk}
-use Rattle.mm_relation.specs.Refs.{IsWide, Slots, refs_by, row_at, row_in}
+use Rattle.mm_indexed.specs.Kept.{StoredRows}
+use Rattle.mm_indexed.specs.Reads.{IsWalk}
+use Rattle.mm_row_order.specs.Refs.{IsWide, Slots, refs_by, row_at}
 use Rattle.mm_schema.specs.Rows.{column_cmp}
+use Rattle.mm_store.proofs.Seeks.{then_less}
 use Rattle.mm_value.proofs.Orders.{value_cmp_exact}
 use Rattle.mm_value.proofs.Prefixes.{prefixes_keep}
 use Rattle.mm_value.specs.Order.{value_cmp}
@@ -24,7 +26,6 @@ use Rattle.mm_value.specs.declared.values.Value.{Value}
 use Rattle.mm_value.specs.declared.values.Value.TheVariants.{Int}
 use Rattle.mm_join.specs.Entries.{AreRising, entry_of}
 use Rattle.mm_join.specs.declared.entries.Entry.{Entry}
-use Rattle.mm_relation.proofs.Seeks.{then_less}
 
 -- ---- values
 
@@ -51,7 +52,8 @@ module _ (column key : ℕ) (slots : Slots) where
       let w = value_in column (row_at slots b) in
       let by_column : column_cmp column (row_at slots a) (row_at slots b) ≡ value_cmp v w = rw (has_there a in_a, has_there b in_b) refl in
       prefixes_rise v w (value_cmp v w) refl
-      (λ e. then_less (column_cmp column (row_at slots a) (row_at slots b)) (column_cmp key (row_at slots a) (row_at slots b)) less (by_column ∙ e))
+      (λ e. then_less (column_cmp column (row_at slots a) (row_at slots b)) (column_cmp key (row_at slots a) (row_at slots b))
+      (nat_cmp a.slot b.slot) less (by_column ∙ e))
 
 -- The entries of a walk rise.
 pub walk_rises : (column : ℕ) (stored : StoredRows) (walk : List RowRef) → IsWalk column stored walk

@@ -4,7 +4,7 @@ use Rattle.std.proofs.Common.{arith, length-append}
 use Rattle.std.specs.List.{All, filter, flat_map, slice_get, sum_by}
 use Rattle.std.proofs.lemmas.List.Sums.{sum_by_more, sum_by_more_le}
 use Rattle.std.specs.List.Sorted.{IsPermutation}
-use Rattle.std.proofs.lemmas.List.{append-nil, length-map, map-append, take-append-drop, take_all}
+use Rattle.std.proofs.lemmas.List.{append-nil, length-map, map-append, take-append-drop, take_all, take_more}
 use Rattle.std.proofs.lemmas.List.Concat.{flat_map-append}
 use Rattle.std.proofs.lemmas.List.Elements.{All-append, All-filter, All-get_or, All-map, All-nil, All-weaker}
 use Rattle.std.proofs.lemmas.List.Sorted.{IsPermutation-append, IsPermutation-map, IsPermutation-refl, length_permutation}
@@ -14,11 +14,10 @@ use Rattle.mm_partition.specs.Places.{IsLive}
 use Rattle.mm_query.specs.Queries.{Partial, none_fails}
 use Rattle.mm_query.specs.declared.atom.Atom.{Atom}
 use Rattle.mm_query.specs.declared.bound_query.FieldPlace.{FieldPlace}
-use Rattle.mm_relation.specs.Kept.{StoredRows}
+use Rattle.mm_indexed.specs.Kept.{StoredRows}
 use Rattle.mm_select.proofs.Fits.{filter-map}
 use Rattle.mm_select.specs.Matches.{Covers, matches, matching}
 use Rattle.mm_store.proofs.Joining.{some_at}
-use Rattle.mm_store.proofs.Lists.{take_more}
 use Rattle.mm_store.specs.Tables.{IsAt, Tables, rows_at}
 use Rattle.mm_schema.specs.Refused.{first_refusal}
 use Rattle.mm_templist.specs.Combos.{AreLive, Combos, combo_rows, row_of, rows_of_combo}

@@ -4,24 +4,26 @@ use Rattle.std.specs.Prelude.{pos, slice_get}
 use Rattle.std.specs.List.{Contains}
 use Rattle.std.specs.List.Sorted.{IsPermutation}
 use Rattle.std.specs.declared.cmp.Ordering.{Ordering}
-use Rattle.std.specs.declared.cmp.Ordering.TheVariants as ordering
 use Rattle.std.proofs.lemmas.List.Elements.{filter_agree}
 use Rattle.std.proofs.lemmas.List.Sorted.{IsPermutation-refl}
 use Rattle.mm_order.specs.Probe.{is_between}
 use Rattle.mm_store.specs.declared.index_ref.IndexRef.TheVariants as index
 use Rattle.std.specs.Option.{option_map, unwrap_or}
 use Rattle.std.proofs.lemmas.Option.{slice_get-get_or}
-use Rattle.mm_partition.specs.Places.{IsLive, slot_at}
+use Rattle.mm_partition.specs.Places.{IsLive, slot_at, row_in}
 use Rattle.mm_query.specs.Atoms.{value_in}
 use Rattle.mm_query.specs.Queries.{Partial, value_at}
 use Rattle.mm_query.specs.declared.bound_query.FieldPlace.{FieldPlace}
-use Rattle.mm_relation.proofs.Typed.{HasTypes-length}
-use Rattle.mm_relation.specs.Kept.{IsKept, StoredRows}
-use Rattle.mm_relation.specs.Reads.{AreMatches, has_value}
-use Rattle.mm_relation.specs.Refs.{HasRow, Slots, place_by, row_at, row_in}
+use Rattle.mm_indexed.proofs.Apart.{KeysApart-refs}
+use Rattle.mm_indexed.proofs.OneKey.{one_of_key as range_of_key, not_apart}
+use Rattle.mm_indexed.proofs.Typed.{HasTypes-length}
+use Rattle.mm_indexed.specs.Kept.{StoredRows}
+use Rattle.mm_indexed.specs.Reads.{AreMatches, has_value}
+use Rattle.mm_row_order.specs.Refs.{HasRow, Slots, place_by, row_at}
 use Rattle.mm_select.proofs.Fits.{row_here}
 use Rattle.mm_store.proofs.Joining.{one_relation}
-use Rattle.mm_store.specs.Links.{RefersTo}
+use Rattle.mm_link.specs.Links.{RefersTo}
+use Rattle.mm_store.specs.Joined.{IsTable}
 use Rattle.mm_store.specs.Tables.{IsAt, Tables}
 use Rattle.mm_templist.specs.Combos.{AreLive, row_of, rows_of_combo}
 use Rattle.mm_value.specs.declared.row_ref.RowRef.{RowRef}
@@ -29,19 +31,19 @@ use Rattle.mm_value.specs.declared.values.Value.{Value}
 use Rattle.mm_value.specs.declared.values.Value.TheVariants.{Int}
 use Rattle.mm_join.proofs.JoinKeys.{shifted_by_0}
 use Rattle.mm_join.proofs.Found.{finds_matches}
-use Rattle.mm_relation.proofs.OneKey.{one_of_key as range_of_key, not_apart}
 use Rattle.mm_join.specs.Equated.{HaveMatches, IsPartner, plain_key, sought}
 
 -- ---- the row of a key
 
-module _ (stored : StoredRows) (kept : IsKept stored.places.types stored.key (slot_at stored.places) stored.refs stored.indexes)
-    (value : Value) (at : RowRef) (live : HasRow (slot_at stored.places) at) (own : slice_get (row_at (slot_at stored.places) at) stored.key ≡ Some value) where
+module _ (stored : StoredRows) (always : IsTable stored) (value : Value) (at : RowRef) (live : HasRow (slot_at stored.places) at)
+    (own : slice_get (row_at (slot_at stored.places) at) stored.key ≡ Some value) where
   -- The reference alone is all the matches of its key.
   one_of_key : AreMatches stored.key (slot_at stored.places) value stored.refs (at ∷ [])
   one_of_key =
       let place : RowRef → Ordering = place_by stored.key (slot_at stored.places) value in
       subst (IsPermutation (at ∷ []))
-      (sym (range_of_key stored.key (slot_at stored.places) stored.refs kept.by_key value at ((kept.held at).1 live) own)
+      (sym (range_of_key stored.key (slot_at stored.places) stored.refs
+      (KeysApart-refs stored.key stored.key (slot_at stored.places) stored.refs always.apart always.kept.by_key) value at ((always.kept.held at).1 live) own)
       ∙ filter_agree (is_between place place) (has_value stored.key (slot_at stored.places) value) (λ other. not_apart (place other)) stored.refs)
       (IsPermutation-refl (at ∷ []))
 
@@ -73,8 +75,7 @@ module _ (store : Tables) where
 
   module _ (tables : List ℕ) (front : List RowRef) (live : AreLive store tables front) (field : FieldPlace) (within : field.place < length tables)
       (partial : Partial) (chosen : partial ≡ map Some (rows_of_combo store tables front)) (table : ℕ) (relation : StoredRows)
-      (here : IsAt store table relation)
-      (kept : IsKept relation.places.types relation.key (slot_at relation.places) relation.refs relation.indexes) (d : RowRef)
+      (here : IsAt store table relation) (always : IsTable relation) (d : RowRef)
     where
       abbrev from : ℕ
       from = get_or tables field.place 0
@@ -98,8 +99,8 @@ module _ (store : Tables) where
           let wide : relation.key < length (row_at slots to) =
           omega (
             arith,
-            kept.key_in,
-            HasTypes-length relation.places.types refers.live.0 (kept.typed to refers.live.0 refers.live.1),
+            always.kept.key_in,
+            HasTypes-length relation.places.types refers.live.0 (always.kept.typed to refers.live.0 refers.live.1),
             ap (λ content. length (row_in content)) refers.live.1,
           ) in
           let key : slice_get (row_at slots to) relation.key ≡ Some (value_in relation.key (row_at slots to)) =
@@ -107,7 +108,7 @@ module _ (store : Tables) where
           let same : unwrap_or (value_at partial field) (Int (pos 0)) ≡ value_in relation.key (row_at slots to) =
           own_value stored at
           ∙ read_at (row_at (slot_at stored.places) source) field.column (value_in relation.key (row_at slots to)) (Int (pos 0)) (refers.same ∙ key) in
-          one_of_key relation kept (unwrap_or (value_at partial field) (Int (pos 0))) to refers.live (key ∙ ap Some (sym same))
+          one_of_key relation always (unwrap_or (value_at partial field) (Int (pos 0))) to refers.live (key ∙ ap Some (sym same))
 
       -- Found along a foreign key that refers to one table alone, it is all that has the value.
       partner_matches : ((to : ℕ) → Contains store.links (record { from = from; column = field.column; to = to }) → to ≡ table)
@@ -128,5 +129,5 @@ module _ (store : Tables) where
           let stored = live_at tables front live field.place d within in
           let value : Value = unwrap_or (value_at partial field) (Int (pos 0)) in
           subst (λ v. HaveMatches relation.key (slot_at relation.places) v relation.refs (to ∷ [])) (sym (shifted_by_0 value))
-          (finds_matches relation kept index.Key relation.key kept.key_in value (to ∷ [])
+          (finds_matches relation always.kept index.Key relation.key always.kept.key_in value (to ∷ [])
           (partner_matches only stored.0 stored.1 to (refers stored.0 stored.1))).matches

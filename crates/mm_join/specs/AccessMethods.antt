@@ -6,11 +6,11 @@ use Rattle.mm_partition.specs.Places.{IsLive, slot_at}
 use Rattle.mm_query.specs.Atoms.{value_in}
 use Rattle.mm_query.specs.declared.atom.Atom.{Atom}
 use Rattle.mm_query.specs.declared.bound_query.FieldPlace.{FieldPlace}
-use Rattle.mm_relation.specs.Kept.{StoredRows}
-use Rattle.mm_relation.specs.Refs.{Slots, row_at}
-use Rattle.mm_relation.specs.RowLists.{rows_of}
+use Rattle.mm_indexed.specs.Kept.{StoredRows}
+use Rattle.mm_row_order.specs.Refs.{Slots, row_at}
+use Rattle.mm_indexed.specs.RowLists.{rows_of}
 use Rattle.mm_select.specs.Matches.{Covers}
-use Rattle.mm_store.specs.Links.{IsReference}
+use Rattle.mm_base.specs.Columns.{IsReference}
 use Rattle.mm_store.specs.Looked.{IsIndexOn}
 use Rattle.mm_store.specs.Tables.{IsAt, Tables}
 use Rattle.mm_value.specs.Hash.{value_hash}

@@ -2,7 +2,7 @@
 use Rattle.std.specs.Prelude.{ℕ, List}
 use Rattle.std.specs.List.Sorted.{IsNonDecreasingBy}
 use Rattle.mm_query.specs.Atoms.{value_in}
-use Rattle.mm_relation.specs.Refs.{Slots, row_at}
+use Rattle.mm_row_order.specs.Refs.{Slots, row_at}
 use Rattle.mm_value.specs.Prefix.{order_prefix}
 use Rattle.mm_value.specs.declared.row_ref.RowRef.{RowRef}
 use Rattle.mm_join.specs.declared.entries.Entry.{Entry}

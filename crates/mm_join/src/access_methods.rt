@@ -6,7 +6,7 @@ ghost use Rattle.mm_join.specs.Equated.{IsPartner};
 ghost use Rattle.mm_join.specs.AccessMethods.{AreCandidates, IsAccessMethod, found_behind, listed, with_prefix};
 ghost use Rattle.mm_join.specs.declared.access_methods.AccessMethod.TheVariants.{Sought};
 ghost use Rattle.mm_partition.specs.Places.{IsLive};
-ghost use Rattle.mm_relation.specs.Kept.{StoredRows};
+ghost use Rattle.mm_indexed.specs.Kept.{StoredRows};
 ghost use Rattle.mm_store.specs.Tables.{IsAt, rows_at};
 ghost use Rattle.mm_templist.specs.Combos.{AreLive, rows_of_combo};
 
@@ -109,6 +109,7 @@ impl AccessMethod {
 fn partner(view: &View<'_>, outer: Outer<'_>, field: FieldPlace) -> RowRef
     requires table { field.place < length outer.tables.now }
     requires reference { field.place < length outer.refs.now }
+    requires there { slice_index outer.tables.now field.place < length view.now.store.tables }
     requires refers { (to : ℕ) × Contains view.now.store.links (record { from = slice_index outer.tables.now field.place; column = field.column; to = to }) }
     requires live { (stored : StoredRows) → IsAt view.now.store (slice_index outer.tables.now field.place) stored
         → IsLive stored.places (slice_index_or outer.refs.now field.place (record { slot = 0 })) }

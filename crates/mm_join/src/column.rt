@@ -3,8 +3,8 @@ ghost use Rattle.std.specs.Prelude.{◌≡◌, ◌+◌, ◌<◌, ◌≤◌, leng
 ghost use Rattle.mm_partition.specs.Views.{viewed};
 ghost use Rattle.mm_partition.specs.Places.{IsLive, slot_at};
 ghost use Rattle.mm_query.specs.Atoms.{value_in};
-ghost use Rattle.mm_relation.specs.Kept.{StoredRows};
-ghost use Rattle.mm_relation.specs.Refs.{row_at};
+ghost use Rattle.mm_indexed.specs.Kept.{StoredRows};
+ghost use Rattle.mm_row_order.specs.Refs.{row_at};
 ghost use Rattle.mm_store.specs.Tables.{IsAt};
 ghost use Rattle.mm_value.specs.Hash.{value_hash};
 ghost use Rattle.mm_value.specs.Prefix.{order_prefix};

@@ -4,7 +4,7 @@ ghost use Rattle.mm_partition.specs.Views.{viewed};
 ghost use Rattle.mm_query.specs.Queries.{rows_read};
 ghost use Rattle.mm_join.specs.Caps.{cap_conditions};
 ghost use Rattle.mm_partition.specs.Places.{IsLive};
-ghost use Rattle.mm_relation.specs.Kept.{StoredRows};
+ghost use Rattle.mm_indexed.specs.Kept.{StoredRows};
 ghost use Rattle.mm_schema.specs.Refused.{AnswersDue, first_refusal};
 ghost use Rattle.mm_select.specs.Matches.{matches};
 ghost use Rattle.mm_store.specs.Tables.{IsAt};

@@ -8,7 +8,7 @@ ghost use Rattle.mm_join.specs.Equated.{HaveMatches, added, sought};
 ghost use Rattle.mm_join.specs.AccessMethods.{Finds, IsAmong, and_prefix};
 ghost use Rattle.mm_partition.specs.Places.{slot_at};
 ghost use Rattle.mm_query.specs.Queries.{rows_read, value_at};
-ghost use Rattle.mm_relation.specs.Kept.{StoredRows};
+ghost use Rattle.mm_indexed.specs.Kept.{StoredRows};
 ghost use Rattle.mm_store.specs.Tables.{IsAt};
 ghost use Rattle.mm_templist.specs.Combos.{AreLive, rows_of_combo};
 ghost use Rattle.mm_value.specs.Prefix.{order_prefix};

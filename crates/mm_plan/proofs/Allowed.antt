@@ -28,7 +28,7 @@ use Rattle.mm_query.specs.declared.atom.Comparison.TheVariants.{Equal, Less, Les
 use Rattle.mm_query.specs.declared.atom.Operand.{Operand}
 use Rattle.mm_query.specs.declared.atom.Operand.TheVariants.{Literal, Column, Shifted}
 use Rattle.mm_query.specs.declared.bound_query.FieldPlace.{FieldPlace}
-use Rattle.mm_relation.specs.Kept.{StoredRows}
+use Rattle.mm_indexed.specs.Kept.{StoredRows}
 use Rattle.mm_select.specs.Asked.{compares}
 use Rattle.mm_store.specs.Looked.{IsFirstSuch, IsHash, IsIndexOn, IsTree}
 use Rattle.mm_store.specs.Tables.{IsAt, Tables, key_at}

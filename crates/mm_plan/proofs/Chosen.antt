@@ -10,24 +10,24 @@ use Rattle.std.proofs.lemmas.List.Sums.{fails_before_first, passes_at_first}
 use Rattle.std.proofs.lemmas.Option.{cond_some}
 use Rattle.mm_join.specs.declared.key.JoinKey.{JoinKey}
 use Rattle.mm_plan.specs.Choosing.{count_at, first_hash, first_tree, hash_at, is_referred, refers_only, tree_at}
-use Rattle.mm_relation.specs.Kept.{StoredRows}
-use Rattle.mm_relation.specs.RowLists.{rows_of}
-use Rattle.mm_relation.specs.Index.{column_of, kind_of}
-use Rattle.mm_relation.specs.Reads.{HasIndex, IsOn}
-use Rattle.mm_relation.specs.Served.{is_on, same_kind}
-use Rattle.mm_relation.specs.declared.indexes.index.Index.{Index}
+use Rattle.mm_indexed.specs.Kept.{StoredRows}
+use Rattle.mm_indexed.specs.RowLists.{rows_of}
+use Rattle.mm_indexed.specs.Index.{column_of, kind_of, IsOn}
+use Rattle.mm_indexed.specs.Reads.{HasIndex}
+use Rattle.mm_indexed.specs.Served.{is_on, same_kind}
+use Rattle.mm_indexed.specs.declared.indexes.index.Index.{Index}
 use Rattle.mm_schema.specs.declared.index.IndexKind.{IndexKind}
 use Rattle.mm_schema.specs.declared.index.IndexKind.TheVariants as kind
 use Rattle.mm_store.proofs.Joining.{some_at}
 use Rattle.mm_store.proofs.Looked.{Sought, is_first_hash, is_first_tree, no_hash, no_tree}
-use Rattle.mm_store.proofs.OnlyReference.{tells_only}
-use Rattle.mm_store.specs.Links.{IsReference}
+use Rattle.mm_base.proofs.OnlyReference.{tells_only}
+use Rattle.mm_base.specs.Columns.{IsReference}
 use Rattle.mm_store.specs.Looked.{IsFirstSuch, IsHash, IsTree, created_before}
 use Rattle.mm_store.specs.Tables.{IsAt, Tables, key_at}
 use Rattle.mm_store.specs.declared.index_ref.IndexRef.{IndexRef}
 use Rattle.mm_store.specs.declared.index_ref.IndexRef.TheVariants.{Key, Tree, Hash}
-use Rattle.mm_relation.proofs.Served.{same_kind_told, same_kind_itself}
-use Rattle.mm_store.proofs.Referring.{agree}
+use Rattle.mm_indexed.proofs.Served.{same_kind_told, same_kind_itself}
+use Rattle.mm_link.proofs.Referring.{agree}
 
 -- ---- the index that was created first
 

@@ -15,10 +15,10 @@ use Rattle.mm_query.specs.Serving.{serves}
 use Rattle.mm_query.specs.Serving as serving
 use Rattle.mm_query.specs.Fields.{FieldName}
 use Rattle.mm_query.specs.declared.query.FromItem.{FromItem}
-use Rattle.mm_relation.specs.Index.{column_of, kind_of}
-use Rattle.mm_relation.specs.Kept.{StoredRows}
-use Rattle.mm_relation.specs.Served.{is_on, same_kind}
-use Rattle.mm_relation.specs.declared.indexes.index.Index.{Index}
+use Rattle.mm_indexed.specs.Index.{column_of, kind_of}
+use Rattle.mm_indexed.specs.Kept.{StoredRows}
+use Rattle.mm_indexed.specs.Served.{is_on, same_kind}
+use Rattle.mm_indexed.specs.declared.indexes.index.Index.{Index}
 use Rattle.mm_schema.proofs.NameLemmas.{same_bytes, same_name_refl}
 use Rattle.mm_schema.proofs.Places.{find_at_place, find_nowhere, no_table, place_within, within_from_some}
 use Rattle.mm_schema.specs.Columns.{column_named, column_place, is_key, key_count, key_place}

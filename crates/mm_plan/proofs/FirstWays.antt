@@ -12,7 +12,7 @@ use Rattle.mm_plan.specs.declared.step.Step.TheVariants as step
 use Rattle.mm_query.specs.declared.atom.Atom.{Atom}
 use Rattle.mm_query.specs.declared.bound_query.BoundQuery.{BoundQuery}
 use Rattle.mm_query.specs.declared.bound_query.FieldPlace.{FieldPlace}
-use Rattle.mm_relation.specs.Kept.{StoredRows}
+use Rattle.mm_indexed.specs.Kept.{StoredRows}
 use Rattle.mm_select.specs.Accesses.{Asks, IsServed, is_along}
 use Rattle.mm_select.specs.declared.access.Access.{Access}
 use Rattle.mm_select.specs.declared.access.Access.TheVariants as access

@@ -15,11 +15,11 @@ use Rattle.mm_plan.specs.declared.step.Step.{Step}
 use Rattle.mm_query.specs.Queries.{none_fails}
 use Rattle.mm_query.specs.declared.atom.Atom.{Atom}
 use Rattle.mm_query.specs.declared.bound_query.FieldPlace.{FieldPlace}
-use Rattle.mm_relation.proofs.RefTests.{same_from_test, test_from_same}
-use Rattle.mm_relation.specs.Before.{same_ref}
-use Rattle.mm_relation.specs.Kept.{StoredRows}
-use Rattle.mm_relation.specs.Refs.{row_at}
-use Rattle.mm_relation.specs.RowLists.{rows_of}
+use Rattle.mm_indexed.proofs.RefTests.{same_from_test, test_from_same}
+use Rattle.mm_tables.specs.Edits.{same_ref}
+use Rattle.mm_indexed.specs.Kept.{StoredRows}
+use Rattle.mm_row_order.specs.Refs.{row_at}
+use Rattle.mm_indexed.specs.RowLists.{rows_of}
 use Rattle.mm_schema.proofs.StrictOrder.{Contains-from_IsIn, IsIn, IsIn-from_Contains}
 use Rattle.mm_select.proofs.Along.{filter_same}
 use Rattle.mm_select.proofs.Fits.{filter-map, row_here}
@@ -29,7 +29,7 @@ use Rattle.mm_select.specs.declared.access.Access.{Access}
 use Rattle.mm_store.specs.Tables.{IsAt, Tables, rows_at}
 use Rattle.mm_value.specs.declared.row_ref.RowRef.{RowRef}
 use Rattle.mm_value.specs.declared.values.Value.{Value}
-use Rattle.mm_store.proofs.Referring.{agree}
+use Rattle.mm_link.proofs.Referring.{agree}
 
 moved : (xs ys : List RowRef) → IsPermutation xs ys → (x : RowRef) → IsIn x xs → IsIn x ys
 moved xs ys there x here = IsIn-from_Contains ys x (Contains-permutation xs ys x there (Contains-from_IsIn xs x here))

@@ -5,7 +5,7 @@ use Rattle.std.specs.Prelude.{slice_get, IsPermutation}
 use Rattle.std.specs.List.{All, filter, list_any}
 use Rattle.std.specs.List.Sorted.{IsSortedByKey, IsStrictlySortedBy}
 use Rattle.std.specs.Option.{option_cmp}
-use Rattle.std.specs.Ordering.{is_lt, ordering_reverse, ordering_then}
+use Rattle.std.specs.Ordering.{is_lt, nat_cmp, ordering_reverse, ordering_then}
 use Rattle.std.specs.declared.cmp.Ordering.{Ordering}
 use Rattle.std.specs.declared.cmp.Ordering.TheVariants.{Less, Equal, Greater}
 use Rattle.std.proofs.Math.ListN.{get_or-map}
@@ -16,15 +16,16 @@ use Rattle.std.proofs.lemmas.List.Sorted.{All-permutation, Contains-permutation,
 use Rattle.std.proofs.lemmas.List.Kept.{AllPairs-filter}
 use Rattle.mm_value.specs.Views.{value_of}
 use Rattle.mm_partition.specs.Places.{slot_at}
-use Rattle.mm_relation.proofs.RefTests.{same_from_test, test_from_same}
-use Rattle.mm_relation.specs.Before.{same_ref}
-use Rattle.mm_relation.specs.Kept.{IsKept, StoredRows}
-use Rattle.mm_relation.specs.Orders.{refs_by_total}
-use Rattle.mm_relation.specs.Refs.{HasRow, Slots, refs_by, row_at}
+use Rattle.mm_indexed.proofs.RefTests.{same_from_test, test_from_same}
+use Rattle.mm_tables.specs.Edits.{same_ref}
+use Rattle.mm_indexed.specs.Kept.{StoredRows}
+use Rattle.mm_row_order.specs.Orders.{refs_by_total}
+use Rattle.mm_row_order.specs.Refs.{HasRow, Slots, refs_by, row_at}
 use Rattle.mm_schema.proofs.StrictOrder.{Contains-from_IsIn, IsIn, IsIn-from_Contains, IsStrictlySortedBy-before, IsStrictlySortedBy-from_neighbours}
 use Rattle.mm_schema.proofs.StrictOrder.{IsStrictlySortedBy-nil, same_from_elements}
 use Rattle.mm_schema.specs.Rows.{column_cmp}
 use Rattle.mm_select.proofs.KeyWalks.{same_from_keys}
+use Rattle.mm_store.specs.Joined.{IsTable}
 use Rattle.mm_value.proofs.Orders.{value_cmp_total}
 use Rattle.mm_value.specs.Order.{value_cmp}
 use Rattle.mm_value.specs.declared.row_ref.RowRef.{RowRef}
@@ -113,7 +114,7 @@ less_from_rest Less behind = inr refl
 less_from_rest Equal behind = inl refl
 less_from_rest Greater behind = cc
 
-module _ (stored : StoredRows) (kept : IsKept stored.places.types stored.key (slot_at stored.places) stored.refs stored.indexes) where
+module _ (stored : StoredRows) (always : IsTable stored) where
   abbrev now : Slots
   now = slot_at stored.places
 
@@ -157,9 +158,9 @@ module _ (stored : StoredRows) (kept : IsKept stored.places.types stored.key (sl
       let turned : is_lt (ordering_reverse (value_cmp (value_of a.key) (value_of b.key))) ≡ false =
       sym (ap is_lt (value_cmp_total.antisymm (value_of b.key) (value_of a.key))) ∙ behind in
       elim (less_from_rest (value_cmp (value_of a.key) (value_of b.key)) turned) [
-        | inl tie ↦ inl (same_from_keys stored kept a.at b.at live_a live_b (keyed ∙ tie))
+        | inl tie ↦ inl (same_from_keys stored always a.at b.at live_a live_b (keyed ∙ tie))
         | inr less ↦ let first : column_cmp stored.key (row_at now a.at) (row_at now b.at) ≡ Less = keyed ∙ less in
-            inr (ap (λ o. ordering_then o o) first)
+            inr (ap (λ o. ordering_then (ordering_then o o) (nat_cmp a.at.slot b.at.slot)) first)
       ]
 
   climbs_from : (r : Keyed) (rs : List Keyed) → ((k : ℕ) (d : Keyed) → k + 1 < length (r ∷ rs) → Follows (get_or (r ∷ rs) k d) (get_or (r ∷ rs) (suc k) d))
@@ -185,7 +186,7 @@ module _ (stored : StoredRows) (kept : IsKept stored.places.types stored.key (sl
   among_in_order : (refs : List RowRef) → IsStrictlySortedBy by_key (among refs stored)
   among_in_order refs =
       IsStrictlySortedBy-from_neighbours (refs_by_total stored.key stored.key now) (among refs stored)
-      (λ k d within. AllPairs-filter (λ a b. by_key a b ≡ Less) (λ at. list_any (same_ref at) refs) stored.refs kept.by_key.ascending
+      (λ k d within. AllPairs-filter (λ a b. by_key a b ≡ Less) (λ at. list_any (same_ref at) refs) stored.refs always.kept.by_key.ascending
       k (suc k) d (omega arith) (omega (arith, within)))
 
   moved : (xs ys : List RowRef) → IsPermutation xs ys → (at : RowRef) → IsIn at xs → IsIn at ys
@@ -199,7 +200,7 @@ module _ (stored : StoredRows) (kept : IsKept stored.places.types stored.key (sl
         (λ z here.
         let given : IsIn z refs = moved ats refs same z (none_new None ats z here) in
         passes_in_filter (λ at. list_any (same_ref at) refs) stored.refs z
-        (IsIn-from_Contains stored.refs z ((kept.held z).1 (All-contains (HasRow now) refs z live (Contains-from_IsIn refs z given))))
+        (IsIn-from_Contains stored.refs z ((always.kept.held z).1 (All-contains (HasRow now) refs z live (Contains-from_IsIn refs z given))))
         (some_by_one (same_ref z) refs z given (test_from_same z z refl)))
         (λ z here.
         let passes : list_any (same_ref z) refs ≡ true = from_filter (λ at. list_any (same_ref at) refs) stored.refs z here in

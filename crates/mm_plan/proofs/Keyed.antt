@@ -14,8 +14,8 @@ use Rattle.mm_plan.specs.Steps.{HasKey, RefersPlainly, passes_key}
 use Rattle.mm_query.specs.Queries.{Partial}
 use Rattle.mm_query.specs.declared.atom.Atom.{Atom}
 use Rattle.mm_query.specs.declared.bound_query.FieldPlace.{FieldPlace}
-use Rattle.mm_relation.specs.Kept.{StoredRows}
-use Rattle.mm_store.specs.Links.{IsReference}
+use Rattle.mm_indexed.specs.Kept.{StoredRows}
+use Rattle.mm_base.specs.Columns.{IsReference}
 use Rattle.mm_store.specs.Tables.{IsAt, Tables}
 use Rattle.mm_value.specs.declared.values.Value.{Value}
 

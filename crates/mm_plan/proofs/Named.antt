@@ -30,8 +30,8 @@ use Rattle.mm_query.specs.declared.plan_line.PlanLine.TheVariants as line
 use Rattle.mm_query.specs.Fields.{FieldName}
 use Rattle.mm_query.specs.declared.query.FromItem.{FromItem}
 use Rattle.mm_query.specs.declared.query.Query.{Query}
-use Rattle.mm_relation.specs.Kept.{StoredRows}
-use Rattle.mm_relation.specs.Served.{is_on}
+use Rattle.mm_indexed.specs.Kept.{StoredRows}
+use Rattle.mm_indexed.specs.Served.{is_on}
 use Rattle.mm_schema.proofs.NameLemmas.{differs_back, same_name_refl}
 use Rattle.mm_schema.specs.Columns.{is_key, key_count}
 use Rattle.mm_schema.specs.Name.{same_name}

@@ -41,8 +41,8 @@ use Rattle.mm_query.specs.declared.plan_line.PlanLine.TheVariants as line
 use Rattle.mm_query.specs.Fields.{FieldName}
 use Rattle.mm_query.specs.declared.query.FromItem.{FromItem}
 use Rattle.mm_query.specs.declared.query.Query.{Query}
-use Rattle.mm_relation.specs.RowLists.{rows_of}
-use Rattle.mm_relation.specs.Kept.{StoredRows}
+use Rattle.mm_indexed.specs.RowLists.{rows_of}
+use Rattle.mm_indexed.specs.Kept.{StoredRows}
 use Rattle.mm_schema.proofs.NameLemmas.{differs_back, same_bytes, same_name_refl}
 use Rattle.mm_schema.proofs.Places.{place_from_some}
 use Rattle.mm_schema.specs.Columns.{refers_to, target_of}

@@ -24,7 +24,7 @@ use Rattle.mm_query.specs.declared.atom.Operand.{Operand}
 use Rattle.mm_query.specs.declared.atom.Operand.TheVariants.{Literal, Column, Shifted}
 use Rattle.mm_query.specs.declared.bound_query.FieldPlace.{FieldPlace}
 use Rattle.mm_query.specs.declared.query.FromItem.{FromItem}
-use Rattle.mm_relation.specs.Kept.{StoredRows}
+use Rattle.mm_indexed.specs.Kept.{StoredRows}
 use Rattle.mm_schema.specs.Schema.{Schema, columns_named, lacks_table, table_place}
 use Rattle.mm_schema.specs.declared.table.Table.{Table}
 use Rattle.mm_store.specs.Looked.{IsHash, IsIndexOn}

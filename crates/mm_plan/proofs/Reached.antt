@@ -15,7 +15,7 @@ use Rattle.mm_schema.specs.Schema.{Schema, table_place}
 use Rattle.mm_schema.specs.declared.column.Column.{Column}
 use Rattle.mm_schema.specs.declared.reference.Reference.{Reference}
 use Rattle.mm_schema.specs.declared.table.Table.{Table}
-use Rattle.mm_store.specs.Links.{differs_in_target, same_reference}
+use Rattle.mm_base.specs.Columns.{differs_in_target, same_reference}
 use Rattle.mm_store.specs.Tables.{Tables}
 
 or_none : (a b : Bool) → a ≡ false → (a || b) ≡ b

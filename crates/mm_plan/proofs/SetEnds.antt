@@ -17,7 +17,7 @@ use Rattle.mm_query.specs.declared.atom.Comparison.{Comparison}
 use Rattle.mm_query.specs.declared.atom.Operand.{Operand}
 use Rattle.mm_query.specs.declared.atom.Operand.TheVariants.{Literal, Column, Shifted}
 use Rattle.mm_query.specs.declared.bound_query.FieldPlace.{FieldPlace}
-use Rattle.mm_relation.specs.Kept.{StoredRows}
+use Rattle.mm_indexed.specs.Kept.{StoredRows}
 use Rattle.mm_select.specs.Accesses.{lies_between}
 use Rattle.mm_select.specs.Asked.{IsHigh, IsLow, compares}
 use Rattle.mm_store.specs.declared.index_ref.IndexRef.{IndexRef}

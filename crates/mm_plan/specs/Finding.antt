@@ -9,9 +9,9 @@ use Rattle.mm_plan.specs.declared.step.Step.TheVariants as step
 use Rattle.mm_query.specs.Queries.{none_fails}
 use Rattle.mm_query.specs.declared.atom.Atom.{Atom}
 use Rattle.mm_query.specs.declared.bound_query.FieldPlace.{FieldPlace}
-use Rattle.mm_relation.specs.Before.{same_ref}
-use Rattle.mm_relation.specs.Kept.{StoredRows}
-use Rattle.mm_relation.specs.Refs.{row_at}
+use Rattle.mm_tables.specs.Edits.{same_ref}
+use Rattle.mm_indexed.specs.Kept.{StoredRows}
+use Rattle.mm_row_order.specs.Refs.{row_at}
 use Rattle.mm_store.specs.declared.index_ref.IndexRef.TheVariants.{Key}
 use Rattle.mm_value.specs.declared.row_ref.RowRef.{RowRef}
 use Rattle.mm_value.specs.declared.values.Value.{Value}

@@ -1,9 +1,9 @@
 -- How a store keeps the tables of a catalog: beside each of them a relation.
 use Rattle.std.specs.Prelude.{◌≡◌, All, List, [], ◌∷◌, Some, map}
-use Rattle.mm_relation.specs.Index.{column_of, kind_of}
-use Rattle.mm_relation.specs.Kept.{StoredRows}
-use Rattle.mm_relation.specs.RowLists.{rows_of}
-use Rattle.mm_relation.specs.declared.indexes.index.Index.{Index}
+use Rattle.mm_indexed.specs.Index.{column_of, kind_of}
+use Rattle.mm_indexed.specs.Kept.{StoredRows}
+use Rattle.mm_indexed.specs.RowLists.{rows_of}
+use Rattle.mm_indexed.specs.declared.indexes.index.Index.{Index}
 use Rattle.mm_schema.specs.Columns.{column_place, key_count, key_place}
 use Rattle.mm_schema.specs.Instance.{Instance}
 use Rattle.mm_schema.specs.References.{HasTargets, RefersBack, RefersToOthers, all_references}

@@ -20,11 +20,11 @@ use Rattle.mm_query.specs.declared.atom.Comparison.TheVariants.{Equal}
 use Rattle.mm_query.specs.declared.atom.Operand.{Operand}
 use Rattle.mm_query.specs.declared.atom.Operand.TheVariants.{Literal}
 use Rattle.mm_query.specs.declared.bound_query.FieldPlace.{FieldPlace}
-use Rattle.mm_relation.specs.Kept.{StoredRows}
+use Rattle.mm_indexed.specs.Kept.{StoredRows}
 use Rattle.mm_select.specs.Accesses.{lies_between}
 use Rattle.mm_select.specs.Asked.{compares}
 use Rattle.mm_select.specs.Fitting.{fitting}
-use Rattle.mm_store.specs.Links.{IsReference}
+use Rattle.mm_base.specs.Columns.{IsReference}
 use Rattle.mm_store.specs.Looked.{IsHash, IsIndexOn, IsTree}
 use Rattle.mm_store.specs.Tables.{IsAt, Tables}
 use Rattle.mm_store.specs.declared.index_ref.IndexRef.{IndexRef}

@@ -5,7 +5,7 @@ ghost use Rattle.mm_plan.specs.Begun.{IsBegun};
 ghost use Rattle.mm_plan.specs.Finding.{finds_in_key_order};
 ghost use Rattle.mm_plan.specs.Steps.{AreSteps, Reaches, may_look};
 ghost use Rattle.mm_plan.specs.declared.step.Step.TheVariants.{LookUp};
-ghost use Rattle.mm_relation.specs.Kept.{StoredRows};
+ghost use Rattle.mm_indexed.specs.Kept.{StoredRows};
 ghost use Rattle.mm_select.specs.Accesses.{Asks, IsOfKey, IsServed, is_along, is_in_key_order};
 ghost use Rattle.mm_store.specs.Tables.{rows_at};
 ghost use Rattle.mm_store.specs.declared.index_ref.IndexRef.TheVariants.{Key};

@@ -7,7 +7,7 @@ ghost use Rattle.mm_plan.specs.Choosing.{first_step};
 ghost use Rattle.mm_plan.specs.Finding.{IsKeyed, among, finds_in_key_order, is_again, meeting, meets, once};
 ghost use Rattle.mm_plan.specs.Steps.{may_look};
 ghost use Rattle.mm_plan.specs.declared.step.Step.TheVariants.{LookUp};
-ghost use Rattle.mm_relation.specs.Kept.{StoredRows};
+ghost use Rattle.mm_indexed.specs.Kept.{StoredRows};
 ghost use Rattle.mm_store.specs.Tables.{IsAt, rows_at};
 ghost use Rattle.mm_store.specs.declared.index_ref.IndexRef.TheVariants.{Key};
 ghost use Rattle.mm_value.specs.Order.{value_cmp};

@@ -7,12 +7,13 @@ use Rattle.std.proofs.lemmas.List.Elements.{All-head, All-tail, Contains-get_or}
 use Rattle.std.proofs.lemmas.List.Sorted.{IsPermutation-refl}
 use Rattle.mm_order.specs.Probe.{entries_between}
 use Rattle.mm_partition.specs.Places.{IsLive, slot_at}
-use Rattle.mm_relation.proofs.Bags.{IsPermutation-filter}
-use Rattle.mm_relation.proofs.RefTests.{same_from_test, test_from_same}
-use Rattle.mm_relation.specs.Before.{same_ref}
-use Rattle.mm_relation.specs.Kept.{IsKept, StoredRows}
-use Rattle.mm_relation.specs.Reads.{Appends, HasIndex, IsRange, end_place}
-use Rattle.mm_relation.specs.declared.indexes.index.Index.{Index}
+use Rattle.mm_indexed.proofs.Bags.{IsPermutation-filter}
+use Rattle.mm_indexed.proofs.RefTests.{same_from_test, test_from_same}
+use Rattle.mm_tables.specs.Edits.{same_ref}
+use Rattle.mm_indexed.specs.Kept.{IsKept, StoredRows}
+use Rattle.mm_indexed.specs.Reads.{Appends, HasIndex, IsRange}
+use Rattle.mm_row_order.specs.Ends.{end_place}
+use Rattle.mm_indexed.specs.declared.indexes.index.Index.{Index}
 use Rattle.mm_schema.specs.declared.index.IndexKind.{IndexKind}
 use Rattle.mm_schema.specs.declared.index.IndexKind.TheVariants as kind
 use Rattle.mm_store.specs.Looked.{IsIndexOn}

@@ -1,5 +1,5 @@
 -- The rows along an access for which atoms ask are enough, and no more than they are found.
-use Rattle.std.proofs.Common.{◌≡◌, ℕ, ◌≤◌, Bool, true, false, cond, List, [], ◌∷◌, ◌++◌, ◌&&◌, get_or, length, take, Some, refl, sym, ap, ◌∙◌, subst}
+use Rattle.std.proofs.Common.{◌≡◌, ℕ, ◌≤◌, Bool, true, false, List, [], ◌∷◌, ◌++◌, ◌&&◌, get_or, length, take, Some, refl, sym, ap, ◌∙◌, subst}
 use Rattle.std.specs.List.{All, count_by, filter, list_any}
 use Rattle.std.specs.List.Sorted.{IsPermutation}
 use Rattle.std.specs.Option.{option_copied, option_map_or}
@@ -12,10 +12,10 @@ use Rattle.mm_query.specs.Atoms.{value_in}
 use Rattle.mm_query.specs.Queries.{none_fails}
 use Rattle.mm_query.specs.declared.atom.Atom.{Atom}
 use Rattle.mm_query.specs.declared.bound_query.FieldPlace.{FieldPlace}
-use Rattle.mm_relation.proofs.Matches.{Keeping}
-use Rattle.mm_relation.specs.Kept.{StoredRows}
-use Rattle.mm_relation.specs.Refs.{row_at}
-use Rattle.mm_relation.specs.RowLists.{rows_of}
+use Rattle.mm_indexed.proofs.Matches.{Keeping}
+use Rattle.mm_indexed.specs.Kept.{StoredRows}
+use Rattle.mm_row_order.specs.Refs.{row_at}
+use Rattle.mm_indexed.specs.RowLists.{rows_of}
 use Rattle.mm_select.proofs.Along.{filter_moved, filter_within}
 use Rattle.mm_select.proofs.Asking.{told_equal, told_high, told_low}
 use Rattle.mm_select.proofs.Found.{lie_along}

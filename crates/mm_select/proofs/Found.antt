@@ -10,12 +10,13 @@ use Rattle.std.proofs.lemmas.List.Elements.{filter_passes}
 use Rattle.std.proofs.lemmas.List.Sorted.{All-permutation, IsPermutation-sym}
 use Rattle.std.proofs.lemmas.Option.{slice_get-get_or}
 use Rattle.mm_order.specs.Probe.{entries_between, is_between}
-use Rattle.mm_partition.specs.Places.{slot_at}
+use Rattle.mm_partition.specs.Places.{slot_at, row_in}
 use Rattle.mm_query.specs.Atoms.{value_in}
-use Rattle.mm_relation.proofs.Typed.{HasTypes-length}
-use Rattle.mm_relation.specs.Kept.{IsKept, StoredRows}
-use Rattle.mm_relation.specs.Reads.{Appends, AreMatches, IsRange, end_place, has_value}
-use Rattle.mm_relation.specs.Refs.{Slots, place_by, row_at, row_in}
+use Rattle.mm_indexed.proofs.Typed.{HasTypes-length}
+use Rattle.mm_indexed.specs.Kept.{IsKept, StoredRows}
+use Rattle.mm_indexed.specs.Reads.{Appends, AreMatches, IsRange, has_value}
+use Rattle.mm_row_order.specs.Ends.{end_place}
+use Rattle.mm_row_order.specs.Refs.{Slots, place_by, row_at}
 use Rattle.mm_select.proofs.Along.{all_live, appended, filter_moved, filter_same, on_column}
 use Rattle.mm_select.specs.Accesses.{AreAlong, IsOfHash, IsOfKey, IsServed, has, is_along, is_from, is_up_to, lies_between, refs_along}
 use Rattle.mm_select.specs.declared.access.Access.{Access}

@@ -3,25 +3,25 @@ use Rattle.std.proofs.Common.{◌≡◌, ℕ, suc, true, List, [], ◌∷◌, Op
 use Rattle.std.specs.Borrow.{Bor}
 use Rattle.std.specs.List.{All}
 use Rattle.std.specs.List.Sorted.{IsPermutation, IsStrictlySortedBy}
-use Rattle.std.specs.Ordering.{ordering_reverse}
 use Rattle.std.specs.declared.cmp.Ordering.TheVariants.{Equal}
 use Rattle.std.specs.Option.{option_copied, option_map_or}
-use Rattle.std.proofs.lemmas.Bool.{cases_order, false≢true}
+use Rattle.std.proofs.lemmas.Bool.{false≢true}
 use Rattle.std.proofs.lemmas.Cmp.{tied_itself}
-use Rattle.std.proofs.lemmas.List.{get_or_default, length-map}
+use Rattle.std.proofs.lemmas.List.{length-map}
 use Rattle.std.proofs.lemmas.List.Elements.{All-head, All-tail, Contains-get_or}
 use Rattle.std.proofs.lemmas.List.Sorted.{Contains-permutation, IsPermutation-sym}
 use Rattle.mm_partition.specs.Places.{IsLive, slot_at}
-use Rattle.mm_relation.proofs.RowLists.{KeysApart-ordered}
-use Rattle.mm_relation.specs.Index.{InOrder}
-use Rattle.mm_relation.specs.Kept.{IsKept, StoredRows}
-use Rattle.mm_relation.specs.Orders.{refs_by_total}
-use Rattle.mm_relation.specs.Reads.{IsRange, IsWalk}
-use Rattle.mm_relation.specs.Refs.{HasRow, Slots, refs_by, row_at}
-use Rattle.mm_relation.specs.RowLists.{rows_of}
+use Rattle.mm_indexed.proofs.RefTests.{same_or_apart}
+use Rattle.mm_row_order.specs.InOrder.{InOrder}
+use Rattle.mm_indexed.specs.Kept.{StoredRows}
+use Rattle.mm_row_order.specs.Orders.{refs_by_total}
+use Rattle.mm_indexed.specs.Reads.{IsRange, IsWalk}
+use Rattle.mm_row_order.specs.Refs.{HasRow, Slots, refs_by, row_at}
+use Rattle.mm_indexed.specs.RowLists.{rows_of}
 use Rattle.mm_schema.proofs.StrictOrder.{Contains-from_IsIn, IsIn, IsIn-from_Contains, IsStrictlySortedBy-from_neighbours, same_from_elements}
 use Rattle.mm_schema.proofs.Duplicates.{column_cmp_total}
 use Rattle.mm_schema.specs.Rows.{column_cmp}
+use Rattle.mm_store.specs.Joined.{IsTable}
 use Rattle.mm_store.specs.Tables.{IsAt, Tables, rows_at}
 use Rattle.mm_store.specs.declared.index_ref.IndexRef.{IndexRef}
 use Rattle.mm_store.specs.declared.index_ref.IndexRef.TheVariants.{Key, Tree, Hash}
@@ -34,27 +34,16 @@ use Rattle.mm_select.specs.declared.access.Access.TheVariants as access
 moved : (xs ys : List RowRef) → IsPermutation xs ys → (at : RowRef) → IsIn at xs → IsIn at ys
 moved xs ys there at here = IsIn-from_Contains ys at (Contains-permutation xs ys at there (Contains-from_IsIn xs at here))
 
-module _ (stored : StoredRows) (kept : IsKept stored.places.types stored.key (slot_at stored.places) stored.refs stored.indexes) where
+module _ (stored : StoredRows) (table : IsTable stored) where
   abbrev now : Slots
   now = slot_at stored.places
 
   -- Two references of one key are one.
   pub same_from_keys : (x y : RowRef) → HasRow now x → HasRow now y → column_cmp stored.key (row_at now x) (row_at now y) ≡ Equal → x ≡ y
   same_from_keys x y live_x live_y tie =
-      let (i, below_i, is_x) = (kept.held x).1 live_x in
-      let (j, below_j, is_y) = (kept.held y).1 live_y in
-      let at_i : get_or stored.refs i y ≡ x = get_or_default stored.refs i y x below_i ∙ is_x in
-      let at_j : get_or stored.refs j x ≡ y = get_or_default stored.refs j x y below_j ∙ is_y in
-      let turned : column_cmp stored.key (row_at now y) (row_at now x) ≡ Equal =
-      (column_cmp_total stored.key).antisymm (row_at now y) (row_at now x) ∙ ap ordering_reverse tie in
-      elim (cases_order i j) [
-        | inl same ↦ sym at_i ∙ ap (λ n. get_or stored.refs n y) same ∙ is_y
-        | inr (inl before) ↦ absurd (KeysApart-ordered stored.key now stored.refs kept.by_key i j x before below_j
-            (ap (λ r. column_cmp stored.key (row_at now r) (row_at now (get_or stored.refs j x))) is_x
-            ∙ ap (λ r. column_cmp stored.key (row_at now x) (row_at now r)) at_j ∙ tie))
-        | inr (inr behind) ↦ absurd (KeysApart-ordered stored.key now stored.refs kept.by_key j i y behind below_i
-            (ap (λ r. column_cmp stored.key (row_at now r) (row_at now (get_or stored.refs i y))) is_y
-            ∙ ap (λ r. column_cmp stored.key (row_at now y) (row_at now r)) at_i ∙ turned))
+      elim (same_or_apart x y) [
+        | inl same ↦ same
+        | inr differ ↦ absurd (table.apart y live_y (x, live_x, differ, tie))
       ]
 
   -- Live references of the same rows are the same.
@@ -73,7 +62,7 @@ module _ (stored : StoredRows) (kept : IsKept stored.places.types stored.key (sl
   -- A walk of all rows in key order is the list of the references.
   pub walk_is : (walk : List RowRef) → map (row_at now) walk ≡ rows_of stored → All (IsLive stored.places) walk → walk ≡ stored.refs
   walk_is walk rows live =
-      same_from_rows walk stored.refs live (λ k d within. (kept.held (get_or stored.refs k d)).0 (Contains-get_or stored.refs k d within)) rows
+      same_from_rows walk stored.refs live (λ k d within. (table.kept.held (get_or stored.refs k d)).0 (Contains-get_or stored.refs k d within)) rows
 
   strict : (refs : List RowRef) → InOrder stored.key stored.key now refs → IsStrictlySortedBy (refs_by stored.key stored.key now) refs
   strict refs order =
@@ -84,7 +73,7 @@ module _ (stored : StoredRows) (kept : IsKept stored.places.types stored.key (sl
   tree_walk_is : (column : ℕ) → column ≡ stored.key → (walk : List RowRef) → IsWalk column stored walk → walk ≡ stored.refs
   tree_walk_is column on walk is =
       let ordered : InOrder stored.key stored.key now walk = subst (λ n. InOrder n stored.key now walk) on is.ordered in
-      same_from_elements (refs_by_total stored.key stored.key now) walk stored.refs (strict walk ordered) (strict stored.refs kept.by_key)
+      same_from_elements (refs_by_total stored.key stored.key now) walk stored.refs (strict walk ordered) (strict stored.refs table.kept.by_key)
       (moved walk stored.refs is.same) (moved stored.refs walk (IsPermutation-sym walk stored.refs is.same))
 
   -- A range along the key is in key order.
@@ -92,7 +81,7 @@ module _ (stored : StoredRows) (kept : IsKept stored.places.types stored.key (sl
       → IsServed stored (access.Range index column low high) → IsRange column stored (option_copied low) (option_copied high) found
       → is_in_key_order (access.Range index column low high) ≡ true → found ≡ refs_along stored (access.Range index column low high)
   range_in_order Key column low high found on (walk, is_walk, is) ordered =
-      between_filtered stored kept Key column low high on walk found (tree_walk_is column on.0 walk is_walk) is
+      between_filtered stored table.kept Key column low high on walk found (tree_walk_is column on.0 walk is_walk) is
   range_in_order (Tree place) column low high found on range ordered = absurd (false≢true ordered)
   range_in_order (Hash place) column low high found on range ordered = absurd (false≢true ordered)
 

@@ -3,12 +3,11 @@ use Rattle.std.proofs.Common.{◌≡◌, ℕ, ◌<◌, Bool, true, false, cond, 
 use Rattle.std.specs.List.{All, Contains, filter}
 use Rattle.std.proofs.lemmas.List.{append-nil, map-append}
 use Rattle.std.proofs.lemmas.List.Elements.{All-contains, Contains-append_left, Contains-append_right, Contains-push, filter-append}
-use Rattle.mm_partition.specs.Places.{Live, slot_at}
+use Rattle.mm_partition.specs.Places.{Live, slot_at, row_in}
 use Rattle.mm_query.specs.Queries.{Partial, none_fails}
 use Rattle.mm_query.specs.declared.atom.Atom.{Atom}
 use Rattle.mm_query.specs.declared.bound_query.FieldPlace.{FieldPlace}
-use Rattle.mm_relation.specs.Kept.{StoredRows}
-use Rattle.mm_relation.specs.Refs.{row_in}
+use Rattle.mm_indexed.specs.Kept.{StoredRows}
 use Rattle.mm_store.proofs.Joining.{some_at}
 use Rattle.mm_store.specs.Tables.{IsAt, Tables}
 use Rattle.mm_templist.specs.Combos.{row_of}

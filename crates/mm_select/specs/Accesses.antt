@@ -11,8 +11,8 @@ use Rattle.mm_query.specs.declared.atom.Comparison.TheVariants as comparison
 use Rattle.mm_query.specs.declared.atom.Operand.{Operand}
 use Rattle.mm_query.specs.declared.atom.Operand.TheVariants.{Literal, Column, Shifted}
 use Rattle.mm_query.specs.declared.bound_query.FieldPlace.{FieldPlace}
-use Rattle.mm_relation.specs.Kept.{StoredRows}
-use Rattle.mm_relation.specs.Refs.{row_at}
+use Rattle.mm_indexed.specs.Kept.{StoredRows}
+use Rattle.mm_row_order.specs.Refs.{row_at}
 use Rattle.mm_select.specs.Alone.{asks_of_first}
 use Rattle.mm_select.specs.Asked.{IsHigh, IsLow, compares}
 use Rattle.mm_select.specs.declared.access.Access.{Access}

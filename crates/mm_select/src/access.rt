@@ -2,8 +2,8 @@
 ghost use Rattle.std.specs.Prelude.{◌≡◌, ◌<◌, ◌≤◌, true, All, IfOk, IsOk, IsOkAnd, filter, length};
 ghost use Rattle.std.specs.Option.{option_copied, option_map};
 ghost use Rattle.mm_partition.specs.Places.{IsLive, slot_at};
-ghost use Rattle.mm_relation.specs.Kept.{StoredRows};
-ghost use Rattle.mm_relation.specs.Reads.{AreMatches};
+ghost use Rattle.mm_indexed.specs.Kept.{StoredRows};
+ghost use Rattle.mm_indexed.specs.Reads.{AreMatches};
 ghost use Rattle.mm_select.specs.Accesses.{AreAlong, IsServed, all_stand, all_stand_to, is_in_key_order, is_met_along, refs_along, stand_from, stand_up_to};
 ghost use Rattle.mm_select.specs.declared.access.Access.TheVariants as access;
 ghost use Rattle.mm_store.specs.Looked.{IsHash};

@@ -3,7 +3,7 @@ ghost use Rattle.std.specs.Prelude.{◌≡◌, ◌+◌, ◌≤◌, ◌∷◌, �
 ghost use Rattle.std.specs.List.{list_any};
 ghost use Rattle.mm_partition.specs.Places.{IsLive};
 ghost use Rattle.mm_query.specs.Queries.{none_fails};
-ghost use Rattle.mm_relation.specs.Kept.{StoredRows};
+ghost use Rattle.mm_indexed.specs.Kept.{StoredRows};
 ghost use Rattle.mm_select.specs.Accesses.{asks_along, is_along};
 ghost use Rattle.mm_select.specs.Alone.{asks_of_first};
 ghost use Rattle.mm_store.specs.Tables.{IsAt};

@@ -2,7 +2,7 @@
 ghost use Rattle.std.specs.Prelude.{◌≡◌, ℕ, ◌+◌, ◌∷◌, ◌<◌, ◌≤◌, [], false, true, All, IfOk, IsOk, IsOkAnd, IsPermutation, length};
 ghost use Rattle.std.specs.List.{count_by, list_any};
 ghost use Rattle.mm_partition.specs.Places.{IsLive};
-ghost use Rattle.mm_relation.specs.Kept.{StoredRows};
+ghost use Rattle.mm_indexed.specs.Kept.{StoredRows};
 ghost use Rattle.mm_select.specs.Accesses.{AreAlong, Asks, IsOfHash, IsOfKey, IsServed, asks_along, is_along, is_in_key_order, refs_along};
 ghost use Rattle.mm_select.specs.Fitting.{AreFitting};
 ghost use Rattle.mm_select.specs.Matches.{matching};

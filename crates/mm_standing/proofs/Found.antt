@@ -15,7 +15,7 @@ use Rattle.mm_query.specs.Queries.{bag_of, values_of}
 use Rattle.mm_query.specs.declared.bound_query.BoundQuery.{BoundQuery}
 use Rattle.mm_query.specs.declared.bound_query.FieldPlace.{FieldPlace}
 use Rattle.mm_partition.specs.Places.{IsLive}
-use Rattle.mm_relation.specs.Kept.{StoredRows}
+use Rattle.mm_indexed.specs.Kept.{StoredRows}
 use Rattle.mm_store.specs.Tables.{IsAt, Tables, rows_at}
 use Rattle.mm_templist.specs.Combos.{AreLive, Combos, combo_rows, row_of, rows_of_combo}
 use Rattle.mm_templist.specs.Results.{projected_rows}

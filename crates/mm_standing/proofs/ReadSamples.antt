@@ -2,11 +2,12 @@
 use Rattle.std.proofs.Common.{◌≡◌, ℕ, Bool, true, false, List, [], ◌∷◌, length, map, refl}
 use Rattle.std.specs.List.{range_with_len}
 use Rattle.mm_partition.specs.Places.{Live}
-use Rattle.mm_relation.specs.Kept.{StoredRows}
-use Rattle.mm_relation.specs.declared.edits.Edit.TheVariants.{Add}
-use Rattle.mm_relation.specs.declared.indexes.index.Index.{Index}
-use Rattle.mm_relation.specs.declared.indexes.index.Index.TheVariants.{Tree}
+use Rattle.mm_indexed.specs.Kept.{StoredRows}
+use Rattle.mm_store.specs.declared.edit.Edit.TheVariants.{Add}
+use Rattle.mm_indexed.specs.declared.indexes.index.Index.{Index}
+use Rattle.mm_indexed.specs.declared.indexes.index.Index.TheVariants.{Tree}
 use Rattle.mm_store.specs.Tables.{Tables}
+use Rattle.mm_tables.specs.declared.logged_table.LoggedTable.{LoggedTable}
 use Rattle.mm_value.specs.declared.col_type.ColType.TheVariants.{Int}
 use Rattle.mm_value.specs.declared.row_ref.RowRef.{RowRef}
 use Rattle.mm_value.specs.declared.values.Value.{Value}
@@ -27,6 +28,18 @@ table_of rows indexes = record {
   indexes = indexes;
 }
 
+-- A table that was not edited.
+abbrev unedited : StoredRows → LoggedTable
+unedited rows = record { rows = rows; owed = record { key = 0; indexes = 0 } }
+
+-- A store of these tables, of which none refers to another and none was edited.
+abbrev store_of : List StoredRows → Tables
+store_of tables = record {
+  tables = tables;
+  links = [];
+  stored = record { tables = map unedited tables; log = []; undone = []; log_room = 0 };
+}
+
 -- A row is added to the table at place 0.
 abbrev addition_of : List Value → List TableChange
 addition_of row = record { table = 0; edits = record { ref_ptr = (0, 0); now = Add row ∷ [] } } ∷ []
@@ -41,19 +54,19 @@ indexes_if false = []
 
 pub third_five_added : (b : Bool) → (store : Tables) × (changes : List TableChange) × AddsThirdFive store changes × (has_index store 0 1 ≡ b)
 third_five_added b = (
-  record { tables = table_of three (indexes_if b) ∷ []; links = [] },
+  store_of (table_of three (indexes_if b) ∷ []),
   addition_of (row_of 3 5),
   record { before = refl; after = refl; added = record { gone = refl; come = refl } },
   by b,
 )
   where
-    by : (b : Bool) → has_index (record { tables = table_of three (indexes_if b) ∷ []; links = [] }) 0 1 ≡ b
+    by : (b : Bool) → has_index (store_of (table_of three (indexes_if b) ∷ [])) 0 1 ≡ b
     by true = refl
     by false = refl
 
 pub added_beside_four : (row : List Value) → (store : Tables) × (changes : List TableChange) × AddsBesideFour store changes row
 added_beside_four row = (
-  record { tables = table_of [] [] ∷ table_of (row_of 1 4 ∷ []) [] ∷ []; links = [] },
+  store_of (table_of [] [] ∷ table_of (row_of 1 4 ∷ []) [] ∷ []),
   addition_of row,
   record { before = refl; added = record { gone = refl; come = refl }; left = record { gone = refl; come = refl } },
 )

@@ -1,14 +1,13 @@
--- Relations that keep their columns, their keys and their indexes.
-use Rattle.std.proofs.Common.{◌≡◌, ◌≢◌, ℕ, suc, List, [], ◌∷◌, get_or, refl, sym, ◌∙◌, subst, ⊎_elim, arith}
-use Rattle.std.specs.Prelude.{map, slice_set}
+-- Tables that keep their columns, their keys and their indexes.
+use Rattle.std.proofs.Common.{◌≡◌, ◌≢◌, ℕ, List, get_or, refl, sym, ◌∙◌, subst, ⊎_elim}
+use Rattle.std.specs.Prelude.{slice_set}
 use Rattle.std.proofs.lemmas.List.{get_or-set_other, get_or-set_same, length-set}
 use Rattle.std.proofs.lemmas.Option.{get_or_from_slice_get, slice_get_within}
-use Rattle.mm_relation.specs.Index.{EachTurns, SameIndex}
-use Rattle.mm_relation.specs.Kept.{StoredRows}
-use Rattle.mm_relation.proofs.RefTests.{same_number}
-use Rattle.mm_relation.proofs.Turning.{EachTurns-twice}
+use Rattle.mm_indexed.specs.Index.{EachTurns, SameIndex}
+use Rattle.mm_indexed.specs.Kept.{StoredRows}
+use Rattle.mm_indexed.proofs.RefTests.{same_number}
+use Rattle.mm_indexed.proofs.Turning.{EachTurns-twice}
 use Rattle.mm_store.specs.Tables.{IsAt, SameForm, Tables, Turns}
-use Rattle.mm_store.specs.Undoing.{heading_of}
 
 pub SameForm-refl : (stored : StoredRows) → SameForm stored stored
 SameForm-refl stored = record { types = refl; key = refl; indexes = record { size = refl; each = λ k d within. (refl, refl) } }
@@ -28,7 +27,7 @@ forms_same tables = record { size = refl; each = λ k d within. SameForm-refl (g
 pub forms_twice : (a b c : List StoredRows) → EachTurns SameForm a b → EachTurns SameForm b c → EachTurns SameForm a c
 forms_twice a b c first second = EachTurns-twice SameForm SameForm SameForm SameForm-trans a b c first second
 
--- one relation has turned, and all others are as they were
+-- one table has turned, and all others are as they were
 pub forms_turned : (old new : Tables) (place : ℕ) (was is : StoredRows) → IsAt old place was → Turns old place is new → SameForm was is
     → EachTurns SameForm old.tables new.tables
 forms_turned old new place was is there turned form =
@@ -44,19 +43,3 @@ forms_turned old new place was is there turned form =
           subst (SameForm (get_or old.tables k d)) (sym (get_or-set_other old.tables place k is d apart)) (SameForm-refl (get_or old.tables k d)))
           (same_number k place);
     })
-
--- relations of one form have one heading each
-pub headings_formed : (old new : List StoredRows) → EachTurns SameForm old new → map heading_of new ≡ map heading_of old
-headings_formed [] [] forms = refl
-headings_formed [] (y ∷ ys) forms = absurd (omega (arith, forms.size))
-headings_formed (x ∷ xs) [] forms = absurd (omega (arith, forms.size))
-headings_formed (x ∷ xs) (y ∷ ys) forms =
-    let first : SameForm x y = forms.each 0 x (omega arith) in
-    let types : y.places.types ≡ x.places.types = first.types in
-    let key : y.key ≡ x.key = first.key in
-    let rest : EachTurns SameForm xs ys = record {
-      size = omega (arith, forms.size);
-      each = λ k d within. forms.each (suc k) d (omega (arith, within));
-    } in
-    let others = headings_formed xs ys rest in
-    λ i. record { types = types i; key = key i } ∷ others i

@@ -5,30 +5,32 @@ use Rattle.std.specs.Prelude.{IfNone, IfSome, position, slice_get}
 use Rattle.std.specs.List.{All, Contains, cons_option, filter, position_or_len}
 use Rattle.std.specs.List.Sorted.{IsPermutation}
 use Rattle.std.specs.declared.cmp.Ordering.{Ordering}
-use Rattle.std.specs.declared.cmp.Ordering.TheVariants as ordering
 use Rattle.std.proofs.lemmas.Bool.{cases_lt, false≢true}
 use Rattle.std.proofs.lemmas.List.Elements.{All-append, All-filter, Contains-get_or, filter_agree}
 use Rattle.std.proofs.lemmas.List.Sorted.{All-permutation, IsPermutation-refl, IsPermutation-sym}
 use Rattle.std.proofs.lemmas.List.Sums.{fails_before_first}
 use Rattle.mm_order.specs.Probe.{entries_between, is_between}
 use Rattle.mm_partition.specs.Places.{IsLive, slot_at}
-use Rattle.mm_relation.proofs.Bags.{IsPermutation-filter}
-use Rattle.mm_relation.proofs.OneKey.{none_of_key, one_of_key, not_apart}
-use Rattle.mm_relation.proofs.RefTests.{same_from_test, test_from_same}
-use Rattle.mm_relation.specs.Before.{same_ref}
-use Rattle.mm_relation.specs.Kept.{IsKept, StoredRows}
-use Rattle.mm_relation.specs.Reads.{Appends, AreMatches, HasIndex, IsRange, IsWalk, end_place, has_value}
-use Rattle.mm_relation.specs.Refs.{Slots, place_by, row_at}
-use Rattle.mm_relation.specs.Served.{is_on}
-use Rattle.mm_relation.specs.declared.indexes.index.Index.{Index}
+use Rattle.mm_indexed.proofs.Apart.{KeysApart-refs}
+use Rattle.mm_indexed.proofs.Bags.{IsPermutation-filter}
+use Rattle.mm_indexed.proofs.OneKey.{none_of_key, one_of_key, not_apart}
+use Rattle.mm_indexed.proofs.RefTests.{same_from_test, same_ref, test_from_same}
+use Rattle.mm_indexed.specs.Kept.{IsKept, StoredRows}
+use Rattle.mm_indexed.specs.Reads.{Appends, AreMatches, HasIndex, IsRange, IsWalk, has_value}
+use Rattle.mm_row_order.specs.Ends.{end_place}
+use Rattle.mm_row_order.specs.InOrder.{KeysApart}
+use Rattle.mm_row_order.specs.Refs.{Slots, place_by, row_at}
+use Rattle.mm_indexed.specs.Served.{is_on}
+use Rattle.mm_indexed.specs.declared.indexes.index.Index.{Index}
 use Rattle.mm_schema.specs.declared.index.IndexKind.{IndexKind}
 use Rattle.mm_schema.specs.declared.index.IndexKind.TheVariants as kind
 use Rattle.mm_value.specs.declared.row_ref.RowRef.{RowRef}
 use Rattle.mm_value.specs.declared.values.Value.{Value}
+use Rattle.mm_store.specs.Joined.{IsTable}
 use Rattle.mm_store.specs.Looked.{IsFirstOn, IsFirstSuch, IsHash, IsIndexOn, IsTree, created_before}
 use Rattle.mm_store.specs.declared.index_ref.IndexRef.{IndexRef}
 use Rattle.mm_store.specs.declared.index_ref.IndexRef.TheVariants.{Key, Tree, Hash}
-use Rattle.mm_relation.proofs.Served.{test_from_IsOn}
+use Rattle.mm_indexed.proofs.Served.{test_from_IsOn}
 
 -- ---- the first place of a list that passes
 
@@ -164,25 +166,28 @@ matches_in_range column stored value found (walk, is_walk, is) =
 
 -- ---- the row of a key
 
-module _ (stored : StoredRows) (kept : IsKept stored.places.types stored.key (slot_at stored.places) stored.refs stored.indexes) where
+module _ (stored : StoredRows) (table : IsTable stored) where
+  keys_apart : KeysApart stored.key (slot_at stored.places) stored.refs
+  keys_apart = KeysApart-refs stored.key stored.key (slot_at stored.places) stored.refs table.apart table.kept.by_key
+
   -- What is sought by the key is all that has the value.
   pub found_of_key : (value : Value) (found : Option RowRef) → IfSome found (Contains stored.refs)
       → IfSome found (λ at. slice_get (row_at (slot_at stored.places) at) stored.key ≡ Some value)
       → IfNone found (All (λ at. slice_get (row_at (slot_at stored.places) at) stored.key ≢ Some value) stored.refs)
       → AreMatches stored.key (slot_at stored.places) value stored.refs (cons_option found [])
   found_of_key value found held fits none =
-      matches_in_range stored.key stored value (cons_option found []) (stored.refs, walk_of_keys stored kept, range_of_found found held fits none)
+      matches_in_range stored.key stored value (cons_option found []) (stored.refs, walk_of_keys stored table.kept, range_of_found found held fits none)
     where
       range_of_found : (found : Option RowRef) → IfSome found (Contains stored.refs)
           → IfSome found (λ at. slice_get (row_at (slot_at stored.places) at) stored.key ≡ Some value)
           → IfNone found (All (λ at. slice_get (row_at (slot_at stored.places) at) stored.key ≢ Some value) stored.refs)
           → cons_option found []
           ≡ entries_between (end_place stored.key (slot_at stored.places) (Some value)) (end_place stored.key (slot_at stored.places) (Some value)) stored.refs
-      range_of_found (Some at) held fits none = sym (one_of_key stored.key (slot_at stored.places) stored.refs kept.by_key value at held fits)
-      range_of_found None held fits none = sym (none_of_key stored.key (slot_at stored.places) stored.refs kept.by_key value none)
+      range_of_found (Some at) held fits none = sym (one_of_key stored.key (slot_at stored.places) stored.refs keys_apart value at held fits)
+      range_of_found None held fits none = sym (none_of_key stored.key (slot_at stored.places) stored.refs keys_apart value none)
 
   pub found_live : (found : Option RowRef) → IfSome found (Contains stored.refs) → IfSome found (IsLive stored.places)
-  found_live (Some at) held = (kept.held at).0 held
+  found_live (Some at) held = (table.kept.held at).0 held
   found_live None held = tt
 
 -- What is found along an index is live, ..

@@ -3,20 +3,22 @@ use Rattle.std.proofs.Common.{◌≡◌, ℕ, ◌<◌, Bool, true, List, length,
 use Rattle.std.proofs.Math.Logic.{∥∥₁_elim, ∥∥₁_map}
 use Rattle.std.proofs.Props.{props}
 use Rattle.std.specs.Coded.{le_prop}
-use Rattle.std.specs.List.{Contains}
-use Rattle.std.specs.Prelude.{IsPermutation, map}
+use Rattle.std.specs.List.{All, Contains}
+use Rattle.std.specs.Prelude.{IsPermutation, Some, map, slice_get}
 use Rattle.std.proofs.lemmas.List.Sorted.{sum_by-IsPermutation}
+use Rattle.std.proofs.lemmas.Option.{get_or_from_slice_get, slice_get_within}
 use Rattle.mm_partition.specs.Places.{Content, Free, Live, Hidden, IsStorableIn, slot_at}
-use Rattle.mm_relation.specs.Before.{same_ref}
-use Rattle.mm_relation.specs.HashedPairs.{hashed_pair}
-use Rattle.mm_relation.specs.Index.{InOrder, Keeps}
-use Rattle.mm_relation.specs.Kept.{IsKept, StoredRows}
-use Rattle.mm_relation.specs.Refs.{IsWide, Slots}
-use Rattle.mm_relation.specs.declared.indexes.index.Index.{Index}
-use Rattle.mm_relation.specs.declared.indexes.index.Index.TheVariants.{Tree, Hash}
-use Rattle.mm_relation.proofs.Bags.{IsPermutation-from_counts}
-use Rattle.mm_relation.proofs.RefTests.{pair_from_test, pair_itself, same_from_test, same_pair, test_from_same}
-use Rattle.mm_relation.proofs.WaysBack.{among}
+use Rattle.mm_indexed.proofs.RefTests.{same_ref}
+use Rattle.mm_indexed.specs.HashedPairs.{hashed_pair}
+use Rattle.mm_indexed.specs.Index.{Keeps}
+use Rattle.mm_row_order.specs.InOrder.{InOrder}
+use Rattle.mm_indexed.specs.Kept.{IsKept, StoredRows}
+use Rattle.mm_row_order.specs.Refs.{IsWide, Slots}
+use Rattle.mm_indexed.specs.declared.indexes.index.Index.{Index}
+use Rattle.mm_indexed.specs.declared.indexes.index.Index.TheVariants.{Tree, Hash}
+use Rattle.mm_indexed.proofs.Bags.{IsPermutation-from_counts}
+use Rattle.mm_indexed.proofs.RefTests.{pair_from_test, pair_itself, same_from_test, same_pair, test_from_same}
+use Rattle.mm_base.proofs.References.{in_or_out}
 use Rattle.mm_value.specs.Storable.{IsStorable}
 use Rattle.mm_value.specs.declared.col_type.ColType.{ColType}
 use Rattle.mm_value.specs.declared.row_ref.RowRef.{RowRef}
@@ -25,7 +27,6 @@ use Rattle.mm_value.specs.declared.values.Value.TheVariants.{Int, Text}
 use Rattle.mm_store.specs.Joined.{IsTable}
 use Rattle.mm_store.specs.Seen.{Seen}
 use Rattle.mm_store.specs.Tables.{IsAt}
-use Rattle.mm_store.proofs.Applied.{table_at}
 
 -- Each fact below is decided by what it speaks of, or has one proof at most. So where it holds truncated, it holds.
 
@@ -41,7 +42,7 @@ row_had (Hidden row) h = absurd (∥∥₁_elim h (λ x y. absurd x) (λ has. le
 
 Contains-had : (refs : List RowRef) (at : RowRef) → ∥ Contains refs at ∥₁ → Contains refs at
 Contains-had refs at h =
-    ⊎_elim (λ (here : Contains refs at). here) (λ (absent : Contains refs at → ⊥). absurd (∥∥₁_elim h (λ x y. absurd x) absent)) (among refs at)
+    ⊎_elim (λ (here : Contains refs at). here) (λ (absent : Contains refs at → ⊥). absurd (∥∥₁_elim h (λ x y. absurd x) absent)) (in_or_out refs at)
 
 one_row : (row other : List Value) → Live row ≡ Live other → row ≡ other
 one_row row other same = cc
@@ -98,9 +99,14 @@ IsStorableIn-prop (Hidden row) = hlevel (IsStorable-prop, props)
 IsTable-had : (stored : StoredRows) → ∥ IsTable stored ∥₁ → IsTable stored
 IsTable-had stored h = record {
   few = ∥∥₁_elim h le_prop (λ table. table.few);
+  apart = λ at live twin. ∥∥₁_elim h (λ x y. absurd x) (λ table. table.apart at live twin);
   kept = IsKept-had stored.places.types stored.key (slot_at stored.places) stored.refs stored.indexes (∥∥₁_map h (λ table. table.kept));
   storable = λ at. ∥∥₁_elim h (IsStorableIn-prop (slot_at stored.places at)) (λ table. table.storable at);
 }
+
+pub table_at : (tables : List StoredRows) (place : ℕ) (stored : StoredRows) → All IsTable tables → slice_get tables place ≡ Some stored → IsTable stored
+table_at tables place stored all there =
+    subst IsTable (get_or_from_slice_get tables place stored stored there) (all place stored (slice_get_within tables place stored there))
 
 -- What always holds of a table holds of each that a view shows.
 pub table_seen : (seen : Seen) (table : ℕ) (stored : StoredRows) → IsAt seen.store table stored → IsTable stored

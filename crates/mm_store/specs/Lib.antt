@@ -1,13 +1,10 @@
-pub mod Behind
-pub mod Commands
+pub mod Asked
 pub mod Joined
-pub mod Links
 pub mod Looked
 pub mod Marks
 pub mod Ordered
+pub mod RowEdits
 pub mod Seen
-pub mod Snapshots
 pub mod Spares
+pub mod Staged
 pub mod Tables
-pub mod Tally
-pub mod Undoing

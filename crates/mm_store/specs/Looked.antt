@@ -1,18 +1,18 @@
--- Which index of a relation values of a column are looked up in.
+-- Which index of a table values of a column are looked up in.
 use Rattle.std.specs.Prelude.{◌≡◌, ℕ, ◌+◌, ◌≤◌, Option, Some, None}
-use Rattle.mm_relation.specs.Kept.{StoredRows}
-use Rattle.mm_relation.specs.Reads.{HasIndex}
+use Rattle.mm_indexed.specs.Kept.{StoredRows}
+use Rattle.mm_indexed.specs.Reads.{HasIndex}
 use Rattle.mm_schema.specs.declared.index.IndexKind.TheVariants as kind
 use Rattle.mm_store.specs.declared.index_ref.IndexRef.{IndexRef}
 use Rattle.mm_store.specs.declared.index_ref.IndexRef.TheVariants.{Key, Tree, Hash}
 
--- The relation has the index, and it is on the column.
+-- The table has the index, and it is on the column.
 abbrev pub IsIndexOn : StoredRows → ℕ → IndexRef → Type 0
 IsIndexOn stored column Key = column ≡ stored.key
 IsIndexOn stored column (Tree place) = HasIndex stored.indexes place column kind.Tree
 IsIndexOn stored column (Hash place) = HasIndex stored.indexes place column kind.Hash
 
--- How many indexes of its relation were created before it. The key's comes before all.
+-- How many indexes of its table were created before it. The key's comes before all.
 abbrev pub created_before : IndexRef → ℕ
 created_before Key = 0
 created_before (Tree place) = place + 1

@@ -1,10 +1,11 @@
 -- The rows of a table in an order.
 use Rattle.std.specs.Prelude.{ℕ, ◌≤◌, All, List, length, map}
 use Rattle.mm_partition.specs.Places.{IsLive, slot_at}
-use Rattle.mm_relation.specs.Kept.{StoredRows}
-use Rattle.mm_relation.specs.Reads.{HasIndex}
-use Rattle.mm_relation.specs.Refs.{row_at}
-use Rattle.mm_relation.specs.RowLists.{rows_of}
+use Rattle.mm_indexed.specs.Kept.{StoredRows}
+use Rattle.mm_indexed.specs.Reads.{HasIndex}
+use Rattle.mm_row_order.specs.Refs.{row_at}
+use Rattle.mm_indexed.specs.RowLists.{rows_of}
+use Rattle.mm_indexed.specs.Twins.{AreApart}
 use Rattle.mm_schema.specs.Rows.{rows_by, most_rows}
 use Rattle.mm_schema.specs.Sorting.{in_order}
 use Rattle.mm_schema.specs.declared.index.IndexKind.TheVariants as kind
@@ -16,14 +17,15 @@ use Rattle.mm_value.specs.declared.values.Value.{Value}
 abbrev pub rows_in_order : ℕ → StoredRows → List (List Value)
 rows_in_order column stored = in_order (rows_by column stored.key) (rows_of stored)
 
--- The rows of a relation in the order.
+-- The rows of a table in the order.
 abbrev pub ordered_rows : StoredRows → Order → List (List Value)
 ordered_rows stored Key = rows_of stored
 ordered_rows stored (Tree place column) = rows_in_order column stored
 ordered_rows stored (Made tree) = map (row_at (slot_at stored.places)) tree.refs
 
--- They can be read in it: they are there, and few enough.
+-- They can be read in it: they are there, few enough, and no two have one key.
 abbrev pub IsOrder : StoredRows → Order → Type 0
 IsOrder stored Key = length stored.refs ≤ most_rows
-IsOrder stored (Tree place column) = (length stored.refs ≤ most_rows) × HasIndex stored.indexes place column kind.Tree
+IsOrder stored (Tree place column) =
+    (length stored.refs ≤ most_rows) × AreApart stored.key (slot_at stored.places) × HasIndex stored.indexes place column kind.Tree
 IsOrder stored (Made tree) = All (IsLive stored.places) tree.refs × (length tree.refs ≤ most_rows)

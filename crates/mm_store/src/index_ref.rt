@@ -3,11 +3,12 @@ ghost use Rattle.std.specs.Prelude.{◌≡◌, ℕ, ◌≤◌, length, All, OnOk
 ghost use Rattle.std.specs.Option.{option_map};
 ghost use Rattle.mm_partition.specs.Places.{IsLive, slot_at};
 ghost use Rattle.mm_value.specs.Views.{value_of};
-ghost use Rattle.mm_relation.specs.Reads.{Appends, AreMatches, IsRange, IsWalk};
+ghost use Rattle.mm_indexed.specs.Reads.{Appends, AreMatches, IsRange, IsWalk};
+ghost use Rattle.mm_indexed.specs.Twins.{AreApart};
 ghost use Rattle.mm_store.specs.Looked.{IsFirstOn, IsFirstSuch, IsHash, IsIndexOn, IsTree};
 ghost use Rattle.mm_schema.specs.Rows.{most_rows};
 
-use mm_relation::Relation;
+use mm_indexed::IndexedRows;
 use mm_schema::IndexKind;
 use mm_value::{RowRef, ValueRef};
 use std::alloc::{AllocError, Global};
@@ -24,8 +25,8 @@ pub enum IndexRef {
     Hash(usize),
 }
 
-/// The index of a relation on a column that was created first, if it has one there.
-pub(crate) fn first_index(relation: &Relation, column: usize) -> Option<IndexRef>
+/// Returns the index of a table on a column that was created first, or `None` if the column has none.
+pub(crate) fn first_index(relation: &IndexedRows, column: usize) -> Option<IndexRef>
     ensures { IsFirstOn relation.now column result }
 {
     if column == relation.key() {
@@ -42,8 +43,8 @@ pub(crate) fn first_index(relation: &Relation, column: usize) -> Option<IndexRef
     }
 }
 
-/// The tree of a relation on a column that was created first, if it has one there. That on the key comes before all others.
-pub(crate) fn first_tree(relation: &Relation, column: usize) -> Option<IndexRef>
+/// Returns the tree of a table on a column that was created first, or `None` if the column has none. That on the key comes first.
+pub(crate) fn first_tree(relation: &IndexedRows, column: usize) -> Option<IndexRef>
     ensures { IsFirstSuch IsTree relation.now column result }
 {
     if column == relation.key() {
@@ -53,24 +54,25 @@ pub(crate) fn first_tree(relation: &Relation, column: usize) -> Option<IndexRef>
     Some(IndexRef::Tree(place))
 }
 
-/// The HASH index of a relation on a column that was created first, if it has one there.
-pub(crate) fn first_hash(relation: &Relation, column: usize) -> Option<IndexRef>
+/// Returns the HASH index of a table on a column that was created first, or `None` if the column has none.
+pub(crate) fn first_hash(relation: &IndexedRows, column: usize) -> Option<IndexRef>
     ensures { IsFirstSuch IsHash relation.now column result }
 {
     let place = relation.index_of(column, IndexKind::Hash)?;
     Some(IndexRef::Hash(place))
 }
 
-/// Appends the references of the rows of a relation that have this value in the column of an index, in no promised order.
-/// `AllocError` where memory is refused; then `out` holds what it held.
+/// Appends the references of the rows of a table that have this value in the column of an index, in no particular order. Fails with
+/// `AllocError` if an allocation fails; then nothing is appended.
 pub(crate) fn append_matches(
     alloc: Global,
-    relation: &Relation,
+    relation: &IndexedRows,
     index: IndexRef,
     value: ValueRef<'_>,
     out: &mut Vec<RowRef>,
 ) -> Result<(), AllocError>
-    requires { (column : ℕ) × IsIndexOn relation.now column index }
+    requires index { (column : ℕ) × IsIndexOn relation.now column index }
+    requires apart { AreApart relation.now.key (slot_at relation.now.places) }
     ensures ok { OnOk result ((column : ℕ) → IsIndexOn relation.now column index
         → Appends (AreMatches column (slot_at relation.now.places) (value_of value.entry) relation.now.refs) out.old.items out.new.items) }
     ensures err { OnErr result (out.new.items ≡ out.old.items) }
@@ -85,8 +87,8 @@ pub(crate) fn append_matches(
     }
 }
 
-/// The references of all rows of a relation along a tree, without a copy, where there are at most 1,048,576.
-pub(crate) fn tree_walk(relation: &Relation, index: IndexRef) -> Iter<'_>
+/// Returns the references of all rows of a table along a tree, of which there are at most 1,048,576. Copies nothing.
+pub(crate) fn tree_walk(relation: &IndexedRows, index: IndexRef) -> Iter<'_>
     requires tree { (column : ℕ) × IsIndexOn relation.now column index × IsTree index }
     requires few { length relation.now.refs ≤ most_rows }
     ensures walk { (column : ℕ) → IsIndexOn relation.now column index → IsWalk column relation.now result }
@@ -101,18 +103,18 @@ pub(crate) fn tree_walk(relation: &Relation, index: IndexRef) -> Iter<'_>
     }
 }
 
-/// Appends the references of the rows of a relation whose values in the column of a tree are between two ends, these included,
-/// in the order of the walk along it. An end that is not given leaves its side open. `AllocError` where memory is refused; then
-/// `out` holds what it held.
+/// Appends the references of the rows of a table whose values in the column of a tree are between two ends, both included, in the
+/// order of the walk along it. `None` leaves an end open. Fails with `AllocError` if an allocation fails; then nothing is appended.
 pub(crate) fn append_range(
     alloc: Global,
-    relation: &Relation,
+    relation: &IndexedRows,
     index: IndexRef,
     low: Option<ValueRef<'_>>,
     high: Option<ValueRef<'_>>,
     out: &mut Vec<RowRef>,
 ) -> Result<(), AllocError>
-    requires { (column : ℕ) × IsIndexOn relation.now column index × IsTree index }
+    requires tree { (column : ℕ) × IsIndexOn relation.now column index × IsTree index }
+    requires apart { AreApart relation.now.key (slot_at relation.now.places) }
     ensures ok { OnOk result ((column : ℕ) → IsIndexOn relation.now column index
         → Appends (IsRange column relation.now (option_map value_of low.entry) (option_map value_of high.entry)) out.old.items out.new.items) }
     ensures err { OnErr result (out.new.items ≡ out.old.items) }

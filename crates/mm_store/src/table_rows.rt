@@ -2,19 +2,20 @@
 ghost use Rattle.std.specs.Prelude.{◌≡◌, ℕ, ◌∷◌, ◌<◌, ◌≤◌, [], All, IfOk, MatchOption, length, map};
 ghost use Rattle.mm_partition.specs.Places.{IsLive, slot_at};
 ghost use Rattle.mm_partition.specs.Views.{viewed};
-ghost use Rattle.mm_relation.specs.Kept.{StoredRows as Stored};
-ghost use Rattle.mm_relation.specs.Reads.{HasIndex};
-ghost use Rattle.mm_relation.specs.RowLists.{rows_of};
+ghost use Rattle.mm_indexed.specs.Kept.{StoredRows as Stored};
+ghost use Rattle.mm_indexed.specs.Reads.{HasIndex};
+ghost use Rattle.mm_indexed.specs.RowLists.{rows_of};
+ghost use Rattle.mm_indexed.specs.Twins.{AreApart};
 ghost use Rattle.mm_schema.specs.declared.index.IndexKind.TheVariants.{Tree};
-ghost use Rattle.mm_relation.specs.Refs.{row_at};
+ghost use Rattle.mm_row_order.specs.Refs.{row_at};
 ghost use Rattle.mm_store.specs.Ordered.{rows_in_order};
 ghost use Rattle.mm_store.specs.Tables.{IsAt, rows_at};
 ghost use Rattle.mm_schema.specs.Rows.{most_rows};
 
 use crate::store::Store;
+use mm_indexed::IndexedRows;
 use mm_order::OrderedRefs;
 use mm_partition::RowView;
-use mm_relation::Relation;
 use mm_schema::IndexKind;
 use std::alloc::{AllocError, Global};
 use std::marker::Model;
@@ -34,7 +35,7 @@ enum Order {
 /// The rows of a table in an order, seen as their list. None is copied: a reader reads them where they lie.
 #[derive(Drop)]
 pub struct TableRows<'a> {
-    relation: &'a Relation,
+    relation: &'a IndexedRows,
     order: Order,
 }
 
@@ -53,14 +54,14 @@ impl<'a> Model for TableRows<'a> {
 /// The rows of a table that are left to be read, seen as their list.
 #[derive(Drop)]
 pub struct StoredRows<'a> {
-    relation: &'a Relation,
+    relation: &'a IndexedRows,
     walk: Iter<'a>,
 }
 
 impl<'a> Model for StoredRows<'a> {
     ghost use Rattle.std.specs.Prelude.{All, List, map};
     ghost use Rattle.mm_partition.specs.Places.{IsLive, slot_at};
-    ghost use Rattle.mm_relation.specs.Refs.{row_at};
+    ghost use Rattle.mm_row_order.specs.Refs.{row_at};
     ghost use Rattle.mm_value.specs.declared.values.Value.{Value as Val};
 
     ghost Value = { List (List Val) };
@@ -143,8 +144,8 @@ impl<'a> StoredRows<'a> {
     }
 }
 
-/// Reads the rows of a relation in the order of its key.
-fn along_key(relation: &Relation) -> StoredRows<'_>
+/// Reads the rows of a table in the order of its key.
+fn along_key(relation: &IndexedRows) -> StoredRows<'_>
     requires { length relation.now.refs ≤ most_rows }
     ensures { result ≡ rows_of relation.now }
 {
@@ -152,9 +153,10 @@ fn along_key(relation: &Relation) -> StoredRows<'_>
     StoredRows { relation, walk }
 }
 
-/// Reads the rows of a relation along its TREE index at a place.
-fn along_index(relation: &Relation, place: usize) -> StoredRows<'_>
+/// Reads the rows of a table along its TREE index at a place.
+fn along_index(relation: &IndexedRows, place: usize) -> StoredRows<'_>
     requires few { length relation.now.refs ≤ most_rows }
+    requires apart { AreApart relation.now.key (slot_at relation.now.places) }
     requires tree { (column : ℕ) × HasIndex relation.now.indexes place column Tree }
     ensures { (column : ℕ) → HasIndex relation.now.indexes place column Tree → result ≡ rows_in_order column relation.now }
 {
@@ -162,8 +164,8 @@ fn along_index(relation: &Relation, place: usize) -> StoredRows<'_>
     StoredRows { relation, walk }
 }
 
-/// Reads the rows of a relation in the order of a tree.
-fn along_tree<'a>(relation: &'a Relation, tree: &'a TTree) -> StoredRows<'a>
+/// Reads the rows of a table in the order of a tree.
+fn along_tree<'a>(relation: &'a IndexedRows, tree: &'a TTree) -> StoredRows<'a>
     requires live { All (IsLive relation.now.places) tree.now.refs }
     requires few { length tree.now.refs ≤ most_rows }
     ensures { result ≡ map (row_at (slot_at relation.now.places)) tree.now.refs }

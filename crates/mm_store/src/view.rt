@@ -6,12 +6,13 @@ ghost use Rattle.std.specs.Option.{option_map};
 ghost use Rattle.mm_partition.specs.Places.{AreReferencesSmall, IsLive, Live, slot_at};
 ghost use Rattle.mm_partition.specs.Types.{HasTypes};
 ghost use Rattle.mm_partition.specs.Views.{viewed};
-ghost use Rattle.mm_relation.specs.Kept.{StoredRows};
-ghost use Rattle.mm_relation.specs.Reads.{Appends, AreMatches, HasIndex, IsRange, IsWalk, has_value};
-ghost use Rattle.mm_relation.specs.Refs.{row_at};
-ghost use Rattle.mm_relation.specs.RowLists.{rows_of};
+ghost use Rattle.mm_indexed.specs.Kept.{StoredRows};
+ghost use Rattle.mm_indexed.specs.Reads.{Appends, AreMatches, HasIndex, IsRange, IsWalk, has_value};
+ghost use Rattle.mm_row_order.specs.Refs.{row_at};
+ghost use Rattle.mm_indexed.specs.RowLists.{rows_of};
 ghost use Rattle.mm_store.specs.Joined.{IsTable};
-ghost use Rattle.mm_store.specs.Links.{IsReference, RefersTo};
+ghost use Rattle.mm_base.specs.Columns.{IsReference};
+ghost use Rattle.mm_link.specs.Links.{RefersTo};
 ghost use Rattle.mm_store.specs.Looked.{IsFirstOn, IsFirstSuch, IsHash, IsIndexOn, IsTree};
 ghost use Rattle.mm_store.specs.Tables.{IsAt};
 ghost use Rattle.mm_value.specs.Prefix.{order_prefix};
@@ -23,18 +24,18 @@ use crate::index_ref::{
     IndexRef, append_matches, append_range, first_hash, first_index, first_tree, tree_walk,
 };
 use crate::store::Store;
+use mm_indexed::{FoundRefs, IndexedRows};
 use mm_partition::RowView;
-use mm_relation::{FoundRefs, Relation};
 use mm_value::{ColType, RowRef, ValueRef};
 use std::alloc::{AllocError, Global};
 use std::marker::Model;
 use ttree::Iter;
 
-/// The rows of a store, as all reading finds them: by their references and along indexes. It counts each that is looked at.
+/// The rows of a store, read by their references and along indexes. Each row that is read is counted.
 #[derive(Drop)]
 pub struct View<'a> {
     store: &'a Store,
-    /// How many rows were looked at, at most `u64::MAX`.
+    /// The number of rows read so far, at most `u64::MAX`.
     reads: u64,
     ghost kept: { ∥ All IsTable store.now.tables ∥₁ },
 }
@@ -48,7 +49,7 @@ impl<'a> Model for View<'a> {
 }
 
 impl Store {
-    /// The store as a query sees it, of which no row was looked at yet.
+    /// Returns the store as a query sees it, of which no row was read yet.
     pub fn view(&self) -> View<'_>
         ensures store { result.store ≡ self.now }
         ensures reads { result.reads ≡ 0 }
@@ -62,23 +63,24 @@ impl Store {
 }
 
 impl<'a> View<'a> {
-    /// How many rows were looked at, at most `u64::MAX`.
+    /// Returns the number of rows read so far, at most `u64::MAX`.
     pub fn reads(&self) -> u64
         ensures { result ≡ self.now.reads }
     {
         self.reads
     }
 
-    /// The relation of a table.
-    pub(crate) fn relation(&self, table: usize) -> &'a Relation
+    /// Returns the rows of a table with their indexes.
+    pub(crate) fn relation(&self, table: usize) -> &'a IndexedRows
         requires { table < length self.now.store.tables }
         ensures at { IsAt self.now.store table result.now }
         ensures few { length result.now.refs ≤ most_rows }
+        ensures whole { IsTable result.now }
     {
         self.store.table(table)
     }
 
-    /// The slot of each reference that gives a row of a table has an index below 2^32 - 1. The call does nothing.
+    /// Lemma: the slot of each reference to a row of a table is below 2^32 - 1. The call does nothing.
     pub fn are_references_small(&self, table: usize)
         requires { table < length self.now.store.tables }
         ensures { (stored : StoredRows) → IsAt self.now.store table stored → AreReferencesSmall stored.places }
@@ -86,8 +88,8 @@ impl<'a> View<'a> {
         self.relation(table).are_references_small();
     }
 
-    /// The row of a live reference of a table, where it stands. It has the types of the table's columns. This adds 1 to the count
-    /// of reads, up to `u64::MAX`.
+    /// Returns the row of a reference of a table, which is in use, where it lies. It has the types of the table's columns. The call adds
+    /// 1 to the number of rows read, up to `u64::MAX`.
     pub fn row(&mut self, table: usize, at: RowRef) -> RowView<'a>
         requires there { table < length self.old.store.tables }
         requires live { (stored : StoredRows) → IsAt self.old.store table stored → IsLive stored.places at }
@@ -101,9 +103,9 @@ impl<'a> View<'a> {
         store.table(table).row(at)
     }
 
-    /// Returns the `order_prefix` of what the row of a live reference of a table has in a column, without reading a text, or `None`
-    /// if the prefixes of the column are not kept. A prefix determines a small number or a short text, so a prefix that is returned
-    /// counts as a read row: it adds 1 to the count of reads, up to `u64::MAX`.
+    /// Returns the `order_prefix` of what a row in use of a table has in a column, without reading a text, or `None` if the prefixes
+    /// of the column are not kept. A prefix determines a small number or a short text, so a prefix that is returned counts as a row
+    /// that is read: it adds 1 to the number of rows read, up to `u64::MAX`.
     pub fn prefix_of(&mut self, table: usize, column: usize, at: RowRef) -> Option<u64>
         requires there { table < length self.old.store.tables }
         requires live { (stored : StoredRows) → IsAt self.old.store table stored → IsLive stored.places at }
@@ -117,7 +119,7 @@ impl<'a> View<'a> {
         Some(prefix)
     }
 
-    /// How many rows a table has: at most 1,048,576.
+    /// Returns the number of rows of a table: at most 1,048,576.
     pub fn len_of(&self, table: usize) -> usize
         requires { table < length self.now.store.tables }
         ensures count { (stored : StoredRows) → IsAt self.now.store table stored → result ≡ length (rows_of stored) }
@@ -126,7 +128,7 @@ impl<'a> View<'a> {
         self.relation(table).len()
     }
 
-    /// The place of a table's key column, counted from 0.
+    /// Returns the place of a table's key column, counted from 0.
     pub fn key_of(&self, table: usize) -> usize
         requires { table < length self.now.store.tables }
         ensures key { (stored : StoredRows) → IsAt self.now.store table stored → result ≡ stored.key }
@@ -135,7 +137,7 @@ impl<'a> View<'a> {
         self.relation(table).key()
     }
 
-    /// The type of a column of a table.
+    /// Returns the type of a column of a table.
     pub fn column_type(&self, table: usize, column: usize) -> ColType
         requires there { table < length self.now.store.tables }
         requires within { (stored : StoredRows) → IsAt self.now.store table stored → column < length stored.places.types }
@@ -144,8 +146,8 @@ impl<'a> View<'a> {
         self.relation(table).column_type(column)
     }
 
-    /// The index in which values of a column of a table are looked up: of those on the column the one that was created first,
-    /// where the key's own comes before all others. None exactly where the column has no index.
+    /// Returns the index in which values of a column of a table are looked up, or `None` if the column has no index: of those on the
+    /// column the one that was created first. That on the key comes before all others.
     pub fn index_on(&self, table: usize, column: usize) -> Option<IndexRef>
         requires { table < length self.now.store.tables }
         ensures { (stored : StoredRows) → IsAt self.now.store table stored → IsFirstOn stored column result }
@@ -153,8 +155,8 @@ impl<'a> View<'a> {
         first_index(self.relation(table), column)
     }
 
-    /// The tree on a column of a table: of those on the column the one that was created first, where the key's own comes before
-    /// all others. None exactly where the column has no tree. It takes a pass over the table's indexes.
+    /// Returns the tree on a column of a table, or `None` if the column has no tree: of those on the column the one that was created
+    /// first. That on the key comes before all others. The call goes over the table's indexes.
     pub fn tree_on(&self, table: usize, column: usize) -> Option<IndexRef>
         requires { table < length self.now.store.tables }
         ensures { (stored : StoredRows) → IsAt self.now.store table stored → IsFirstSuch IsTree stored column result }
@@ -162,8 +164,8 @@ impl<'a> View<'a> {
         first_tree(self.relation(table), column)
     }
 
-    /// The HASH index on a column of a table: of those on the column the one that was created first. None exactly where the
-    /// column has no HASH index. It takes a pass over the table's indexes.
+    /// Returns the HASH index on a column of a table, or `None` if the column has no HASH index: of those on the column the one that
+    /// was created first. The call goes over the table's indexes.
     pub fn hash_on(&self, table: usize, column: usize) -> Option<IndexRef>
         requires { table < length self.now.store.tables }
         ensures { (stored : StoredRows) → IsAt self.now.store table stored → IsFirstSuch IsHash stored column result }
@@ -171,7 +173,7 @@ impl<'a> View<'a> {
         first_hash(self.relation(table), column)
     }
 
-    /// The reference of the row of a table that has this key, none where no row has it. No row is counted, and it takes no memory.
+    /// Returns the reference of the row of a table that has this key, or `None` if no row has it. No row is counted. Allocates nothing.
     pub fn find(&self, table: usize, key: ValueRef<'_>) -> Option<RowRef>
         requires { table < length self.now.store.tables }
         ensures found { (stored : StoredRows) → IsAt self.now.store table stored
@@ -181,8 +183,8 @@ impl<'a> View<'a> {
         self.relation(table).find(key)
     }
 
-    /// Appends the references of the rows of a table that have this value in the column of an index of it, each once and in no
-    /// promised order. No row is counted. `AllocError` where memory is refused; then `out` holds what it held.
+    /// Appends the references of the rows of a table that have this value in the column of one of its indexes, each once and in no
+    /// particular order. No row is counted. Fails with `AllocError` if an allocation fails; then nothing is appended.
     pub fn matches(
         &self,
         alloc: Global,
@@ -202,8 +204,9 @@ impl<'a> View<'a> {
         append_matches(alloc, self.relation(table), index, value, out)
     }
 
-    /// The references of the rows of a table that have this value in the column of the HASH index at a place, counted from 0, each
-    /// once and in no promised order. No row is counted. Up to four take no memory. `AllocError` where memory is refused.
+    /// Returns the references of the rows of a table that have this value in the column of the HASH index at a place, counted from 0,
+    /// each once and in no particular order. No row is counted. Up to four are returned without an allocation. Fails with `AllocError`
+    /// if an allocation fails.
     pub fn find_by_hash(
         &self,
         alloc: Global,
@@ -226,9 +229,9 @@ impl<'a> View<'a> {
         self.relation(table).find_by_hash(alloc, index, value)
     }
 
-    /// Appends the references of the rows of a table whose values in the column of a tree of it are between two ends, these
-    /// included, in the order of the walk along it. An end that is not given leaves its side open. No row is counted.
-    /// `AllocError` where memory is refused; then `out` holds what it held.
+    /// Appends the references of the rows of a table whose values in the column of one of its trees are between two ends, both
+    /// included, in the order of the walk along it. `None` leaves an end open. No row is counted. Fails with `AllocError` if an
+    /// allocation fails; then nothing is appended.
     pub fn range(
         &self,
         alloc: Global,
@@ -250,8 +253,8 @@ impl<'a> View<'a> {
         append_range(alloc, self.relation(table), index, low, high, out)
     }
 
-    /// The references of all rows of a table along a tree of it, without a copy: in the order of its column, and those of one value
-    /// in the order of their keys. No row is counted.
+    /// Returns the references of all rows of a table along one of its trees: in the order of its column, and those of one value in the
+    /// order of their keys. Copies nothing. No row is counted.
     pub fn walk(&self, table: usize, index: IndexRef) -> Iter<'a>
         requires there { table < length self.now.store.tables }
         requires tree { (stored : StoredRows) → IsAt self.now.store table stored
@@ -264,15 +267,16 @@ impl<'a> View<'a> {
         tree_walk(self.relation(table), index)
     }
 
-    /// Whether a column of a table refers to another table, and to no further one.
+    /// Returns whether a column of a table refers to another table, and to no further one.
     pub fn refers_only_to(&self, table: usize, column: usize, to: usize) -> bool
         ensures { IsTrue result ↔ IsReference self.now.store.links table column to }
     {
         self.store.refers_only_to(table, column, to)
     }
 
-    /// The row that a row refers to by a column, without a search and without a look at either.
+    /// Returns the row that a row refers to by a column, without a search. Neither row is read.
     pub fn follow(&self, table: usize, column: usize, at: RowRef) -> RowRef
+        requires there { table < length self.now.store.tables }
         requires refers { (to : ℕ) × Contains self.now.store.links (record { from = table; column = column; to = to }) }
         requires live { (stored : StoredRows) → IsAt self.now.store table stored → IsLive stored.places at }
         ensures { (stored : StoredRows) → IsAt self.now.store table stored

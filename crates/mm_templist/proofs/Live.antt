@@ -6,9 +6,9 @@ use Rattle.std.proofs.lemmas.List.{map_push, take_more}
 use Rattle.std.proofs.lemmas.Option.{get_or_from_slice_get, slice_get-map, slice_get_within}
 use Rattle.mm_value.specs.declared.row_ref.RowRef.{RowRef}
 use Rattle.mm_value.specs.declared.values.Value.{Value}
-use Rattle.mm_partition.specs.Places.{IsLive, Live, slot_at}
-use Rattle.mm_relation.specs.Kept.{StoredRows}
-use Rattle.mm_relation.specs.Refs.{row_at, row_in}
+use Rattle.mm_partition.specs.Places.{IsLive, Live, slot_at, row_in}
+use Rattle.mm_indexed.specs.Kept.{StoredRows}
+use Rattle.mm_row_order.specs.Refs.{row_at}
 use Rattle.mm_store.specs.Tables.{IsAt, Tables}
 use Rattle.mm_query.specs.Queries.{Partial, values_of}
 use Rattle.mm_query.specs.declared.bound_query.FieldPlace.{FieldPlace}

@@ -9,6 +9,6 @@ mod row_order;
 mod shown;
 mod temp_list;
 
-pub use mm_relation::FoundRefs;
+pub use mm_indexed::FoundRefs;
 pub use shown::ShownRows;
 pub use temp_list::{Descriptor, TempList};

@@ -1,8 +1,8 @@
 //! Temporary lists.
 ghost use Rattle.std.specs.Prelude.{◌≡◌, ◌+◌, ◌++◌, ◌∷◌, ◌<◌, [], Some, length, map, slice_get, OnErr, OnOk};
 
+use mm_indexed::FoundRefs;
 use mm_query::FieldPlace;
-use mm_relation::FoundRefs;
 use mm_value::RowRef;
 use smallvec::SmallVec;
 use std::alloc::{AllocError, Global};

@@ -9,12 +9,12 @@ use Rattle.std.proofs.lemmas.List.Elements.{All-cons, All-nil, All-push, filter-
 use Rattle.std.proofs.lemmas.List.Folds.{list_any-append}
 use Rattle.std.proofs.lemmas.List.Quantifiers.{all_pairs_push}
 use Rattle.mm_partition.specs.Places.{slot_at}
-use Rattle.mm_relation.specs.Edits.{edit_name, named as names, new_rows}
-use Rattle.mm_relation.specs.Kept.{IsKept, StoredRows}
-use Rattle.mm_relation.specs.Refs.{HasRow}
-use Rattle.mm_relation.specs.RowLists.{edit_pairs, rows_of}
-use Rattle.mm_relation.specs.declared.edits.Edit.{Edit}
-use Rattle.mm_relation.specs.declared.indexes.names.Side.TheVariants.{Old}
+use Rattle.mm_store.specs.RowEdits.{edit_pairs, new_rows, old_ref, old_refs}
+use Rattle.mm_indexed.specs.Kept.{StoredRows}
+use Rattle.mm_indexed.specs.Twins.{AreApart}
+use Rattle.mm_row_order.specs.Refs.{HasRow}
+use Rattle.mm_indexed.specs.RowLists.{rows_of}
+use Rattle.mm_store.specs.declared.edit.Edit.{Edit}
 use Rattle.mm_schema.specs.Instance.{TableEdits as NamedEdits}
 use Rattle.mm_schema.specs.References.{refers}
 use Rattle.mm_schema.specs.Rows.{Pair}
@@ -25,7 +25,7 @@ use Rattle.mm_schema.proofs.StrictOrder.{AllByRecursion-IsIn, IsIn, IsIn-from_Co
 use Rattle.mm_schema.proofs.Duplicates.{Row}
 use Rattle.mm_query.specs.Edits.{also, is_cascaded, removals_of, with_cascades}
 use Rattle.mm_delta.specs.Steps.{takes}
-use Rattle.mm_store.specs.Links.{RefersTo}
+use Rattle.mm_link.specs.Links.{RefersTo}
 use Rattle.mm_store.specs.Tables.{AreFit, IsAt, Tables, rows_at}
 use Rattle.mm_value.specs.declared.row_ref.RowRef.{RowRef}
 use Rattle.mm_txn.specs.Cascades.{IsCascade, PlacedCascade, is_cascaded_by, is_cascaded_by_some, placed_cascade}
@@ -40,13 +40,13 @@ use Rattle.mm_txn.proofs.Referrers.{rows_taken, target_goes, tests}
 
 -- ---- edits of one table
 
-named_in : (es : List Edit) (e : Edit) → IsIn e es → (at : RowRef) → edit_name e Old ≡ Some at → IsIn at (names edit_name Old es)
+named_in : (es : List Edit) (e : Edit) → IsIn e es → (at : RowRef) → old_ref e ≡ Some at → IsIn at (old_refs es)
 named_in [] e here at name = absurd here
 named_in (x ∷ xs) e (inl same) at name =
-    subst (λ (o : Option RowRef). IsIn at (cons_option o (names edit_name Old xs))) (sym (ap (λ (y : Edit). edit_name y Old) same ∙ name)) (inl refl)
-named_in (x ∷ xs) e (inr later) at name = by (edit_name x Old) (named_in xs e later at name)
+    subst (λ (o : Option RowRef). IsIn at (cons_option o (old_refs xs))) (sym (ap old_ref same ∙ name)) (inl refl)
+named_in (x ∷ xs) e (inr later) at name = by (old_ref x) (named_in xs e later at name)
   where
-    by : (o : Option RowRef) → IsIn at (names edit_name Old xs) → IsIn at (cons_option o (names edit_name Old xs))
+    by : (o : Option RowRef) → IsIn at (old_refs xs) → IsIn at (cons_option o (old_refs xs))
     by None there = there
     by (Some other) there = inr there
 
@@ -58,10 +58,10 @@ fits_relation store change fit target at = subst (λ (s : StoredRows). AreFit s 
 
 -- The row that an edit takes away is there.
 pub gone_live : (store : Tables) (change : PlacedEdits) → FitsAt store change → (target : StoredRows) → IsAt store change.0 target → (k : ℕ) (e : Edit)
-    → k < length change.1 → e ≡ get_or change.1 k e → (at : RowRef) → edit_name e Old ≡ Some at → HasRow (slot_at target.places) at
+    → k < length change.1 → e ≡ get_or change.1 k e → (at : RowRef) → old_ref e ≡ Some at → HasRow (slot_at target.places) at
 gone_live store change fit target there k e within is at name =
-    AllByRecursion-IsIn (HasRow (slot_at target.places)) (names edit_name Old change.1) at
-    (recursion_from_All (HasRow (slot_at target.places)) (names edit_name Old change.1) (fits_relation store change fit target there).standing.live)
+    AllByRecursion-IsIn (HasRow (slot_at target.places)) (old_refs change.1) at
+    (recursion_from_All (HasRow (slot_at target.places)) (old_refs change.1) (fits_relation store change fit target there).standing.live)
     (named_in change.1 e (IsIn-from_Contains change.1 e (k, within, sym is)) at name)
 
 -- Rows go by edits as they do by the rows that these take away.
@@ -75,11 +75,11 @@ is_cascaded_by_at store column change target at row = λ i.
 pub scan_goes : (store : Tables) (table column : ℕ) (change : PlacedEdits) → IsCascade store table column change → (row : Row) (found : RowRef)
     → (target : StoredRows) × (to : ℕ) × Contains store.links (record { from = table; column = column; to = to }) × IsAt store to target
     × RefersTo column target.key (slot_at target.places) row found
-    → ((target : StoredRows) → IsAt store change.0 target → IsKept target.places.types target.key (slot_at target.places) target.refs target.indexes)
+    → ((target : StoredRows) → IsAt store change.0 target → AreApart target.key (slot_at target.places))
     → list_any (takes found) change.1 ≡ is_cascaded_by store.tables column change row
-scan_goes store table column change is row found (target, to, link, at, refers_to) kept =
+scan_goes store table column change is row found (target, to, link, at, refers_to) apart =
     let own : IsAt store change.0 target = subst (λ n. IsAt store n target) (is.link.1 to link) at in
-    target_goes column target (kept target own) row found refers_to change.1 (fits_relation store change is.fit target own).standing
+    target_goes column target (apart target own) row found refers_to change.1 (fits_relation store change is.fit target own).standing
     ∙ is_cascaded_by_at store column change target own row
 
 pub filter_push : (q : RowRef → Bool) (xs : List RowRef) (x : RowRef) (b : Bool) → q x ≡ b → filter q (xs ++ x ∷ []) ≡ filter q xs ++ cond b (x ∷ []) []

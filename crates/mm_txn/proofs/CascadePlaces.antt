@@ -7,8 +7,8 @@ use Rattle.std.proofs.lemmas.Bool.{eq-eqb, eqb-true, false≢true, ne_eqb}
 use Rattle.std.proofs.lemmas.List.Elements.{recursion_from_All}
 use Rattle.std.proofs.lemmas.Map.Keys.{IsDistinct-head, IsDistinct-tail}
 use Rattle.mm_partition.specs.Places.{slot_at}
-use Rattle.mm_relation.specs.Kept.{StoredRows}
-use Rattle.mm_relation.specs.RowLists.{edit_pairs}
+use Rattle.mm_indexed.specs.Kept.{StoredRows}
+use Rattle.mm_store.specs.RowEdits.{edit_pairs}
 use Rattle.mm_schema.specs.Columns.{cascades, cascading_target, target_of}
 use Rattle.mm_schema.specs.Instance.{TableEdits, pairs_of}
 use Rattle.mm_schema.specs.Name.{same_name}
@@ -24,8 +24,8 @@ use Rattle.mm_schema.proofs.Places.{place_within, table_at_place}
 use Rattle.mm_schema.proofs.StrictOrder.{Contains-from_IsIn, IsIn, IsIn-from_Contains}
 use Rattle.mm_schema.proofs.Duplicates.{Row}
 use Rattle.mm_query.specs.Edits.{old_rows}
-use Rattle.mm_store.proofs.Referring.{agree}
-use Rattle.mm_store.specs.Links.{IsReference}
+use Rattle.mm_link.proofs.Referring.{agree}
+use Rattle.mm_base.specs.Columns.{IsReference}
 use Rattle.mm_store.specs.Tables.{key_at}
 use Rattle.mm_txn.specs.Cascades.{is_cascaded_by}
 use Rattle.mm_txn.specs.PlacedEdits.{PlacedEdits, edits_at, named, pairs_at}

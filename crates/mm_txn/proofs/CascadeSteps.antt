@@ -5,9 +5,9 @@ use Rattle.std.specs.List.{AllByRecursion, IsDistinct, filter_map, list_any}
 use Rattle.std.proofs.lemmas.Bool.{cases_Bool, false≢true}
 use Rattle.std.proofs.lemmas.List.Folds.{list_any-append}
 use Rattle.std.proofs.lemmas.Map.Keys.{IsDistinct-head, IsDistinct-tail}
-use Rattle.mm_relation.specs.Refs.{Slots, row_at}
-use Rattle.mm_relation.specs.RowLists.{edit_pairs}
-use Rattle.mm_relation.specs.declared.edits.Edit.TheVariants.{Gone}
+use Rattle.mm_row_order.specs.Refs.{Slots, row_at}
+use Rattle.mm_store.specs.RowEdits.{edit_pairs}
+use Rattle.mm_store.specs.declared.edit.Edit.TheVariants.{Gone}
 use Rattle.mm_schema.specs.Instance.{Instance, TableEdits}
 use Rattle.mm_schema.specs.Name.{same_name}
 use Rattle.mm_schema.specs.References.{RefersBack, cascading_of, references_of, refers}

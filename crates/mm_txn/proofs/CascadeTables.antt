@@ -6,9 +6,10 @@ use Rattle.std.specs.Option.{option_map_or, unwrap_or}
 use Rattle.std.proofs.lemmas.Bool.{eqb-true, false≢true}
 use Rattle.std.proofs.lemmas.List.Elements.{All-from_recursion, recursion_from_All}
 use Rattle.mm_partition.specs.Places.{slot_at}
-use Rattle.mm_relation.specs.Kept.{StoredRows}
-use Rattle.mm_relation.specs.RowLists.{edit_pairs, rows_of}
-use Rattle.mm_relation.specs.declared.edits.Edit.{Edit}
+use Rattle.mm_indexed.specs.Kept.{StoredRows}
+use Rattle.mm_store.specs.RowEdits.{edit_pairs}
+use Rattle.mm_indexed.specs.RowLists.{rows_of}
+use Rattle.mm_store.specs.declared.edit.Edit.{Edit}
 use Rattle.mm_schema.specs.Columns.{cascading_target, key_place, target_of}
 use Rattle.mm_schema.specs.References.{HasTargets, cascading_from, cascading_of, in_front, references_from, references_of, refers}
 use Rattle.mm_schema.specs.Rows.{Pair}
@@ -20,7 +21,7 @@ use Rattle.mm_schema.proofs.StrictOrder.{IsIn}
 use Rattle.mm_schema.proofs.Duplicates.{Row}
 use Rattle.mm_query.proofs.FoundTargets.{none_among}
 use Rattle.mm_query.specs.Edits.{is_cascaded, old_rows}
-use Rattle.mm_store.specs.Links.{IsReference}
+use Rattle.mm_base.specs.Columns.{IsReference}
 use Rattle.mm_store.specs.Tables.{Tables, key_at}
 use Rattle.mm_txn.specs.Cascades.{IsCascade, PlacedCascade, cascade_to, cascades_from, is_cascaded_by, is_cascaded_by_some, unless_none}
 use Rattle.mm_plan.specs.Kept.{AreKept, AreOf, IsOf, instance_of}

@@ -8,12 +8,11 @@ use Rattle.std.proofs.lemmas.List.{length-map}
 use Rattle.std.proofs.lemmas.List.Elements.{All-head, recursion_from_All}
 use Rattle.mm_partition.specs.Places.{slot_at}
 use Rattle.mm_partition.specs.Types.{HasTypes}
-use Rattle.mm_relation.specs.Changes.{Standing}
-use Rattle.mm_relation.specs.Edits.{new_rows}
-use Rattle.mm_relation.specs.Kept.{StoredRows}
-use Rattle.mm_relation.specs.Refs.{Slots}
-use Rattle.mm_relation.specs.RowLists.{edit_pair, edit_pairs, rows_of}
-use Rattle.mm_relation.specs.declared.edits.Edit.{Edit}
+use Rattle.mm_store.specs.RowEdits.{Standing, new_rows, edit_pair, edit_pairs}
+use Rattle.mm_indexed.specs.Kept.{StoredRows}
+use Rattle.mm_row_order.specs.Refs.{Slots}
+use Rattle.mm_indexed.specs.RowLists.{rows_of}
+use Rattle.mm_store.specs.declared.edit.Edit.{Edit}
 use Rattle.mm_schema.specs.Instance.{Instance, TableEdits as NamedEdits}
 use Rattle.mm_schema.specs.References.{RefersBack, all_references, lacks_target_row, lose_targets, references_of}
 use Rattle.mm_schema.specs.Refused.{AnswersDue, first_refusal}

@@ -1,13 +1,19 @@
 -- The database's calls as steps of the machine, by the catalog and the rows beside its tables.
-use Rattle.std.proofs.Common.{◌≡◌, ℕ, ◌<◌, List, [], ◌∷◌, ◌++◌, Some, None, zero, suc, length, slice_get, refl, sym, ap, subst, ◌∙◌, arith}
+use Rattle.std.proofs.Common.{◌≡◌, ℕ, ◌<◌, ◌^◌, Bool, true, false, List, [], ◌∷◌, ◌++◌, Some, None, zero, suc, length, slice_get, refl, sym, ap, subst, ◌∙◌}
+use Rattle.std.proofs.Common.{arith}
+use Rattle.std.specs.Prelude.{nat_le, nat_lt}
 use Rattle.std.specs.List.{position_or_len, remove}
-use Rattle.mm_relation.specs.Kept.{StoredRows}
-use Rattle.mm_relation.specs.RowLists.{rows_of}
+use Rattle.std.proofs.lemmas.Bool.{or_parts}
+use Rattle.std.proofs.lemmas.Bool.Decides.{nat_tests}
+use Rattle.mm_indexed.specs.Kept.{StoredRows}
+use Rattle.mm_indexed.specs.RowLists.{rows_of}
 use Rattle.mm_schema.specs.Columns.{key_place}
 use Rattle.mm_schema.specs.Name.{same_name}
-use Rattle.mm_schema.specs.Schema.{HasDistinctNames, Schema, key_named, table_place, with_table, without_table}
+use Rattle.mm_schema.specs.Refused.{first_refusal}
+use Rattle.mm_schema.specs.Schema.{HasDistinctNames, Schema, exceeds_table_limits, key_named, table_conditions, table_place, with_table, without_table}
 use Rattle.mm_schema.specs.declared.table.TableDef.{TableDef}
 use Rattle.mm_schema.proofs.Places.{place_from_some, place_within}
+use Rattle.mm_value.specs.declared.refusal.Refusal.TheVariants.{NameTaken, NoSuchTable, TooMany, TypeMismatch}
 use Rattle.mm_query.specs.Machine.{after_definition}
 use Rattle.mm_query.specs.State.{rows_in}
 use Rattle.mm_query.specs.declared.command.Definition.TheVariants as define
@@ -60,3 +66,20 @@ pub some_there : {X : Type 0} (xs : List X) (place : ℕ) → place < length xs 
 some_there [] place within = absurd (omega arith)
 some_there (x ∷ xs) zero within = (x, refl)
 some_there (x ∷ xs) (suc place) within = some_there xs place (omega arith)
+
+-- A table that nothing refuses comes behind fewer than 64.
+limits_kept : (lacks taken mismatches exceeds : Bool)
+    → first_refusal (record { holds = lacks; refusal = NoSuchTable } ∷ record { holds = taken; refusal = NameTaken }
+    ∷ record { holds = mismatches; refusal = TypeMismatch } ∷ record { holds = exceeds; refusal = TooMany } ∷ []) ≡ None
+    → exceeds ≡ false
+limits_kept true taken mismatches exceeds due = cc
+limits_kept false true mismatches exceeds due = cc
+limits_kept false false true exceeds due = cc
+limits_kept false false false true due = cc
+limits_kept false false false false due = refl
+
+pub few_tables : (definition : TableDef) (schema : Schema) → first_refusal (table_conditions definition schema) ≡ None → length schema.tables < 2 ^ 16
+few_tables definition schema due =
+    let few : nat_le 64 (length schema.tables) ≡ false =
+    (or_parts (nat_le 64 (length schema.tables)) (nat_lt 16 (length definition.columns)) (limits_kept _ _ _ (exceeds_table_limits definition schema) due)).0 in
+    grind (arith, nat_tests)

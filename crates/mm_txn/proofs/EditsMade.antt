@@ -10,21 +10,18 @@ use Rattle.mm_query.specs.Atoms.{updated_row}
 use Rattle.mm_query.specs.Edits.{removals_of}
 use Rattle.mm_query.specs.declared.atom.Assignment.{Assignment}
 use Rattle.mm_schema.specs.Rows.{Pair, additions}
-use Rattle.mm_relation.specs.Changes.{Standing}
-use Rattle.mm_relation.specs.Edits.{edit_name, named, new_rows}
-use Rattle.mm_relation.specs.Kept.{IsKept, StoredRows}
-use Rattle.mm_relation.specs.Refs.{HasRow, Slots, row_at}
-use Rattle.mm_relation.specs.RowLists.{edit_pairs}
-use Rattle.mm_relation.specs.declared.edits.Edit.{Edit}
-use Rattle.mm_relation.specs.declared.edits.Edit.TheVariants.{Add, Gone}
-use Rattle.mm_relation.specs.declared.indexes.names.Side.TheVariants.{Old}
+use Rattle.mm_store.specs.RowEdits.{Standing, edit_pairs, new_rows, old_refs}
+use Rattle.mm_indexed.specs.Kept.{IsKept, StoredRows}
+use Rattle.mm_row_order.specs.Refs.{HasRow, Slots, row_at}
+use Rattle.mm_store.specs.declared.edit.Edit.{Edit}
+use Rattle.mm_store.specs.declared.edit.Edit.TheVariants.{Add, Gone}
 use Rattle.mm_select.proofs.Fits.{filter-map}
 use Rattle.mm_store.specs.Tables.{AreFit}
 use Rattle.mm_txn.specs.RowEdits.{swap_of, updates_of}
 use Rattle.mm_txn.proofs.RowsPassing.{passing_apart, passing_live}
 
 -- edits of references that are live and apart stand
-Standing-of : (now : Slots) (edits : List Edit) (refs : List RowRef) → named edit_name Old edits ≡ refs → All (HasRow now) refs
+Standing-of : (now : Slots) (edits : List Edit) (refs : List RowRef) → old_refs edits ≡ refs → All (HasRow now) refs
     → AllPairs (λ a b. a ≢ b) refs → Standing now edits
 Standing-of now edits refs names live apart = record {
   live = subst (All (HasRow now)) (sym names) live;
@@ -41,7 +38,7 @@ pub new_rows-added : (rows : List (List Value)) → new_rows (map Add rows) ≡ 
 new_rows-added [] = refl
 new_rows-added (r ∷ rs) = ap (λ others. r ∷ others) (new_rows-added rs)
 
-olds-added : (rows : List (List Value)) → named edit_name Old (map Add rows) ≡ []
+olds-added : (rows : List (List Value)) → old_refs (map Add rows) ≡ []
 olds-added [] = refl
 olds-added (r ∷ rs) = olds-added rs
 
@@ -59,7 +56,7 @@ edit_pairs-swapped now assignments [] = refl
 edit_pairs-swapped now assignments (x ∷ xs) =
     ap (λ (pairs : List Pair). (Some (row_at now x), Some (updated_at now assignments x)) ∷ pairs) (edit_pairs-swapped now assignments xs)
 
-olds-swapped : (now : Slots) (assignments : List (Assignment ℕ)) (refs : List RowRef) → named edit_name Old (map (swap_of now assignments) refs) ≡ refs
+olds-swapped : (now : Slots) (assignments : List (Assignment ℕ)) (refs : List RowRef) → old_refs (map (swap_of now assignments) refs) ≡ refs
 olds-swapped now assignments [] = refl
 olds-swapped now assignments (x ∷ xs) = ap (λ others. x ∷ others) (olds-swapped now assignments xs)
 
@@ -69,7 +66,7 @@ edit_pairs-gone : (now : Slots) (refs : List RowRef) → edit_pairs now (map Gon
 edit_pairs-gone now [] = refl
 edit_pairs-gone now (x ∷ xs) = ap (λ (pairs : List Pair). (Some (row_at now x), None) ∷ pairs) (edit_pairs-gone now xs)
 
-olds-gone : (refs : List RowRef) → named edit_name Old (map Gone refs) ≡ refs
+olds-gone : (refs : List RowRef) → old_refs (map Gone refs) ≡ refs
 olds-gone [] = refl
 olds-gone (x ∷ xs) = ap (λ others. x ∷ others) (olds-gone xs)
 

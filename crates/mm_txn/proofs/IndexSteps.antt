@@ -9,11 +9,11 @@ use Rattle.std.proofs.lemmas.Map.Keys.{IsDistinct-head, IsDistinct-tail}
 use Rattle.std.proofs.lemmas.Option.{slice_get-get_or}
 use Rattle.std.proofs.lemmas.List.Elements.{All-head, All-tail}
 use Rattle.std.proofs.lemmas.List.Folds.{find_at, list_any-append}
-use Rattle.mm_relation.specs.Index.{column_of, kind_of}
-use Rattle.mm_relation.specs.Kept.{StoredRows}
-use Rattle.mm_relation.specs.Reads.{AddsIndex, HasIndex}
-use Rattle.mm_relation.specs.RowLists.{rows_of}
-use Rattle.mm_relation.specs.declared.indexes.index.Index.{Index}
+use Rattle.mm_indexed.specs.Index.{column_of, kind_of, AddsIndex}
+use Rattle.mm_indexed.specs.Kept.{StoredRows}
+use Rattle.mm_indexed.specs.Reads.{HasIndex}
+use Rattle.mm_indexed.specs.RowLists.{rows_of}
+use Rattle.mm_indexed.specs.declared.indexes.index.Index.{Index}
 use Rattle.mm_schema.specs.Columns.{column_place}
 use Rattle.mm_schema.specs.Indexes.{HasDistinctIndexes, HasIndexesInPlace, HasOwnIndexes, drop_index_conditions, index_conditions, index_named, indexes_of}
 use Rattle.mm_schema.specs.Indexes.{lacks_index, table_with_index, with_index, without_index}

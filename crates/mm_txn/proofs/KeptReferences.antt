@@ -26,7 +26,9 @@ use Rattle.mm_schema.proofs.Instances.{name_of}
 use Rattle.mm_schema.proofs.NameLemmas.{differs_back, same_bytes}
 use Rattle.mm_schema.proofs.References.{same_with, same_without, second_none, targets_added, targets_indexed, targets_left, targets_unindexed}
 use Rattle.mm_laws.proofs.OlderTables.{older_with_definitions, older_with_table, older_without_table}
-use Rattle.mm_store.specs.Tables.{IsFrom, Tables, links_without}
+use Rattle.mm_base.specs.Bases.{references_without}
+use Rattle.mm_base.specs.Columns.{IsFrom}
+use Rattle.mm_store.specs.Tables.{Tables}
 use Rattle.mm_plan.specs.Kept.{AreKept, AreOf}
 use Rattle.mm_txn.proofs.ReferenceRows.{AreToOthers, IsToOther, place_apart, some_place}
 
@@ -179,7 +181,7 @@ module _ (definition : TableDef) (schema : Schema) (targets : HasTargets schema)
 
 module _ (n : ℕ) where
   -- Between tables before a place, it moves none, ..
-  stay : (rs : List Reference) → AllByRecursion (λ r. (r.from < n) × (r.to < n)) rs → links_without n rs ≡ rs
+  stay : (rs : List Reference) → AllByRecursion (λ r. (r.from < n) × (r.to < n)) rs → references_without n rs ≡ rs
   stay [] before = refl
   stay (r ∷ rs) before =
       let differs : (r.from == n) ≡ false = before_place r.from before.0.0 in
@@ -193,7 +195,7 @@ module _ (n : ℕ) where
       not_above k h = grind (arith, nat_tests)
 
   -- .. and of those of the table there none is left.
-  go : (rs : List Reference) → AllByRecursion (λ r. r.from ≡ n) rs → links_without n rs ≡ []
+  go : (rs : List Reference) → AllByRecursion (λ r. r.from ≡ n) rs → references_without n rs ≡ []
   go [] own = refl
   go (r ∷ rs) own =
       let same : (r.from == n) ≡ true = eq-eqb r.from n own.0 in
@@ -201,7 +203,7 @@ module _ (n : ℕ) where
       ∙ go rs own.1
 
   pub come_and_go : (old new : List Reference) → AllByRecursion (λ r. (r.from < n) × (r.to < n)) old → AllByRecursion (λ r. r.from ≡ n) new
-      → links_without n (old ++ new) ≡ old
+      → references_without n (old ++ new) ≡ old
   come_and_go old new before own =
       ap (map (moved_up n)) (filter-append (λ x. not (x.from == n)) old new)
       ∙ map-append (moved_up n) (filter (λ x. not (x.from == n)) old) (filter (λ x. not (x.from == n)) new)
@@ -243,7 +245,7 @@ module _ (n width : ℕ) where
 
   -- .. and when it goes they are as they were.
   pub back_to_old : (old new : List Reference) → AllByRecursion (λ r. (r.from < n) × (r.to < n)) old → All (IsFrom n width) new
-      → links_without n (old ++ new) ≡ old
+      → references_without n (old ++ new) ≡ old
   back_to_old old new before are = come_and_go n old new before (own_from new (recursion_from_All (IsFrom n width) new are))
 
 pub remove_last : {X : Type 0} (xs : List X) (x : X) → remove (xs ++ x ∷ []) (length xs) ≡ xs
@@ -300,10 +302,10 @@ module _ (schema : Schema) (old new : Tables) (kept : AreKept schema old) where
   -- .. and one that goes with them.
   pub kept_by_no_table : (name : List ℕ) (place : ℕ) → table_place name schema ≡ Some place → HasDistinctNames schema
       → first_refusal (drop_table_conditions name schema) ≡ None → AreOf (without_table name schema).tables new.tables
-      → new.links ≡ links_without place old.links → AreKept (without_table name schema) new
+      → new.links ≡ references_without place old.links → AreKept (without_table name schema) new
   kept_by_no_table name place placed distinct due are links = record {
     relations = are;
-    links = links ∙ ap (links_without place) kept.links ∙ sym (references_without_table name schema place placed distinct kept.targets due);
+    links = links ∙ ap (references_without place) kept.links ∙ sym (references_without_table name schema place placed distinct kept.targets due);
     targets = targets_left name schema kept.targets due;
     others = others_left name schema kept.others;
     back = older_without_table name schema due kept.back;

@@ -11,7 +11,6 @@ use Rattle.mm_query.specs.Machine.{back_to, rows_at_latest}
 use Rattle.mm_query.specs.State.{Savepoint}
 use Rattle.mm_store.specs.Marks.{rows_at_mark}
 use Rattle.mm_store.specs.Tables.{Tables}
-use Rattle.mm_store.specs.Snapshots.{Logged}
 use Rattle.mm_txn.specs.Marks.{Ascend}
 use Rattle.mm_txn.specs.Saved.{savepoint_at}
 use Rattle.mm_txn.specs.declared.savepoints.Mark.{Mark}
@@ -137,35 +136,35 @@ module _ (name : List ℕ) where
   none_last [] s none last = (last, tt)
   none_last (x ∷ xs) s none last = (none.0, none_last xs s none.1 last)
 
-  module _ (undo : List Logged) (store : Tables) where
+  module _ (store : Tables) where
     abbrev saved : List Mark → List Savepoint
-    saved marks = reverse (map (savepoint_at undo store) marks)
+    saved marks = reverse (map (savepoint_at store) marks)
 
-    saved_cons : (mark : Mark) (marks : List Mark) → saved (mark ∷ marks) ≡ saved marks ++ savepoint_at undo store mark ∷ []
-    saved_cons mark marks = reverse-cons (savepoint_at undo store mark) (map (savepoint_at undo store) marks)
+    saved_cons : (mark : Mark) (marks : List Mark) → saved (mark ∷ marks) ≡ saved marks ++ savepoint_at store mark ∷ []
+    saved_cons mark marks = reverse-cons (savepoint_at store mark) (map (savepoint_at store) marks)
 
     none_saved : (marks : List Mark) → AllByRecursion (λ (m : Mark). same_name name m.name ≡ false) marks
         → AllByRecursion (λ (x : Savepoint). same_name name x.name ≡ false) (saved marks)
     none_saved [] none = tt
     none_saved (mark ∷ marks) none =
         subst (AllByRecursion (λ (x : Savepoint). same_name name x.name ≡ false)) (sym (saved_cons mark marks))
-        (none_last (saved marks) (savepoint_at undo store mark) (none_saved marks none.1) none.0)
+        (none_last (saved marks) (savepoint_at store mark) (none_saved marks none.1) none.0)
 
     -- Among what is saved there is a savepoint of the name where one of the marks has it, ..
     pub some_named : (marks : List Mark) (place : ℕ) → IsLatest name marks place → list_any is_named (saved marks) ≡ true
     some_named [] place latest = absurd latest
     some_named (mark ∷ marks) zero latest =
-        ap (list_any is_named) (saved_cons mark marks) ∙ (list_any-append is_named (saved marks) (savepoint_at undo store mark ∷ [])
+        ap (list_any is_named) (saved_cons mark marks) ∙ (list_any-append is_named (saved marks) (savepoint_at store mark ∷ [])
         ∙ (ap (λ (b : Bool). list_any is_named (saved marks) || (b || false)) latest.0 ∙ or_true (list_any is_named (saved marks))))
     some_named (mark ∷ marks) (suc place) latest =
-        ap (list_any is_named) (saved_cons mark marks) ∙ (list_any-append is_named (saved marks) (savepoint_at undo store mark ∷ [])
-        ∙ ap (λ (b : Bool). b || (is_named (savepoint_at undo store mark) || false)) (some_named marks place latest))
+        ap (list_any is_named) (saved_cons mark marks) ∙ (list_any-append is_named (saved marks) (savepoint_at store mark ∷ [])
+        ∙ ap (λ (b : Bool). b || (is_named (savepoint_at store mark) || false)) (some_named marks place latest))
 
     -- .. and none where none has it.
     pub none_named : (marks : List Mark) → AllByRecursion (λ (m : Mark). same_name name m.name ≡ false) marks → list_any is_named (saved marks) ≡ false
     none_named [] none = refl
     none_named (mark ∷ marks) none =
-        ap (list_any is_named) (saved_cons mark marks) ∙ (list_any-append is_named (saved marks) (savepoint_at undo store mark ∷ [])
+        ap (list_any is_named) (saved_cons mark marks) ∙ (list_any-append is_named (saved marks) (savepoint_at store mark ∷ [])
         ∙ ((λ i. none_named marks none.1 i || (none.0 i || false))))
 
     -- Going back to the latest of the name leaves those of the marks up to the latest.
@@ -173,38 +172,38 @@ module _ (name : List ℕ) where
     back_is [] place latest = absurd latest
     back_is (mark ∷ marks) zero latest =
         ap (back_to name) (saved_cons mark marks)
-        ∙ (back_past (saved marks) (savepoint_at undo store mark ∷ []) (none_saved marks latest.1)
-        ∙ ap (λ (b : Bool). if b then savepoint_at undo store mark ∷ [] else []) latest.0)
+        ∙ (back_past (saved marks) (savepoint_at store mark ∷ []) (none_saved marks latest.1)
+        ∙ ap (λ (b : Bool). if b then savepoint_at store mark ∷ [] else []) latest.0)
     back_is (mark ∷ marks) (suc place) latest =
         ap (back_to name) (saved_cons mark marks)
-        ∙ (back_within (saved marks) (savepoint_at undo store mark ∷ []) (some_named marks place latest)
-        ∙ (ap (λ (xs : List Savepoint). xs ++ savepoint_at undo store mark ∷ []) (back_is marks place latest)
+        ∙ (back_within (saved marks) (savepoint_at store mark ∷ []) (some_named marks place latest)
+        ∙ (ap (λ (xs : List Savepoint). xs ++ savepoint_at store mark ∷ []) (back_is marks place latest)
         ∙ sym (saved_cons mark (take (suc place) marks))))
 
-module _ (undo : List Logged) (store : Tables) where
+module _ (store : Tables) where
   -- A mark more is a savepoint more, in front.
   pub saved_push : (marks : List Mark) (mark : Mark)
-      → reverse (map (savepoint_at undo store) (marks ++ mark ∷ [])) ≡ savepoint_at undo store mark ∷ reverse (map (savepoint_at undo store) marks)
+      → reverse (map (savepoint_at store) (marks ++ mark ∷ [])) ≡ savepoint_at store mark ∷ reverse (map (savepoint_at store) marks)
   saved_push [] mark = refl
   saved_push (m ∷ ms) mark =
-      reverse-cons (savepoint_at undo store m) (map (savepoint_at undo store) (ms ++ mark ∷ []))
-      ∙ (ap (λ (xs : List Savepoint). xs ++ savepoint_at undo store m ∷ []) (saved_push ms mark)
-      ∙ sym (ap (λ (xs : List Savepoint). savepoint_at undo store mark ∷ xs) (reverse-cons (savepoint_at undo store m) (map (savepoint_at undo store) ms))))
+      reverse-cons (savepoint_at store m) (map (savepoint_at store) (ms ++ mark ∷ []))
+      ∙ (ap (λ (xs : List Savepoint). xs ++ savepoint_at store m ∷ []) (saved_push ms mark)
+      ∙ sym (ap (λ (xs : List Savepoint). savepoint_at store mark ∷ xs) (reverse-cons (savepoint_at store m) (map (savepoint_at store) ms))))
 
   -- The rows of the latest of the marks up to one are those at that one.
   pub latest_rows : (marks : List Mark) (place : ℕ) (mark : Mark) (rows : Instance) → slice_get marks place ≡ Some mark
-      → rows_at_latest (reverse (map (savepoint_at undo store) (take (suc place) marks))) rows ≡ rows_at_mark mark.commands undo store
+      → rows_at_latest (reverse (map (savepoint_at store) (take (suc place) marks))) rows ≡ rows_at_mark mark.commands store
   latest_rows marks place mark rows there =
-      ap (λ (ms : List Mark). rows_at_latest (reverse (map (savepoint_at undo store) ms)) rows) (take_last marks place mark there)
+      ap (λ (ms : List Mark). rows_at_latest (reverse (map (savepoint_at store) ms)) rows) (take_last marks place mark there)
       ∙ ap (λ (ss : List Savepoint). rows_at_latest ss rows) (saved_push (take place marks) mark)
 
   -- As many are saved as there are marks.
-  pub length_saved : (marks : List Mark) → length (reverse (map (savepoint_at undo store) marks)) ≡ length marks
+  pub length_saved : (marks : List Mark) → length (reverse (map (savepoint_at store) marks)) ≡ length marks
   length_saved [] = refl
   length_saved (m ∷ ms) =
-      ap length (reverse-cons (savepoint_at undo store m) (map (savepoint_at undo store) ms))
-      ∙ (one_more (reverse (map (savepoint_at undo store) ms)) ∙ ap suc (length_saved ms))
+      ap length (reverse-cons (savepoint_at store m) (map (savepoint_at store) ms))
+      ∙ (one_more (reverse (map (savepoint_at store) ms)) ∙ ap suc (length_saved ms))
     where
-      one_more : (xs : List Savepoint) → length (xs ++ savepoint_at undo store m ∷ []) ≡ suc (length xs)
+      one_more : (xs : List Savepoint) → length (xs ++ savepoint_at store m ∷ []) ≡ suc (length xs)
       one_more [] = refl
       one_more (x ∷ xs) = ap suc (one_more xs)

@@ -40,4 +40,4 @@ mod TypedBags
 mod TypedEdits
 mod TypedSteps
 mod PlacedRows
-mod Removals
+mod EachApplied

@@ -1,15 +1,12 @@
 -- The lists of standing queries through changes of rows, and through what keeps or takes these back.
-use Rattle.std.proofs.Common.{◌≡◌, ℕ, ◌≤◌, pos, ◌+ℤ◌, List, [], ◌++◌, Some, None, Err, inl, inr, drop, length, map, slice_get, slice_index_or, sym, ap, subst}
-use Rattle.std.proofs.Common.{◌∙◌, ⊎_elim, add-zero, arith}
+use Rattle.std.proofs.Common.{◌≡◌, ℕ, ◌≤◌, pos, ◌+ℤ◌, List, [], Some, drop, length, map, slice_get, slice_index_or, sym, ap, subst}
+use Rattle.std.proofs.Common.{◌∙◌, add-zero, arith}
 use Rattle.mm_multiset.specs.Counts.{Counts, Entries, count_in}
 use Rattle.mm_schema.specs.Instance.{Instance}
-use Rattle.mm_schema.specs.Refused.{AnswersDue, Condition, first_refusal}
 use Rattle.mm_schema.specs.Schema.{Schema}
-use Rattle.mm_schema.proofs.Dues.{due_behind, due_in_front}
 use Rattle.mm_standing.specs.Bags.{Made, count_with, entries_at, row_change, sum_over}
 use Rattle.mm_standing.specs.Queries.{RowsByPlace, StandingQuery}
 use Rattle.mm_standing.specs.State.{FitPrepared, Lists, count_at, count_now}
-use Rattle.mm_value.specs.declared.refusal.Refusal.{Refusal}
 use Rattle.mm_value.specs.declared.values.Value.{Value}
 use Rattle.mm_txn.specs.Saved.{AreSaved}
 use Rattle.mm_txn.specs.Listed.{AreListed, ArePlaced, rows_by_place}
@@ -105,15 +102,3 @@ module _ (old mid new : Lists) (entries : entries_of mid.bags ≡ entries_of old
   -- .. and the log has grown.
   pub longer_made : mid.log ≡ old.log → length old.log ≤ length new.log
   longer_made log = omega (arith, made.older, ap length log)
-
--- ---- what is refused
-
--- A refusal that is due in front is due of all conditions, ..
-pub front_due : (cs ds : List Condition) (refusal : Refusal) → AnswersDue {T = Unit {0}} (first_refusal cs) (Err refusal)
-    → AnswersDue {T = Unit {0}} (first_refusal (cs ++ ds)) (Err refusal)
-front_due cs ds refusal due = ⊎_elim (λ h. inl (due_in_front cs ds refusal h)) (λ m. inr m) due
-
--- .. and so is one behind where none is due in front.
-pub behind_due : (cs ds : List Condition) (refusal : Refusal) → first_refusal cs ≡ None → AnswersDue {T = Unit {0}} (first_refusal ds) (Err refusal)
-    → AnswersDue {T = Unit {0}} (first_refusal (cs ++ ds)) (Err refusal)
-behind_due cs ds refusal none due = ⊎_elim (λ h. inl (due_behind cs ds none ∙ h)) (λ m. inr m) due

@@ -12,24 +12,22 @@ use Rattle.mm_delta.specs.Steps.{EachFit}
 use Rattle.mm_delta.specs.declared.edited.TableChange.{TableChange}
 use Rattle.mm_query.specs.Standing.{growth_conditions, outgrows}
 use Rattle.mm_query.specs.State.{State}
-use Rattle.mm_relation.specs.Index.{EachTurns}
-use Rattle.mm_relation.specs.Kept.{StoredRows}
-use Rattle.mm_relation.specs.RowLists.{rows_of}
+use Rattle.mm_indexed.specs.Index.{EachTurns}
+use Rattle.mm_indexed.specs.Kept.{StoredRows}
+use Rattle.mm_indexed.specs.RowLists.{rows_of}
 use Rattle.mm_schema.specs.Instance.{Instance}
 use Rattle.mm_schema.specs.Schema.{Schema}
 use Rattle.mm_standing.specs.Queries.{IsServed, RowsByPlace, StandingQuery, bag_over, change_conditions, is_too_large}
 use Rattle.mm_standing.specs.State.{AreServed}
-use Rattle.mm_store.specs.Tables.{AreFit, HasRows, IsAt, SameForm, Tables, Turns, rows_with}
+use Rattle.mm_store.specs.Tables.{AreFit, HasRows, IsAt, SameForm, Tables, rows_with}
 use Rattle.mm_store.proofs.Forms.{forms_same}
-use Rattle.mm_store.proofs.Joining.{one_relation, some_at}
+use Rattle.mm_store.proofs.Joining.{one_relation}
 use Rattle.mm_value.specs.declared.refusal.Refusal.TheVariants.{StandingListTooLarge}
 use Rattle.mm_plan.specs.Kept.{AreOf, instance_of}
 use Rattle.mm_txn.specs.PlacedEdits.{FitsAt, HaveRows, PlacedEdits, edits_at, placed_change, rows_edited}
 use Rattle.mm_txn.specs.Listed.{IsPlaced, queries_of, rows_by_place}
 use Rattle.mm_txn.proofs.Placed.{bag_by_place, rows_at_place}
 use Rattle.mm_txn.proofs.PlacedRows.{edited_have}
-use Rattle.mm_txn.proofs.Removals.{form_turned}
-use Rattle.mm_txn.proofs.RowsBeside.{instance_of-set}
 use Rattle.mm_txn.proofs.Selecting.{all_there}
 use Rattle.mm_delta.proofs.Placed.{fit_nothing}
 
@@ -166,16 +164,6 @@ have_formed rows old new have = record {
       (record { types = found.2.types; key = found.2.key; indexes = found.2.indexes });
 }
 
--- All relations have the rows that they have, ..
+-- All relations have the rows that they have.
 pub rows_as_they_were : (store : Tables) → HaveRows (rows_by_place (instance_of store.tables)) store store
 rows_as_they_were store = rows_formed store store refl (forms_same store.tables)
-
--- .. also where one of them was put back.
-pub rows_put_back : (old new : Tables) (place : ℕ) → place < length old.tables
-    → ((stored : StoredRows) → IsAt old place stored → (next : StoredRows) × Turns old place next new × HasRows stored (rows_of stored) next)
-    → HaveRows (rows_by_place (instance_of old.tables)) old new
-rows_put_back old new place within each =
-    let stored = some_at old.tables place within in
-    let next = each stored.0 stored.1 in
-    rows_formed old new (ap instance_of next.1 ∙ instance_of-set old.tables place stored.0 next.0 stored.1 next.2.rows_are)
-    (form_turned old new place within rows_of each)

@@ -11,7 +11,7 @@ use Rattle.mm_query.specs.Atoms.{is_past_range, range_conditions, updated_row}
 use Rattle.mm_query.specs.Edits.{new_values}
 use Rattle.mm_query.specs.declared.atom.Assignment.{Assignment}
 use Rattle.mm_schema.specs.Refused.{first_refusal}
-use Rattle.mm_relation.specs.Refs.{Slots, row_at}
+use Rattle.mm_row_order.specs.Refs.{Slots, row_at}
 use Rattle.mm_select.proofs.Fits.{filter-map}
 use Rattle.mm_txn.specs.RowEdits.{updates_of}
 

@@ -1,19 +1,17 @@
 -- What stays consistent where a transaction begins, is divided and ends, and where rows are changed.
 use Rattle.std.proofs.Common.{◌≡◌, ℕ, zero, suc, ◌≤◌, Bool, true, false, cond, Result, List, [], ◌∷◌, ◌++◌, Option, Some, None, length, take, slice_get, refl}
-use Rattle.std.proofs.Common.{sym, ap, subst, ◌∙◌, ⊎_elim}
+use Rattle.std.proofs.Common.{sym, ap, subst, ◌∙◌, ⊎_elim, arith}
 use Rattle.std.specs.List.{All}
 use Rattle.std.specs.Prelude.{IfSome}
 use Rattle.std.proofs.lemmas.Bool.{cases_Bool, false≢true}
-use Rattle.std.proofs.lemmas.List.Elements.{All-head, All-tail}
+use Rattle.std.proofs.lemmas.List.Elements.{All-head, All-nil, All-tail}
 use Rattle.mm_schema.specs.Instance.{Instance}
 use Rattle.mm_schema.specs.Schema.{Schema}
 use Rattle.mm_standing.specs.Queries.{RowsByPlace, StandingQuery}
 use Rattle.mm_standing.specs.State.{Lists, count_at}
-use Rattle.mm_store.specs.Marks.{rows_at_mark, rows_now}
+use Rattle.mm_store.specs.Marks.{KeepsMarks, mark_of, rows_at_mark}
 use Rattle.mm_store.specs.Tables.{Tables}
-use Rattle.mm_store.specs.Undoing.{CanUndo}
-use Rattle.mm_store.specs.Snapshots.{Logged}
-use Rattle.mm_query.specs.Machine.{after_rollback_to, after_savepoint, back_to, rows_at_latest}
+use Rattle.mm_query.specs.Machine.{after_begin, after_rollback_to, after_savepoint, back_to, rows_at_latest}
 use Rattle.mm_query.specs.State.{AreSavedRows, Saved, Savepoint, State}
 use Rattle.mm_laws.proofs.Throughout.{gone_back, held_before, held_further}
 use Rattle.mm_laws.specs.Typing.{AreTyped, IsTyped, ShiftsNumbers}
@@ -21,10 +19,11 @@ use Rattle.mm_value.specs.declared.refusal.Refusal.{Refusal}
 use Rattle.mm_value.specs.declared.values.Value.{Value}
 use Rattle.mm_txn.specs.Contents.{Holdings, Makes}
 use Rattle.mm_plan.specs.Kept.{instance_of}
-use Rattle.mm_txn.specs.Saved.{CanGoBack, IsConsistent, IsSaved, IsSettled, kept_state, saved_of, saved_rows}
-use Rattle.mm_txn.specs.Listed.{AreListed, queries_of}
+use Rattle.mm_txn.specs.Saved.{CanGoBack, GoesBack, IsConsistent, IsSaved, IsSettled, kept_state, saved_of, saved_rows}
+use Rattle.mm_txn.specs.Marks.{Ascend}
+use Rattle.mm_txn.specs.Listed.{queries_of}
 use Rattle.mm_txn.specs.declared.savepoints.Mark.{Mark}
-use Rattle.mm_txn.proofs.GoingBack.{back_marked, back_through, back_to_mark, saved_same}
+use Rattle.mm_txn.proofs.GoingBack.{back_marked, back_through, back_to_mark, empty_from_none, saved_same}
 use Rattle.mm_txn.proofs.LatestMarks.{Ascend-take, IsLatest, back_is, latest_rows, mark_within, saved_push}
 
 -- What holds of rows that are saved in a transaction and of none outside it.
@@ -32,13 +31,13 @@ saved_open : (P : Instance → Type 0) (is_open : Bool) (saved : Saved) → is_o
     → AreSavedRows P saved
 saved_open P is_open saved is held = subst (λ (b : Bool). IfSome (cond b (Some saved) None) (AreSavedRows P)) is held
 
--- The lists can go back to each of some marks.
-pub saved_at : (undo : List Logged) (store : Tables) (lists : Lists) (marks : List Mark) (place : ℕ) (mark : Mark) → All (IsSaved undo store lists) marks
-    → slice_get marks place ≡ Some mark → IsSaved undo store lists mark
-saved_at undo store lists [] place mark all at = cc
-saved_at undo store lists (m ∷ ms) zero mark all at =
-    let same : m ≡ mark = cc in subst (IsSaved undo store lists) same (All-head (IsSaved undo store lists) m ms all)
-saved_at undo store lists (m ∷ ms) (suc place) mark all at = saved_at undo store lists ms place mark (All-tail (IsSaved undo store lists) m ms all) at
+-- Store and lists can go back to each of some marks.
+pub saved_at : (store : Tables) (lists : Lists) (marks : List Mark) (place : ℕ) (mark : Mark) → All (IsSaved store lists) marks
+    → slice_get marks place ≡ Some mark → IsSaved store lists mark
+saved_at store lists [] place mark all at = cc
+saved_at store lists (m ∷ ms) zero mark all at =
+    let same : m ≡ mark = cc in subst (IsSaved store lists) same (All-head (IsSaved store lists) m ms all)
+saved_at store lists (m ∷ ms) (suc place) mark all at = saved_at store lists ms place mark (All-tail (IsSaved store lists) m ms all) at
 
 -- Types of rows and of standing queries where the catalog stays.
 module _ (schema : Schema) (new : Holdings) (same : new.schema ≡ schema) where
@@ -52,7 +51,7 @@ module _ (schema : Schema) (new : Holdings) (same : new.schema ≡ schema) where
       subst (λ (s : Schema). All (ShiftsNumbers s) (queries_of new.lists.queries)) (sym same)
       (subst (λ (qs : List StandingQuery). All (ShiftsNumbers schema) (queries_of qs)) (sym is) typed)
 
-module _ (held : Holdings) (undo : List Logged) (marks : List Mark) where
+module _ (held : Holdings) (marks : List Mark) where
   abbrev schema : Schema
   schema = held.schema
 
@@ -62,181 +61,192 @@ module _ (held : Holdings) (undo : List Logged) (marks : List Mark) where
   abbrev lists : Lists
   lists = held.lists
 
-  -- BEGIN saves the rows now, and no savepoint.
-  pub begins : IsConsistent held undo false marks → rows_now store ≡ instance_of store.tables
-      → saved_of undo store marks ≡ record { at_begin = instance_of store.tables; savepoints = [] }
-  begins was rows =
-      let settled = was.settled refl in
-      ap (saved_of undo store) settled.1
-      ∙ ap (λ (r : Instance). record { at_begin = r; savepoints = [] }) (ap (λ log. rows_at_mark 0 log store) settled.0.undo_is ∙ rows)
+  -- What stands can be gone back to.
+  module _ (now : GoesBack store lists (mark_of store) (length lists.log)) (rows : rows_at_mark (mark_of store) store ≡ instance_of store.tables) where
+    -- BEGIN saves the rows now, and no savepoint.
+    begins : IsConsistent held false marks → saved_of store marks ≡ record { at_begin = instance_of store.tables; savepoints = [] }
+    begins was =
+        let settled = was.settled refl in
+        ap (saved_of store) settled.1
+        ∙ ap (λ (r : Instance). record { at_begin = r; savepoints = [] }) (ap (λ n. rows_at_mark n store) (sym (ap length settled.0.edits)) ∙ rows)
 
-  -- A savepoint is one more to which the transaction can go back, and its rows have their types.
-  module _ (was : IsConsistent held undo true marks) (listed : AreListed (instance_of store.tables) lists) (rows : rows_now store ≡ instance_of store.tables)
-      (at_end : rows_at_mark (length undo) undo store ≡ rows_now store)
-      (mark : Mark) (commands : mark.commands ≡ length undo) (changes : mark.changes ≡ length lists.log) where
-    pub marked_state : kept_state held undo true (marks ++ mark ∷ []) ≡ after_savepoint mark.name (kept_state held undo true marks)
-    marked_state =
-        let now : rows_at_mark mark.commands undo store ≡ instance_of store.tables = ap (λ n. rows_at_mark n undo store) commands ∙ (at_end ∙ rows) in
-        ap (λ (ss : List Savepoint). record {
-          schema = schema;
-          rows = instance_of store.tables;
-          queries = queries_of lists.queries;
-          saved = Some (record { at_begin = rows_at_mark 0 undo store; savepoints = ss });
-        }) (saved_push undo store marks mark
-        ∙ ap (λ (r : Instance). record { name = mark.name; rows = r } ∷ (saved_of undo store marks).savepoints) now)
+    pub begun_state : IsConsistent held false marks → kept_state held true marks ≡ after_begin (kept_state held false marks)
+    begun_state was = ap (λ (s : Saved). record (kept_state held false marks) { saved = Some s }) (begins was)
 
-    pub marked : IsConsistent held undo true (marks ++ mark ∷ [])
-    marked = record {
-      typed = subst IsTyped (sym marked_state) (record {
-        rows = was.typed.rows;
-        saved = held_further (AreTyped schema.tables) mark.name (instance_of store.tables) (Some (saved_of undo store marks)) was.typed.rows was.typed.saved;
-        queries = was.typed.queries;
-      });
-      fits = was.fits;
-      back = λ e. back_marked store undo lists rows listed marks mark commands changes (was.back refl);
-      settled = λ e. absurd (false≢true (sym e));
-    }
+    pub begun : IsConsistent held false marks → IsConsistent held true marks
+    begun was =
+        let settled = was.settled refl in
+        record {
+          typed = record {
+            rows = was.typed.rows;
+            saved = subst (AreSavedRows (AreTyped schema.tables)) (sym (begins was))
+                (record { at_begin = was.typed.rows; savepoints = All-nil (λ (s : Savepoint). AreTyped schema.tables s.rows) });
+            queries = was.typed.queries;
+          };
+          back = λ e. record {
+            saved = subst (GoesBack store lists 0) (ap length settled.0.log)
+                (subst (λ (n : ℕ). GoesBack store lists n (length lists.log)) (ap length settled.0.edits) now);
+            each = subst (All (IsSaved store lists)) (sym settled.1) (All-nil (IsSaved store lists));
+            ascend = subst (λ (ms : List Mark). Ascend 0 0 ms (mark_of store) (length lists.log)) (sym settled.1) (omega arith, omega arith);
+          };
+          settled = λ e. absurd (false≢true (sym e));
+        }
 
-  module _ (is_open : Bool) (was : IsConsistent held undo is_open marks) (new : Holdings) (left : List Logged) (same : new.schema ≡ schema)
-      (fits : CanUndo new.store left) (queries : new.lists.queries ≡ lists.queries) (settled : IsSettled left new.lists)
-      (none : List Mark) (no_marks : none ≡ []) where
-    ended : AreTyped new.schema.tables (instance_of new.store.tables) → IsConsistent new left false none
+    -- A savepoint is one more to which the transaction can go back, and its rows have their types.
+    module _ (was : IsConsistent held true marks) (mark : Mark) (commands : mark.commands ≡ mark_of store) (changes : mark.changes ≡ length lists.log) where
+      pub marked_state : kept_state held true (marks ++ mark ∷ []) ≡ after_savepoint mark.name (kept_state held true marks)
+      marked_state =
+          let then : rows_at_mark mark.commands store ≡ instance_of store.tables = ap (λ (n : ℕ). rows_at_mark n store) commands ∙ rows in
+          ap (λ (ss : List Savepoint). record {
+            schema = schema;
+            rows = instance_of store.tables;
+            queries = queries_of lists.queries;
+            saved = Some (record { at_begin = rows_at_mark 0 store; savepoints = ss });
+          }) (saved_push store marks mark
+          ∙ ap (λ (r : Instance). record { name = mark.name; rows = r } ∷ (saved_of store marks).savepoints) then)
+
+      pub marked : IsConsistent held true (marks ++ mark ∷ [])
+      marked = record {
+        typed = subst IsTyped (sym marked_state) (record {
+          rows = was.typed.rows;
+          saved = held_further (AreTyped schema.tables) mark.name (instance_of store.tables) (Some (saved_of store marks)) was.typed.rows was.typed.saved;
+          queries = was.typed.queries;
+        });
+        back = λ e. back_marked store lists marks mark
+            (subst (GoesBack store lists mark.commands) (sym changes)
+            (subst (λ (n : ℕ). GoesBack store lists n (length lists.log)) (sym commands) now)) commands changes (was.back refl);
+        settled = λ e. absurd (false≢true (sym e));
+      }
+
+  module _ (is_open : Bool) (was : IsConsistent held is_open marks) (new : Holdings) (same : new.schema ≡ schema)
+      (queries : new.lists.queries ≡ lists.queries) (settled : IsSettled new.store new.lists) (none : List Mark) (no_marks : none ≡ []) where
+    ended : AreTyped new.schema.tables (instance_of new.store.tables) → IsConsistent new false none
     ended typed = record {
       typed = record { rows = typed; saved = tt; queries = queries_typed schema new same lists.queries was.typed.queries queries };
-      fits = fits;
       back = λ e. absurd (false≢true e);
       settled = λ e. (settled, no_marks);
     }
 
     -- Rows that are final stay.
-    pub settled_outside : instance_of new.store.tables ≡ instance_of store.tables → IsConsistent new left false none
+    pub settled_outside : instance_of new.store.tables ≡ instance_of store.tables → IsConsistent new false none
     settled_outside rows = ended (rows_typed schema new same (instance_of store.tables) was.typed.rows rows)
 
     -- Rows that are taken back are those that were saved.
-    pub taken_back : is_open ≡ true → instance_of new.store.tables ≡ rows_at_mark 0 undo store → IsConsistent new left false none
+    pub taken_back : is_open ≡ true → instance_of new.store.tables ≡ rows_at_mark 0 store → IsConsistent new false none
     taken_back is rows =
-        ended (rows_typed schema new same (rows_at_mark 0 undo store)
-        (saved_open (AreTyped schema.tables) is_open (saved_of undo store marks) is was.typed.saved).at_begin rows)
+        ended (rows_typed schema new same (rows_at_mark 0 store)
+        (saved_open (AreTyped schema.tables) is_open (saved_of store marks) is was.typed.saved).at_begin rows)
 
   -- Going back to the latest savepoint of a name.
-  module _ (was : IsConsistent held undo true marks) (new : Holdings) (left : List Logged) (same : new.schema ≡ schema) (fits : CanUndo new.store left)
-      (queries : new.lists.queries ≡ lists.queries)
+  module _ (was : IsConsistent held true marks) (new : Holdings) (same : new.schema ≡ schema) (queries : new.lists.queries ≡ lists.queries)
       (name : List ℕ) (place : ℕ) (latest : IsLatest name marks place) (mark : Mark) (there : slice_get marks place ≡ Some mark)
-      (rows : instance_of new.store.tables ≡ rows_at_mark mark.commands undo store)
-      (earlier : (n : ℕ) → n ≤ mark.commands → rows_at_mark n left new.store ≡ rows_at_mark n undo store)
+      (rows : instance_of new.store.tables ≡ rows_at_mark mark.commands store) (reached : mark_of new.store ≡ mark.commands)
+      (keeps : (n : ℕ) → n ≤ mark.commands → KeepsMarks store new.store n)
       (counts : (n : ℕ) → n ≤ mark.changes → (list : ℕ) (row : List Value) → count_at n list row new.lists ≡ count_at n list row lists)
-      (left_is : left ≡ take mark.commands undo) (log : new.lists.log ≡ take mark.changes lists.log) where
+      (log : new.lists.log ≡ take mark.changes lists.log) where
     abbrev kept_marks : List Mark
     kept_marks = take (suc place) marks
 
     abbrev state : State
-    state = kept_state held undo true marks
+    state = kept_state held true marks
 
-    saved_kept : saved_of left new.store kept_marks ≡ saved_of undo store kept_marks
+    saved_kept : saved_of new.store kept_marks ≡ saved_of store kept_marks
     saved_kept =
-        saved_same store new.store undo left mark.commands earlier mark.changes kept_marks
-        (Ascend-take 0 0 marks (length undo) (length lists.log) place mark there (was.back refl).ascend)
+        saved_same store new.store mark.commands keeps mark.changes kept_marks
+        (Ascend-take 0 0 marks (mark_of store) (length lists.log) place mark there (was.back refl).ascend)
 
     -- The rows are those at the savepoint, which stays, and those before it.
-    pub back_at_mark : kept_state new left true kept_marks ≡ after_rollback_to name state
+    pub back_at_mark : kept_state new true kept_marks ≡ after_rollback_to name state
     back_at_mark =
-        let older : back_ss ≡ (saved_of undo store kept_marks).savepoints = back_is name undo store marks place latest in
+        let older : back_ss ≡ (saved_of store kept_marks).savepoints = back_is name store marks place latest in
         let rows_are : instance_of new.store.tables ≡ rows_then back_ss =
-        rows ∙ (sym (latest_rows undo store marks place mark (instance_of store.tables) there) ∙ ap rows_then (sym older)) in
+        rows ∙ (sym (latest_rows store marks place mark (instance_of store.tables) there) ∙ ap rows_then (sym older)) in
         λ i. record {
           schema = same i;
           rows = rows_are i;
           queries = queries_of (queries i);
-          saved = Some ((saved_kept ∙ ap (λ (ss : List Savepoint). record { at_begin = rows_at_mark 0 undo store; savepoints = ss }) (sym older)) i);
+          saved = Some ((saved_kept ∙ ap (λ (ss : List Savepoint). record { at_begin = rows_at_mark 0 store; savepoints = ss }) (sym older)) i);
         }
       where
         back_ss : List Savepoint
-        back_ss = back_to name (saved_of undo store marks).savepoints
+        back_ss = back_to name (saved_of store marks).savepoints
 
         rows_then : List Savepoint → Instance
         rows_then ss = rows_at_latest ss (instance_of store.tables)
 
-    pub back_to_savepoint : IsConsistent new left true kept_marks
+    pub back_to_savepoint : IsConsistent new true kept_marks
     back_to_savepoint = record {
       typed = subst IsTyped (sym back_at_mark) (record {
-        rows = gone_back (AreTyped schema.tables) name (instance_of store.tables) (Some (saved_of undo store marks)) was.typed.rows was.typed.saved;
-        saved = held_before (AreTyped schema.tables) name (Some (saved_of undo store marks)) was.typed.saved;
+        rows = gone_back (AreTyped schema.tables) name (instance_of store.tables) (Some (saved_of store marks)) was.typed.rows was.typed.saved;
+        saved = held_before (AreTyped schema.tables) name (Some (saved_of store marks)) was.typed.saved;
         queries = was.typed.queries;
       });
-      fits = fits;
       back = λ e.
-          let within = mark_within 0 0 marks (length undo) (length lists.log) place mark there (was.back refl).ascend in
-          back_to_mark store new.store undo left lists new.lists marks place mark there (was.back refl) within.0 within.1 left_is log queries earlier counts;
+          let within = mark_within 0 0 marks (mark_of store) (length lists.log) place mark there (was.back refl).ascend in
+          back_to_mark store new.store lists new.lists marks place mark there (was.back refl) within.1 reached log queries keeps counts;
       settled = λ e. absurd (false≢true (sym e));
     }
 
-  module _ (is_open : Bool) (was : IsConsistent held undo is_open marks) (new : Holdings) (longer : List Logged) (same : new.schema ≡ schema)
-      (rows : RowsByPlace) (result : Result Unit Refusal) (made : Makes rows store new.store lists new.lists undo longer result) where
+  module _ (is_open : Bool) (was : IsConsistent held is_open marks) (new : Holdings) (same : new.schema ≡ schema)
+      (rows : RowsByPlace) (result : Result Unit Refusal) (made : Makes rows store new.store lists new.lists result) where
     -- What is saved stays, ..
-    pub saved_through_change : saved_rows is_open longer new.store marks ≡ saved_rows is_open undo store marks
+    pub saved_through_change : saved_rows is_open new.store marks ≡ saved_rows is_open store marks
     saved_through_change =
         ⊎_elim
         (λ (is : is_open ≡ true).
         ap (λ (s : Saved). cond is_open (Some s) None)
-        (saved_same store new.store undo longer (length undo) made.saved (length lists.log) marks (was.back is).ascend))
+        (saved_same store new.store (mark_of store) made.marks (length lists.log) marks (was.back is).ascend))
         (λ (closed : is_open ≡ false).
-        ap (λ (b : Bool). cond b (Some (saved_of longer new.store marks)) None) closed
-        ∙ sym (ap (λ (b : Bool). cond b (Some (saved_of undo store marks)) None) closed))
+        ap (λ (b : Bool). cond b (Some (saved_of new.store marks)) None) closed
+        ∙ sym (ap (λ (b : Bool). cond b (Some (saved_of store marks)) None) closed))
         (cases_Bool is_open)
 
     -- .. and can be gone back to.
-    back_changed : is_open ≡ true → CanGoBack new.store longer new.lists marks
+    back_changed : is_open ≡ true → CanGoBack new.store new.lists marks
     back_changed is =
         let back = was.back is in
-        back_through store new.store undo longer (length undo) made.saved lists new.lists made.queries (length lists.log) made.undone marks back.saved back.each
+        back_through store new.store (mark_of store) made.marks lists new.lists made.queries (length lists.log) made.undone marks back.saved back.each
         back.ascend made.longer made.log_longer
 
     -- The queries and the rows that are saved have their types still.
-    typed_beside : (last : Holdings) (left : List Logged) → last.schema ≡ schema → (now : Instance) → AreTyped schema.tables now
+    typed_beside : (last : Holdings) → last.schema ≡ schema → (now : Instance) → AreTyped schema.tables now
         → instance_of last.store.tables ≡ now → last.lists.queries ≡ lists.queries
-        → saved_rows is_open left last.store marks ≡ saved_rows is_open undo store marks → IsTyped (kept_state last left is_open marks)
-    typed_beside last left schema_is now typed is queries saved = record {
+        → saved_rows is_open last.store marks ≡ saved_rows is_open store marks → IsTyped (kept_state last is_open marks)
+    typed_beside last schema_is now typed is queries saved = record {
       rows = rows_typed schema last schema_is now typed is;
-      saved = subst (λ (s : Schema). IfSome (saved_rows is_open left last.store marks) (AreSavedRows (AreTyped s.tables))) (sym schema_is)
+      saved = subst (λ (s : Schema). IfSome (saved_rows is_open last.store marks) (AreSavedRows (AreTyped s.tables))) (sym schema_is)
           (subst (λ (rs : Option Saved). IfSome rs (AreSavedRows (AreTyped schema.tables))) (sym saved) was.typed.saved);
       queries = queries_typed schema last schema_is lists.queries was.typed.queries queries;
     }
 
     -- After a change that is refused all is as before.
-    pub refused : instance_of new.store.tables ≡ instance_of store.tables → longer ≡ undo → new.lists.log ≡ lists.log → IsConsistent new longer is_open marks
+    pub refused : instance_of new.store.tables ≡ instance_of store.tables → mark_of new.store ≡ mark_of store → new.lists.log ≡ lists.log
+        → IsConsistent new is_open marks
     refused stay kept log = record {
-      typed = typed_beside new longer same (instance_of store.tables) was.typed.rows stay made.queries saved_through_change;
-      fits = made.fits;
+      typed = typed_beside new same (instance_of store.tables) was.typed.rows stay made.queries saved_through_change;
       back = back_changed;
-      settled = λ closed. let settled = was.settled closed in (record { undo_is = kept ∙ settled.0.undo_is; log = log ∙ settled.0.log }, settled.1);
+      settled = λ closed.
+          let settled = was.settled closed in
+          (record { edits = empty_from_none new.store.stored.log (kept ∙ ap length settled.0.edits); log = log ∙ settled.0.log }, settled.1);
     }
 
-    module _ (last : Holdings) (left : List Logged) (stays : is_open ≡ true → (last ≡ new) × (left ≡ longer)) where
+    module _ (last : Holdings) (stays : is_open ≡ true → last ≡ new) where
       -- What is saved is the same once a change outside a transaction is final.
-      pub saved_to_the_end : saved_rows is_open left last.store marks ≡ saved_rows is_open undo store marks
+      pub saved_to_the_end : saved_rows is_open last.store marks ≡ saved_rows is_open store marks
       saved_to_the_end =
           ⊎_elim
-          (λ (is : is_open ≡ true).
-          let kept = stays is in
-          (λ i. cond is_open (Some (saved_of (kept.1 i) (kept.0 i).store marks)) None) ∙ saved_through_change)
+          (λ (is : is_open ≡ true). ap (λ (h : Holdings). saved_rows is_open h.store marks) (stays is) ∙ saved_through_change)
           (λ (closed : is_open ≡ false).
-          ap (λ (b : Bool). cond b (Some (saved_of left last.store marks)) None) closed
-          ∙ sym (ap (λ (b : Bool). cond b (Some (saved_of undo store marks)) None) closed))
+          ap (λ (b : Bool). cond b (Some (saved_of last.store marks)) None) closed
+          ∙ sym (ap (λ (b : Bool). cond b (Some (saved_of store marks)) None) closed))
           (cases_Bool is_open)
-
-      back_at_the_end : is_open ≡ true → CanGoBack last.store left last.lists marks
-      back_at_the_end is =
-          let kept = stays is in
-          subst (λ (h : Holdings). CanGoBack h.store left h.lists marks) (sym kept.0)
-          (subst (λ (u : List Logged). CanGoBack new.store u new.lists marks) (sym kept.1) (back_changed is))
 
       -- A change that is made can be taken back in a transaction, and is final outside one.
       pub changed : AreTyped schema.tables (instance_of new.store.tables) → last.schema ≡ new.schema
-          → instance_of last.store.tables ≡ instance_of new.store.tables → CanUndo last.store left → last.lists.queries ≡ new.lists.queries
-          → (is_open ≡ false → IsSettled left last.lists) → IsConsistent last left is_open marks
-      changed typed last_same stay fits queries settled = record {
-        typed = typed_beside last left (last_same ∙ same) (instance_of new.store.tables) typed stay (queries ∙ made.queries) saved_to_the_end;
-        fits = fits;
-        back = back_at_the_end;
+          → instance_of last.store.tables ≡ instance_of new.store.tables → last.lists.queries ≡ new.lists.queries
+          → (is_open ≡ false → IsSettled last.store last.lists) → IsConsistent last is_open marks
+      changed typed last_same stay queries settled = record {
+        typed = typed_beside last (last_same ∙ same) (instance_of new.store.tables) typed stay (queries ∙ made.queries) saved_to_the_end;
+        back = λ is. subst (λ (h : Holdings). CanGoBack h.store h.lists marks) (sym (stays is)) (back_changed is);
         settled = λ closed. (settled closed, (was.settled closed).1);
       }

@@ -5,7 +5,7 @@ use Rattle.std.specs.List.{All, list_any, position_or_len}
 use Rattle.std.specs.Option.{unwrap_or}
 use Rattle.std.proofs.lemmas.Bool.{or_parts}
 use Rattle.std.proofs.lemmas.List.Elements.{All-cons, All-nil}
-use Rattle.mm_relation.specs.Kept.{StoredRows}
+use Rattle.mm_indexed.specs.Kept.{StoredRows}
 use Rattle.mm_schema.specs.Instance.{Instance, rows_named}
 use Rattle.mm_schema.specs.Name.{same_name}
 use Rattle.mm_schema.specs.Schema.{Schema, lacks_table, table_place}

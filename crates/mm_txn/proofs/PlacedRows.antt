@@ -11,17 +11,18 @@ use Rattle.std.proofs.lemmas.List.{length-set}
 use Rattle.std.proofs.lemmas.List.Elements.{All-head, All-tail, All-weaker}
 use Rattle.std.proofs.lemmas.Option.{slice_get_past, slice_get_within}
 use Rattle.mm_partition.specs.Places.{slot_at}
-use Rattle.mm_relation.specs.Kept.{StoredRows}
-use Rattle.mm_relation.specs.RowLists.{edit_pairs, rows_of}
-use Rattle.mm_relation.specs.declared.edits.Edit.{Edit}
-use Rattle.mm_schema.specs.References.{lose_targets}
-use Rattle.mm_schema.specs.Rows.{Pair, table_rows_conditions}
+use Rattle.mm_indexed.specs.Kept.{StoredRows}
+use Rattle.mm_store.specs.RowEdits.{edit_pairs}
+use Rattle.mm_indexed.specs.RowLists.{rows_of}
+use Rattle.mm_store.specs.declared.edit.Edit.{Edit}
+use Rattle.mm_schema.specs.References.{lacks_target_row, lose_targets}
+use Rattle.mm_schema.specs.Rows.{Pair}
 use Rattle.mm_schema.specs.declared.reference.Reference.{Reference}
-use Rattle.mm_store.specs.Tables.{AreFit, HasRows, IsAt, Tables, Turns, edit_conditions, has_orphans, key_at, makes_orphan, makes_orphans, rows_at, rows_with}
+use Rattle.mm_store.specs.Tables.{HasRows, IsAt, Tables, Turns, finds_orphan, has_orphans, key_at, makes_orphan, makes_orphans, rows_at, rows_with}
 use Rattle.mm_value.specs.declared.values.Value.{Value}
 use Rattle.mm_store.proofs.Joining.{get_set_other, get_set_same, one_relation, some_at}
 use Rattle.mm_standing.specs.Queries.{RowsByPlace}
-use Rattle.mm_txn.specs.PlacedEdits.{AreEdits, FitsAt, HaveRows, PlacedEdits, edits_at, edits_conditions, leaves_orphan, leaves_orphans, pairs_at, rows_edited}
+use Rattle.mm_txn.specs.PlacedEdits.{HaveRows, PlacedEdits, edits_at, leaves_orphan, pairs_at, rows_edited}
 
 -- ---- edits at a place
 
@@ -163,7 +164,19 @@ module _ (old : Tables) (c : PlacedEdits) (done : List PlacedEdits) (mid : Table
       links = links ∙ partly.links;
     }
 
--- ---- rows that refer to one that goes
+-- ---- rows that refer to one that goes, or to none
+
+same_behind : (b x y : Bool) → (b ≡ true → x ≡ y) → (b && x) ≡ (b && y)
+same_behind true x y same = same refl
+same_behind false x y same = refl
+
+same_of_all : (p q : Reference → Bool) → ((r : Reference) → r.to < r.from → p r ≡ q r) → (links : List Reference)
+    → All (λ (r : Reference). r.to < r.from) links → list_any p links ≡ list_any q links
+same_of_all p q same [] back = refl
+same_of_all p q same (r ∷ rs) back =
+    let first = same r (All-head (λ (x : Reference). x.to < x.from) r rs back) in
+    let rest = same_of_all p q same rs (All-tail (λ (x : Reference). x.to < x.from) r rs back) in
+    λ i. first i || rest i
 
 module _ (old : Tables) (front : List PlacedEdits) (c : PlacedEdits) (done : List PlacedEdits) (mid : Tables)
     (before : All (λ (d : PlacedEdits). d.0 < c.0) front) (partly : IsPartly old done mid) (stored : StoredRows) (there : IsAt old c.0 stored) where
@@ -184,7 +197,7 @@ module _ (old : Tables) (front : List PlacedEdits) (c : PlacedEdits) (done : Lis
 
   same_orphan : (r : Reference) → r.to < r.from → makes_orphan mid.tables c.0 stored.key pairs r ≡ leaves_orphan old all c r
   same_orphan r back =
-      and_same (r.to == c.0) _ _
+      same_behind (r.to == c.0) _ _
       (λ own.
       let is : r.to ≡ c.0 = eqb-true r.to c.0 own in
       let key : stored.key ≡ key_at old.tables c.0 = sym (ap (λ (f : Option StoredRows). option_map_or (λ (s : StoredRows). s.key) f 0) there) in
@@ -192,23 +205,30 @@ module _ (old : Tables) (front : List PlacedEdits) (c : PlacedEdits) (done : Lis
       let gone : pairs ≡ pairs_at old.tables c =
       sym (ap (λ (f : Option StoredRows). option_map_or (λ (s : StoredRows). edit_pairs (slot_at s.places) c.1) f []) there) in
       λ i. lose_targets r.column (key i) (rows i) (gone i))
-    where
-      and_same : (b x y : Bool) → (b ≡ true → x ≡ y) → (b && x) ≡ (b && y)
-      and_same true x y same = same refl
-      and_same false x y same = refl
-
-  same_orphans : (links : List Reference) → All (λ (r : Reference). r.to < r.from) links
-      → list_any (makes_orphan mid.tables c.0 stored.key pairs) links ≡ list_any (leaves_orphan old all c) links
-  same_orphans [] back = refl
-  same_orphans (r ∷ rs) back =
-      let first = same_orphan r (All-head (λ (x : Reference). x.to < x.from) r rs back) in
-      let rest = same_orphans rs (All-tail (λ (x : Reference). x.to < x.from) r rs back) in
-      λ i. first i || rest i
 
   -- What the store finds once the edits of the tables behind are made is what all edits leave.
   pub orphans_same : All (λ (r : Reference). r.to < r.from) old.links
       → makes_orphans mid c.0 stored.key pairs ≡ list_any (leaves_orphan old all c) old.links
-  orphans_same back = ap (list_any (makes_orphan mid.tables c.0 stored.key pairs)) partly.links ∙ same_orphans old.links back
+  orphans_same back =
+      ap (list_any (makes_orphan mid.tables c.0 stored.key pairs)) partly.links
+      ∙ same_of_all (makes_orphan mid.tables c.0 stored.key pairs) (leaves_orphan old all c) same_orphan old.links back
+
+  module _ (behind : All (λ (d : PlacedEdits). c.0 < d.0) done) (rows : List (List Value)) where
+    same_target : (r : Reference) → r.to < r.from → finds_orphan mid.tables c.0 rows r ≡ finds_orphan old.tables c.0 rows r
+    same_target r back =
+        same_behind (r.from == c.0) _ _
+        (λ own.
+        let is : r.from ≡ c.0 = eqb-true r.from c.0 own in
+        let there : slice_get mid.tables r.to ≡ slice_get old.tables r.to =
+        partly.others r.to (All-weaker (λ (d : PlacedEdits). c.0 < d.0) (λ (d : PlacedEdits). r.to < d.0) (λ d more. omega (arith, is, back, more))
+        done behind) in
+        λ i. list_any (lacks_target_row r.column (option_map_or (λ (s : StoredRows). s.key) (there i) 0) (option_map_or rows_of (there i) [])) rows)
+
+    -- Rows of a table lack a target then just where they lack one before: it is in a table in front.
+    pub targets_same : All (λ (r : Reference). r.to < r.from) old.links → has_orphans mid c.0 rows ≡ has_orphans old c.0 rows
+    targets_same back =
+        ap (list_any (finds_orphan mid.tables c.0 rows)) partly.links
+        ∙ same_of_all (finds_orphan mid.tables c.0 rows) (finds_orphan old.tables c.0 rows) same_target old.links back
 
 -- One that is found among some is found among all, ..
 pub found_among : {X : Type 0} (p : X → Bool) (front : List X) (x : X) (back : List X) → p x ≡ true → list_any p (front ++ x ∷ back) ≡ true
@@ -218,44 +238,3 @@ found_among p (y ∷ ys) x back found = ap (λ b. p y || b) (found_among p ys x 
     or_true : (b : Bool) → (b || true) ≡ true
     or_true true = refl
     or_true false = refl
-
--- ---- edits of one table
-
-module _ (store : Tables) (c : PlacedEdits) (are : AreEdits store (c ∷ [])) where
-  fits : FitsAt store c
-  fits = All-head (FitsAt store) c [] are.fit
-
-  none_behind : All (λ (d : PlacedEdits). c.0 < d.0) []
-  none_behind = λ k d within. absurd (omega (arith, within))
-
-  none_before : All (λ (d : PlacedEdits). d.0 < c.0) []
-  none_before = λ k d within. absurd (omega (arith, within))
-
-  -- Its relation is there, ..
-  pub one_there : c.0 < length store.tables
-  one_there = slice_get_within store.tables c.0 fits.0 fits.1
-
-  -- .. they fit it, ..
-  pub one_fits : (stored : StoredRows) → IsAt store c.0 stored → AreFit stored c.1
-  one_fits stored at = subst (λ (s : StoredRows). AreFit s c.1) (one_relation fits.0 stored (sym fits.1 ∙ at)) fits.2
-
-  -- .. they are refused as the store refuses them, ..
-  pub one_refused : All (λ (r : Reference). r.to < r.from) store.links → (stored : StoredRows) → IsAt store c.0 stored
-      → edits_conditions store stored c [] ≡ edit_conditions store c.0 stored c.1
-  one_refused back stored there =
-      let referred : leaves_orphans store (c ∷ []) ≡ makes_orphans store c.0 stored.key (edit_pairs (slot_at stored.places) c.1) =
-      or_none (list_any (leaves_orphan store (c ∷ []) c) store.links)
-      ∙ sym (orphans_same store [] c [] store none_before (IsPartly-none store) stored there back) in
-      ap (table_rows_conditions stored.key (rows_with stored c.1) (has_orphans store c.0 (rows_with stored c.1))) referred
-    where
-      or_none : (b : Bool) → (b || false) ≡ b
-      or_none true = refl
-      or_none false = refl
-
-  -- .. and once they are made it has the edited rows.
-  pub one_made : (new : Tables)
-      → ((stored : StoredRows) → IsAt store c.0 stored → (next : StoredRows) × Turns store c.0 next new × HasRows stored (rows_with stored c.1) next)
-      → new.links ≡ store.links → HaveRows (rows_edited store (c ∷ [])) store new
-  one_made new each links =
-      let next = each fits.0 fits.1 in
-      (IsPartly-more store c [] store none_behind (IsPartly-none store) fits.0 fits.1 new next.0 next.1 next.2 links).have

@@ -5,8 +5,8 @@ use Rattle.std.specs.List.{AllByRecursion, list_any}
 use Rattle.std.specs.Option.{option_map_or, unwrap_or}
 use Rattle.std.proofs.lemmas.Bool.{cases_Bool, eq-eqb, false≢true, ne_eqb}
 use Rattle.std.proofs.lemmas.List.Folds.{list_any-append}
-use Rattle.mm_relation.specs.Kept.{StoredRows}
-use Rattle.mm_relation.specs.RowLists.{rows_of}
+use Rattle.mm_indexed.specs.Kept.{StoredRows}
+use Rattle.mm_indexed.specs.RowLists.{rows_of}
 use Rattle.mm_schema.specs.Instance.{Instance, rows_named}
 use Rattle.mm_schema.specs.Name.{same_name}
 use Rattle.mm_schema.specs.References.{all_references, lacks_target_row, lose_targets, reference_at, references_behind, references_of}

@@ -1,5 +1,5 @@
 -- Rows that have in a column the key of a row that goes.
-use Rattle.std.proofs.Common.{◌≡◌, ℕ, Bool, true, false, cond, ◌||◌, List, [], ◌∷◌, ◌++◌, Option, Some, None, inl, inr, refl, sym, ap, ◌∙◌, subst}
+use Rattle.std.proofs.Common.{◌≡◌, ◌≢◌, ℕ, Bool, true, false, cond, ◌||◌, List, [], ◌∷◌, ◌++◌, Option, Some, None, inl, inr, ⊎_elim, refl, sym, ap, ◌∙◌, subst}
 use Rattle.std.specs.Prelude.{slice_get}
 use Rattle.std.specs.List.{All, AllByRecursion, filter, filter_map, list_any}
 use Rattle.std.specs.Option.{option_cmp}
@@ -11,32 +11,29 @@ use Rattle.std.proofs.lemmas.List.Elements.{All-append, All-filter, recursion_fr
 use Rattle.std.proofs.lemmas.List.Folds.{list_any-append}
 use Rattle.std.proofs.lemmas.List.Sorted.{Contains-permutation, IsPermutation-sym}
 use Rattle.mm_partition.specs.Places.{IsLive, slot_at}
-use Rattle.mm_relation.proofs.RefTests.{same_from_test, test_from_same}
-use Rattle.mm_relation.proofs.RowLists.{KeysApart-ordered}
-use Rattle.mm_relation.specs.Before.{same_ref}
-use Rattle.mm_relation.specs.Changes.{Standing}
-use Rattle.mm_relation.specs.Edits.{edit_name, named}
-use Rattle.mm_relation.specs.Kept.{IsKept, StoredRows}
-use Rattle.mm_relation.specs.Reads.{AreMatches, has_value}
-use Rattle.mm_relation.specs.Refs.{HasRow, Slots, row_at}
-use Rattle.mm_relation.specs.RowLists.{edit_pairs}
-use Rattle.mm_relation.specs.declared.edits.Edit.{Edit}
-use Rattle.mm_relation.specs.declared.edits.Edit.TheVariants.{Add, Gone, Swap}
-use Rattle.mm_relation.specs.declared.indexes.names.Side.TheVariants.{Old}
+use Rattle.mm_tables.proofs.Slots.{same_from_test, test_from_same}
+use Rattle.mm_indexed.proofs.RefTests.{same_or_apart}
+use Rattle.mm_tables.specs.Edits.{same_ref}
+use Rattle.mm_store.specs.RowEdits.{Standing, edit_pairs, old_ref, old_refs}
+use Rattle.mm_indexed.specs.Kept.{StoredRows}
+use Rattle.mm_indexed.specs.Twins.{AreApart}
+use Rattle.mm_indexed.specs.Reads.{AreMatches, has_value}
+use Rattle.mm_row_order.specs.Refs.{HasRow, Slots, row_at}
+use Rattle.mm_store.specs.declared.edit.Edit.{Edit}
+use Rattle.mm_store.specs.declared.edit.Edit.TheVariants.{Add, Gone, Swap}
 use Rattle.mm_schema.proofs.StrictOrder.{Contains-from_IsIn, IsIn, IsIn-from_Contains}
 use Rattle.mm_schema.proofs.Duplicates.{Row}
 use Rattle.mm_schema.specs.References.{refers}
 use Rattle.mm_schema.specs.Rows.{Pair, column_cmp}
 use Rattle.mm_query.proofs.FoundTargets.{some_among, some_by_one}
-use Rattle.mm_store.proofs.Referring.{agree, refers_same, same_from_refers}
-use Rattle.mm_store.specs.Links.{RefersTo}
+use Rattle.mm_link.proofs.Referring.{agree, refers_same, same_from_refers}
+use Rattle.mm_link.specs.Links.{RefersTo}
 use Rattle.mm_value.proofs.Orders.{value_cmp_total}
 use Rattle.mm_value.specs.Order.{value_cmp}
 use Rattle.mm_value.specs.declared.row_ref.RowRef.{RowRef}
 use Rattle.mm_value.specs.declared.values.Value.{Value}
 use Rattle.mm_delta.specs.Steps.{takes}
 use Rattle.mm_txn.specs.Cascades.{AddsReferrers}
-use Rattle.mm_relation.proofs.Lawful.{one_of_key}
 
 -- ---- what a filter leaves
 
@@ -92,12 +89,12 @@ rows_taken-append now (Add row ∷ xs) ys = rows_taken-append now xs ys
 rows_taken-append now (Swap at row ∷ xs) ys = ap (λ rows. row_at now at ∷ rows) (rows_taken-append now xs ys)
 rows_taken-append now (Gone at ∷ xs) ys = ap (λ rows. row_at now at ∷ rows) (rows_taken-append now xs ys)
 
-pub one_taken : (now : Slots) (edit : Edit) (at : RowRef) → edit_name edit Old ≡ Some at → rows_taken now (edit ∷ []) ≡ row_at now at ∷ []
+pub one_taken : (now : Slots) (edit : Edit) (at : RowRef) → old_ref edit ≡ Some at → rows_taken now (edit ∷ []) ≡ row_at now at ∷ []
 one_taken now (Add row) at is = cc
 one_taken now (Swap other row) at is = let same : other ≡ at = cc in ap (λ r. row_at now r ∷ []) same
 one_taken now (Gone other) at is = let same : other ≡ at = cc in ap (λ r. row_at now r ∷ []) same
 
-pub none_taken : (now : Slots) (edit : Edit) → edit_name edit Old ≡ None → rows_taken now (edit ∷ []) ≡ []
+pub none_taken : (now : Slots) (edit : Edit) → old_ref edit ≡ None → rows_taken now (edit ∷ []) ≡ []
 none_taken now (Add row) is = refl
 none_taken now (Swap other row) is = cc
 none_taken now (Gone other) is = cc
@@ -115,7 +112,7 @@ module _ (stored : StoredRows) where
     tests_push row = ap (list_any (refers column key row)) (rows_taken-append then done (edit ∷ []))
         ∙ list_any-append (refers column key row) (rows_taken then done) (rows_taken then (edit ∷ []))
 
-    pub skipped : edit_name edit Old ≡ None → AddsReferrers stored (tests column key (rows_taken then (done ++ edit ∷ []))) old mid
+    pub skipped : old_ref edit ≡ None → AddsReferrers stored (tests column key (rows_taken then (done ++ edit ∷ []))) old mid
     skipped none = record {
       live = adds.live;
       found = λ at here. adds.found at here ∙ ap (λ b. list_any (same_ref at) old || b) (sym (tests_push (row_at (slot_at stored.places) at)
@@ -128,7 +125,7 @@ module _ (stored : StoredRows) where
         or_false true = refl
         or_false false = refl
 
-    pub matches_added : (gone : RowRef) → edit_name edit Old ≡ Some gone → (value : Value) → slice_get (row_at then gone) key ≡ Some value
+    pub matches_added : (gone : RowRef) → old_ref edit ≡ Some gone → (value : Value) → slice_get (row_at then gone) key ≡ Some value
         → (found new : List RowRef) → new ≡ mid ++ found → AreMatches column (slot_at stored.places) value stored.refs found
         → (All (IsLive stored.places) mid → All (IsLive stored.places) new)
         → AddsReferrers stored (tests column key (rows_taken then (done ++ edit ∷ []))) old new
@@ -179,7 +176,7 @@ passing_added stored rows test old new is = record {
     q : RowRef → Bool
     q at = test (row_at (slot_at stored.places) at)
 
-module _ (column : ℕ) (target : StoredRows) (kept : IsKept target.places.types target.key (slot_at target.places) target.refs target.indexes)
+module _ (column : ℕ) (target : StoredRows) (apart : AreApart target.key (slot_at target.places))
     (row : Row) (to : RowRef) (refers_to : RefersTo column target.key (slot_at target.places) row to) where
   abbrev then : Slots
   then = slot_at target.places
@@ -194,10 +191,10 @@ module _ (column : ℕ) (target : StoredRows) (kept : IsKept target.places.types
       let tie : column_cmp target.key (row_at then x) (row_at then to) ≡ Equal =
       subst (λ (o : Option Value). option_cmp value_cmp (slice_get (row_at then x) target.key) o ≡ Equal) keys
       (tied_itself (options_total value_cmp_total) (slice_get (row_at then x) target.key)) in
-      test_from_same x to (one_of_key target.key then target.refs (KeysApart-ordered target.key then target.refs kept.by_key) x to
-      ((kept.held x).1 live) ((kept.held to).1 refers_to.live) tie))
+      ⊎_elim (λ (same : x ≡ to). test_from_same x to same)
+      (λ (differ : x ≢ to). absurd (apart to refers_to.live (x, live, differ, tie))) (same_or_apart x to))
 
-  goes_as_told : (edits : List Edit) → AllByRecursion (HasRow then) (named edit_name Old edits)
+  goes_as_told : (edits : List Edit) → AllByRecursion (HasRow then) (old_refs edits)
       → list_any (takes to) edits ≡ tests column target.key (rows_taken then edits) row
   goes_as_told [] live = refl
   goes_as_told (Add new ∷ edits) live = goes_as_told edits live
@@ -206,7 +203,7 @@ module _ (column : ℕ) (target : StoredRows) (kept : IsKept target.places.types
 
   -- The row that a row refers to goes just where this has the key of one that does.
   pub target_goes : (edits : List Edit) → Standing then edits → list_any (takes to) edits ≡ tests column target.key (rows_taken then edits) row
-  target_goes edits standing = goes_as_told edits (recursion_from_All (HasRow then) (named edit_name Old edits) standing.live)
+  target_goes edits standing = goes_as_told edits (recursion_from_All (HasRow then) (old_refs edits) standing.live)
 
 -- ---- added by several tests
 

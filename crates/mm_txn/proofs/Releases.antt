@@ -12,7 +12,7 @@ use Rattle.mm_laws.proofs.Throughout.{held_before}
 use Rattle.mm_laws.specs.Typing.{AreTyped, IsTyped}
 use Rattle.mm_query.specs.Machine.{back_to}
 use Rattle.mm_query.specs.State.{AreSavedRows, Saved, Savepoint, State}
-use Rattle.mm_store.specs.Snapshots.{Logged}
+use Rattle.mm_store.specs.Marks.{mark_of}
 use Rattle.mm_store.specs.Tables.{Tables}
 use Rattle.mm_plan.specs.Kept.{instance_of}
 use Rattle.mm_txn.specs.Contents.{Holdings}
@@ -51,61 +51,60 @@ typed_after_release name state typed = record {
 abbrev HaveTypes : Schema → Savepoint → Type 0
 HaveTypes schema savepoint = AreTyped schema.tables savepoint.rows
 
-fewer_typed : (schema : Schema) (undo : List Logged) (store : Tables) (n : ℕ) (marks : List Mark)
-    → All (HaveTypes schema) (saved_of undo store marks).savepoints → All (HaveTypes schema) (saved_of undo store (take n marks)).savepoints
-fewer_typed schema undo store zero marks typed = All-nil (HaveTypes schema)
-fewer_typed schema undo store (suc n) [] typed = All-nil (HaveTypes schema)
-fewer_typed schema undo store (suc n) (m ∷ ms) typed =
-    let first : Savepoint = savepoint_at undo store m in
-    let parts = All-pop (HaveTypes schema) (saved_of undo store (m ∷ ms)).savepoints (saved_of undo store ms).savepoints (Some first)
-    (reverse-cons first (map (savepoint_at undo store) ms)) typed in
-    subst (All (HaveTypes schema)) (sym (reverse-cons first (map (savepoint_at undo store) (take n ms))))
-    (All-push (HaveTypes schema) (saved_of undo store (take n ms)).savepoints first (fewer_typed schema undo store n ms parts.0) parts.1)
+fewer_typed : (schema : Schema) (store : Tables) (n : ℕ) (marks : List Mark)
+    → All (HaveTypes schema) (saved_of store marks).savepoints → All (HaveTypes schema) (saved_of store (take n marks)).savepoints
+fewer_typed schema store zero marks typed = All-nil (HaveTypes schema)
+fewer_typed schema store (suc n) [] typed = All-nil (HaveTypes schema)
+fewer_typed schema store (suc n) (m ∷ ms) typed =
+    let first : Savepoint = savepoint_at store m in
+    let parts = All-pop (HaveTypes schema) (saved_of store (m ∷ ms)).savepoints (saved_of store ms).savepoints (Some first)
+    (reverse-cons first (map (savepoint_at store) ms)) typed in
+    subst (All (HaveTypes schema)) (sym (reverse-cons first (map (savepoint_at store) (take n ms))))
+    (All-push (HaveTypes schema) (saved_of store (take n ms)).savepoints first (fewer_typed schema store n ms parts.0) parts.1)
 
 fewer_ascend : (c d : ℕ) (marks : List Mark) (C D : ℕ) (n : ℕ) → Ascend c d marks C D → Ascend c d (take n marks) C D
 fewer_ascend c d marks C D zero ascend = bounds c d marks C D ascend
 fewer_ascend c d [] C D (suc n) ascend = ascend
 fewer_ascend c d (m ∷ ms) C D (suc n) ascend = (ascend.0, ascend.1, fewer_ascend m.commands m.changes ms C D n ascend.2)
 
-module _ (held : Holdings) (undo : List Logged) (marks : List Mark) where
+module _ (held : Holdings) (marks : List Mark) where
   abbrev store : Tables
   store = held.store
 
   -- With fewer marks the database is consistent still.
-  pub fewer_consistent : (n : ℕ) → IsConsistent held undo true marks → IsConsistent held undo true (take n marks)
+  pub fewer_consistent : (n : ℕ) → IsConsistent held true marks → IsConsistent held true (take n marks)
   fewer_consistent n was = record {
     typed = record {
       rows = was.typed.rows;
       saved = record {
         at_begin = was.typed.saved.at_begin;
-        savepoints = fewer_typed held.schema undo store n marks was.typed.saved.savepoints;
+        savepoints = fewer_typed held.schema store n marks was.typed.saved.savepoints;
       };
       queries = was.typed.queries;
     };
-    fits = was.fits;
     back = λ e.
         let back = was.back refl in
         record {
           saved = back.saved;
-          each = All-take (IsSaved undo store held.lists) n marks back.each;
-          ascend = fewer_ascend 0 0 marks (length undo) (length held.lists.log) n back.ascend;
+          each = All-take (IsSaved store held.lists) n marks back.each;
+          ascend = fewer_ascend 0 0 marks (mark_of store) (length held.lists.log) n back.ascend;
         };
     settled = λ e. absurd (false≢true (sym e));
   }
 
   module _ (name : List ℕ) (place : ℕ) (latest : IsLatest name marks place) where
     -- The savepoints before the latest one of a name are those of the marks before its mark.
-    earlier_marks : drop 1 (back_to name (saved_of undo store marks).savepoints) ≡ (saved_of undo store (take place marks)).savepoints
+    earlier_marks : drop 1 (back_to name (saved_of store marks).savepoints) ≡ (saved_of store (take place marks)).savepoints
     earlier_marks =
         let own = some_there marks place (latest_within name marks place latest) in
-        ap (drop 1) (back_is name undo store marks place latest
-        ∙ (ap (λ (ms : List Mark). reverse (map (savepoint_at undo store) ms)) (take_last marks place own.0 own.1)
-        ∙ saved_push undo store (take place marks) own.0))
+        ap (drop 1) (back_is name store marks place latest
+        ∙ (ap (λ (ms : List Mark). reverse (map (savepoint_at store) ms)) (take_last marks place own.0 own.1)
+        ∙ saved_push store (take place marks) own.0))
 
-    pub released_state : kept_state held undo true (take place marks) ≡ after_release name (kept_state held undo true marks)
+    pub released_state : kept_state held true (take place marks) ≡ after_release name (kept_state held true marks)
     released_state = λ i. record {
       schema = held.schema;
       rows = instance_of store.tables;
       queries = queries_of held.lists.queries;
-      saved = Some (record (saved_of undo store marks) { savepoints = sym earlier_marks i });
+      saved = Some (record (saved_of store marks) { savepoints = sym earlier_marks i });
     }

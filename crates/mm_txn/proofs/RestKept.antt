@@ -1,12 +1,11 @@
 -- What fits each other still does through changes of rows, and where they are taken back or final.
 use Rattle.std.proofs.Common.{◌≡◌, ℕ, Result, Ok, Err, OnOk, OnErr, List, [], drop, sym, subst}
-use Rattle.mm_relation.specs.Index.{EachTurns}
+use Rattle.mm_indexed.specs.Index.{EachTurns}
 use Rattle.mm_schema.specs.Instance.{Instance}
 use Rattle.mm_schema.specs.Schema.{Schema}
 use Rattle.mm_standing.specs.Queries.{RowsByPlace}
 use Rattle.mm_standing.specs.State.{Lists, count_at, count_now}
 use Rattle.mm_store.specs.Tables.{SameForm, Tables}
-use Rattle.mm_store.specs.Snapshots.{Logged}
 use Rattle.mm_value.specs.declared.refusal.Refusal.{Refusal}
 use Rattle.mm_value.specs.declared.values.Value.{Value}
 use Rattle.mm_txn.specs.Contents.{Makes}
@@ -43,9 +42,9 @@ module _ (schema : Schema) (store newer : Tables) (lists new : Lists) (rest : Ar
       at_rest form (subst (λ (r : Instance). AreListed r new) (sym is) (listed_back rows lists new queries mark saved counts log ready))
 
 -- What edits make fits.
-pub rest_made : (schema : Schema) (rows : RowsByPlace) (store newer : Tables) (lists new : Lists) (before after : List Logged) (result : Result Unit Refusal)
-    → AreAtRest schema store lists → Makes rows store newer lists new before after result → AreAtRest schema newer new
-rest_made schema rows store newer lists new before after result rest made =
+pub rest_made : (schema : Schema) (rows : RowsByPlace) (store newer : Tables) (lists new : Lists) (result : Result Unit Refusal)
+    → AreAtRest schema store lists → Makes rows store newer lists new result → AreAtRest schema newer new
+rest_made schema rows store newer lists new result rest made =
     at_rest schema store newer lists new rest made.links made.queries (form result made.ok made.err) made.listed
   where
     form : (r : Result Unit Refusal) → OnOk r (HaveRows rows store newer) → OnErr r (HaveRows (rows_by_place (instance_of store.tables)) store newer)

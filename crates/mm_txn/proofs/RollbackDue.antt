@@ -9,36 +9,35 @@ use Rattle.mm_query.specs.Machine.{conditions, lacks_savepoint}
 use Rattle.mm_query.specs.State.{Saved, Savepoint, State}
 use Rattle.mm_query.specs.declared.command.Command.TheVariants.{RollbackTo}
 use Rattle.mm_store.specs.Tables.{Tables}
-use Rattle.mm_store.specs.Snapshots.{Logged}
 use Rattle.mm_txn.specs.Contents.{Holdings}
 use Rattle.mm_txn.specs.Saved.{kept_state, saved_of}
 use Rattle.mm_txn.specs.declared.savepoints.Mark.{Mark}
 use Rattle.mm_txn.proofs.LatestMarks.{IsLatest, none_named, some_named}
 use Rattle.mm_txn.proofs.TypedSteps.{saved_where_open}
 
-module _ (name : List ℕ) (held : Holdings) (undo : List Logged) (is_open : Bool) (marks : List Mark) (is : is_open ≡ true) where
+module _ (name : List ℕ) (held : Holdings) (is_open : Bool) (marks : List Mark) (is : is_open ≡ true) where
   abbrev store : Tables
   store = held.store
 
   abbrev state : State
-  state = kept_state held undo is_open marks
+  state = kept_state held is_open marks
 
-  lacks_is : lacks_savepoint name state ≡ not (list_any (λ (s : Savepoint). same_name name s.name) (saved_of undo store marks).savepoints)
+  lacks_is : lacks_savepoint name state ≡ not (list_any (λ (s : Savepoint). same_name name s.name) (saved_of store marks).savepoints)
   lacks_is =
       ap (λ (b : Bool). not (list_any (λ (s : Savepoint). same_name name s.name)
-      (option_map_or (λ (saved : Saved). saved.savepoints) (cond b (Some (saved_of undo store marks)) None) []))) is
+      (option_map_or (λ (saved : Saved). saved.savepoints) (cond b (Some (saved_of store marks)) None) []))) is
 
   by_parts : (lacks : Bool) → lacks_savepoint name state ≡ lacks → first_refusal (conditions (RollbackTo name) state) ≡ cond lacks (Some NoSuchSavepoint) None
   by_parts lacks is_lacking =
       ap (λ (b : Bool). cond (not b) (Some NoTransaction) (cond (lacks_savepoint name state) (Some NoSuchSavepoint) None))
-      (saved_where_open is_open (saved_of undo store marks) ∙ is)
+      (saved_where_open is_open (saved_of store marks) ∙ is)
       ∙ ap (λ (b : Bool). cond b (Some NoSuchSavepoint) None) is_lacking
 
   -- It is where no mark has the name, ..
   pub refused_due : AllByRecursion (λ (mark : Mark). same_name name mark.name ≡ false) marks → first_refusal (conditions (RollbackTo name) state)
       ≡ Some NoSuchSavepoint
-  refused_due none = by_parts true (lacks_is ∙ ap not (none_named name undo store marks none))
+  refused_due none = by_parts true (lacks_is ∙ ap not (none_named name store marks none))
 
   -- .. and not where one has it.
   pub granted_due : (place : ℕ) → IsLatest name marks place → first_refusal (conditions (RollbackTo name) state) ≡ None
-  granted_due place latest = by_parts false (lacks_is ∙ ap not (some_named name undo store marks place latest))
+  granted_due place latest = by_parts false (lacks_is ∙ ap not (some_named name store marks place latest))

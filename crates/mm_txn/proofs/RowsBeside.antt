@@ -10,12 +10,12 @@ use Rattle.mm_schema.specs.declared.table.Table.{Table}
 use Rattle.mm_schema.proofs.Instances.{AreBeside, LackName, name_of, others_lack}
 use Rattle.mm_schema.proofs.Duplicates.{Row}
 use Rattle.mm_plan.specs.Kept.{AreIndexes, AreOf, IsOf, instance_of}
-use Rattle.mm_relation.specs.Index.{EachTurns, SameIndex}
-use Rattle.mm_relation.specs.Kept.{StoredRows}
-use Rattle.mm_relation.specs.declared.indexes.index.Index.{Index}
+use Rattle.mm_indexed.specs.Index.{EachTurns, SameIndex}
+use Rattle.mm_indexed.specs.Kept.{StoredRows}
+use Rattle.mm_indexed.specs.declared.indexes.index.Index.{Index}
 use Rattle.mm_schema.specs.declared.column.Column.{Column}
 use Rattle.mm_schema.specs.declared.index.IndexDef.{IndexDef}
-use Rattle.mm_relation.specs.RowLists.{rows_of}
+use Rattle.mm_indexed.specs.RowLists.{rows_of}
 use Rattle.mm_store.specs.Tables.{SameForm}
 use Rattle.mm_value.specs.declared.col_type.ColType.{ColType}
 

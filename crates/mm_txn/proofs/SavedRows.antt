@@ -6,7 +6,7 @@ use Rattle.mm_query.specs.State.{Saved, State}
 use Rattle.mm_query.specs.declared.bound_query.BoundQuery.{BoundQuery}
 use Rattle.mm_query.specs.declared.command.Mutation.{Mutation}
 use Rattle.mm_query.specs.declared.command.Mutation.TheVariants.{Insert, Update, Delete}
-use Rattle.mm_relation.specs.Kept.{StoredRows}
+use Rattle.mm_indexed.specs.Kept.{StoredRows}
 use Rattle.mm_schema.specs.Refused.{AnswersDue, Condition, first_refusal}
 use Rattle.mm_schema.specs.Schema.{Schema}
 use Rattle.mm_value.specs.declared.refusal.Refusal.{Refusal}

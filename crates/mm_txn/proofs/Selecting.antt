@@ -14,8 +14,8 @@ use Rattle.mm_query.specs.declared.query.FromItem.{FromItem}
 use Rattle.mm_query.specs.declared.query.Query.{Query}
 use Rattle.mm_query.proofs.Due.{lacks_nowhere}
 use Rattle.mm_laws.proofs.SortedRows.{shown_of_permutation, shown_once_of_permutation}
-use Rattle.mm_relation.specs.Kept.{StoredRows}
-use Rattle.mm_relation.specs.RowLists.{rows_of}
+use Rattle.mm_indexed.specs.Kept.{StoredRows}
+use Rattle.mm_indexed.specs.RowLists.{rows_of}
 use Rattle.mm_schema.specs.Refused.{first_refusal}
 use Rattle.mm_schema.specs.Schema.{Schema, lacks_table, table_place}
 use Rattle.mm_schema.specs.Sorting.{in_order}

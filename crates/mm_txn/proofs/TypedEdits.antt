@@ -4,14 +4,14 @@ use Rattle.std.specs.List.{All, list_any}
 use Rattle.std.proofs.lemmas.List.Elements.{All-map, All-nil, All-weaker, Contains-get_or}
 use Rattle.std.proofs.lemmas.List.Sorted.{All-permutation, IsPermutation-sym}
 use Rattle.mm_order.proofs.Pairs.{All-append_right}
-use Rattle.mm_partition.specs.Places.{slot_at}
+use Rattle.mm_partition.specs.Places.{slot_at, row_in}
 use Rattle.mm_partition.specs.Types.{HasTypes}
-use Rattle.mm_relation.specs.Edits.{new_rows}
-use Rattle.mm_relation.specs.Kept.{IsKept, StoredRows}
-use Rattle.mm_relation.specs.Refs.{Slots, row_at, row_in}
-use Rattle.mm_relation.specs.RowLists.{edit_pairs, rows_of}
-use Rattle.mm_relation.specs.declared.edits.Edit.{Edit}
-use Rattle.mm_relation.specs.declared.edits.Edit.TheVariants.{Add, Gone, Swap}
+use Rattle.mm_store.specs.RowEdits.{new_rows, edit_pairs}
+use Rattle.mm_indexed.specs.Kept.{IsKept, StoredRows}
+use Rattle.mm_row_order.specs.Refs.{Slots, row_at}
+use Rattle.mm_indexed.specs.RowLists.{rows_of}
+use Rattle.mm_store.specs.declared.edit.Edit.{Edit}
+use Rattle.mm_store.specs.declared.edit.Edit.TheVariants.{Add, Gone, Swap}
 use Rattle.mm_schema.specs.Refused.{first_refusal}
 use Rattle.mm_schema.specs.Rows.{Pair, changed, column_cmp, goes, unsorted}
 use Rattle.mm_schema.specs.Schema.{HasDistinctNames, Schema, columns_named, key_named}

@@ -5,10 +5,8 @@ use Rattle.std.proofs.lemmas.Bool.{cases_Bool}
 use Rattle.mm_schema.specs.Refused.{AnswersDue, Condition, first_refusal}
 use Rattle.mm_schema.specs.Schema.{HasDistinctNames}
 use Rattle.mm_standing.specs.State.{Lists, count_at}
-use Rattle.mm_store.specs.Marks.{rows_at_mark}
+use Rattle.mm_store.specs.Marks.{mark_of}
 use Rattle.mm_store.specs.Tables.{Tables}
-use Rattle.mm_store.specs.Undoing.{CanUndo}
-use Rattle.mm_store.specs.Snapshots.{Logged}
 use Rattle.mm_laws.specs.Typing.{AreTyped, IsTyped}
 use Rattle.mm_laws.proofs.TypedChanges.{typed_by_change}
 use Rattle.mm_laws.proofs.TypedDefinitions.{typed_by_definition}
@@ -20,7 +18,7 @@ use Rattle.mm_query.specs.declared.command.Definition.{Definition}
 use Rattle.mm_query.specs.declared.command.Definition.TheVariants as define
 use Rattle.mm_query.specs.declared.command.Mutation.{Mutation}
 use Rattle.mm_txn.specs.Contents.{Holdings, IsAtRest, state_held}
-use Rattle.mm_txn.specs.Saved.{IsConsistent, IsSettled, kept_state, saved_of, saved_rows}
+use Rattle.mm_txn.specs.Saved.{IsConsistent, IsSettled, KeepsLog, kept_state, saved_of, saved_rows}
 use Rattle.mm_txn.specs.declared.savepoints.Mark.{Mark}
 use Rattle.mm_txn.proofs.GoingBack.{back_through, saved_same}
 use Rattle.mm_txn.proofs.Resting.{bound_all}
@@ -90,7 +88,7 @@ on_err : {T E A B : Type 0} (r : Result T E) → (A → B) → OnErr r A → OnE
 on_err (Ok value) f held = tt
 on_err (Err refusal) f held = f held
 
-module _ (held : Holdings) (undo : List Logged) (is_open : Bool) (marks : List Mark) (was : IsConsistent held undo is_open marks) (definition : Definition)
+module _ (held : Holdings) (is_open : Bool) (marks : List Mark) (was : IsConsistent held is_open marks) (definition : Definition)
     (may : (is_open && not (is_of_index definition)) ≡ false) where
   abbrev store : Tables
   store = held.store
@@ -99,53 +97,53 @@ module _ (held : Holdings) (undo : List Logged) (is_open : Bool) (marks : List M
   lists = held.lists
 
   abbrev state : State
-  state = kept_state held undo is_open marks
+  state = kept_state held is_open marks
 
   abbrev saved : Option Saved
-  saved = saved_rows is_open undo store marks
+  saved = saved_rows is_open store marks
 
   -- Nothing can be taken back where a change concerns more than an index.
-  pub settled_before : is_of_index definition ≡ false → IsSettled undo lists
+  pub settled_before : is_of_index definition ≡ false → IsSettled store lists
   settled_before none = (was.settled (closed_where_none is_open (is_of_index definition) may none)).0
 
-  module _ (new : Holdings) (rows : is_of_index definition ≡ true → (mark : ℕ) → rows_at_mark mark undo new.store ≡ rows_at_mark mark undo store) where
+  module _ (new : Holdings) (keeps : is_of_index definition ≡ true → KeepsLog store new.store) where
     -- What is saved stays.
-    pub saved_defined : saved_rows is_open undo new.store marks ≡ saved
+    pub saved_defined : saved_rows is_open new.store marks ≡ saved
     saved_defined =
         ⊎_elim
         (λ (is : is_open ≡ true).
         ap (λ (s : Saved). cond is_open (Some s) None)
-        (saved_same store new.store undo undo (length undo) (λ mark within. rows (index_where_open is_open (is_of_index definition) may is) mark)
+        (saved_same store new.store (mark_of store) (λ mark within. (keeps (index_where_open is_open (is_of_index definition) may is)).marks mark)
         (length lists.log) marks (was.back is).ascend))
         (λ (closed : is_open ≡ false).
-        ap (λ (b : Bool). cond b (Some (saved_of undo new.store marks)) None) closed
-        ∙ sym (ap (λ (b : Bool). cond b (Some (saved_of undo store marks)) None) closed))
+        ap (λ (b : Bool). cond b (Some (saved_of new.store marks)) None) closed
+        ∙ sym (ap (λ (b : Bool). cond b (Some (saved_of store marks)) None) closed))
         (cases_Bool is_open)
 
-    made : state_held new ≡ after_definition definition (state_held held) → kept_state new undo is_open marks ≡ after_definition definition state
+    made : state_held new ≡ after_definition definition (state_held held) → kept_state new is_open marks ≡ after_definition definition state
     made done = (λ i. record (done i) { saved = saved_defined i }) ∙ sym (after_beside definition (state_held held) saved)
 
-    left : state_held new ≡ state_held held → kept_state new undo is_open marks ≡ state
+    left : state_held new ≡ state_held held → kept_state new is_open marks ≡ state
     left same = λ i. record (same i) { saved = saved_defined i }
 
     module _ {T : Type 0} (result : Result T Refusal) where
       -- The state is that after the change, or as it was.
       pub definition_done : OnOk result (state_held new ≡ after_definition definition (state_held held))
-          → OnOk result (kept_state new undo is_open marks ≡ after_definition definition state)
+          → OnOk result (kept_state new is_open marks ≡ after_definition definition state)
       definition_done ok = on_ok result made ok
 
-      pub definition_refused : OnErr result (state_held new ≡ state_held held) → OnErr result (kept_state new undo is_open marks ≡ state)
+      pub definition_refused : OnErr result (state_held new ≡ state_held held) → OnErr result (kept_state new is_open marks ≡ state)
       definition_refused err = on_err result left err
 
     -- Rows and standing queries have their types.
     typed_after : IsAtRest held → {T : Type 0} (result : Result T Refusal)
         → AnswersDue (first_refusal (definition_conditions definition (state_held held))) result
         → OnOk result (state_held new ≡ after_definition definition (state_held held)) → OnErr result (state_held new ≡ state_held held)
-        → IsTyped (kept_state new undo is_open marks)
+        → IsTyped (kept_state new is_open marks)
     typed_after rest (Ok value) due ok err =
         subst IsTyped (sym (made ok))
         (typed_by_definition definition state
-        (⊎_elim (λ closed. inl (saved_where_open is_open (saved_of undo store marks) ∙ closed)) (λ index. inr index)
+        (⊎_elim (λ closed. inl (saved_where_open is_open (saved_of store marks) ∙ closed)) (λ index. inr index)
         (index_or_closed is_open (is_of_index definition) may))
         (ap first_refusal (conditions_beside definition (state_held held) saved) ∙ due) rest.placed.beside
         (bound_all held.schema lists.queries rest.placed.placed) was.typed)
@@ -155,20 +153,21 @@ module _ (held : Holdings) (undo : List Logged) (is_open : Bool) (marks : List M
     pub defined : IsAtRest held → {T : Type 0} (result : Result T Refusal)
         → AnswersDue (first_refusal (definition_conditions definition (state_held held))) result
         → OnOk result (state_held new ≡ after_definition definition (state_held held)) → OnErr result (state_held new ≡ state_held held)
-        → CanUndo new.store undo → (is_of_index definition ≡ false → IsSettled undo new.lists) → (is_of_index definition ≡ true → new.lists ≡ lists)
-        → IsConsistent new undo is_open marks
-    defined rest result due ok err fits settled same = record {
+        → (is_of_index definition ≡ false → IsSettled new.store new.lists) → (is_of_index definition ≡ true → new.lists ≡ lists)
+        → IsConsistent new is_open marks
+    defined rest result due ok err settled same = record {
       typed = typed_after rest result due ok err;
-      fits = fits;
       back = λ is.
           let index = index_where_open is_open (is_of_index definition) may is in
           let back = was.back is in
-          back_through store new.store undo undo (length undo) (λ mark within. rows index mark) lists new.lists (ap (λ (l : Lists). l.queries) (same index))
+          back_through store new.store (mark_of store) (λ mark within. (keeps index).marks mark) lists new.lists (ap (λ (l : Lists). l.queries) (same index))
           (length lists.log) (λ mark within list row. ap (λ (l : Lists). count_at mark list row l) (same index)) marks back.saved back.each back.ascend
-          (omega arith) (omega (arith, ap (λ (l : Lists). length l.log) (same index)));
+          (omega (arith, ap length (keeps index).log)) (omega (arith, ap (λ (l : Lists). length l.log) (same index)));
       settled = λ closed.
           let before = was.settled closed in (
-            ⊎_elim (λ index. subst (IsSettled undo) (sym (same index)) before.0) (λ other. settled other) (cases_Bool (is_of_index definition)),
+            ⊎_elim
+                (λ index. record { edits = (keeps index).log ∙ before.0.edits; log = ap (λ (l : Lists). l.log) (same index) ∙ before.0.log })
+                (λ other. settled other) (cases_Bool (is_of_index definition)),
             before.1,
           );
     }

@@ -3,16 +3,16 @@ use Rattle.std.specs.Prelude.{◌≡◌, ◌+◌, ◌||◌, ℕ, Bool, List, [],
 use Rattle.std.specs.List.{cons_option, filter_map, list_any}
 use Rattle.std.specs.Option.{unwrap_or}
 use Rattle.mm_partition.specs.Places.{IsLive, slot_at}
-use Rattle.mm_relation.specs.Before.{same_ref}
-use Rattle.mm_relation.specs.Kept.{StoredRows}
-use Rattle.mm_relation.specs.Refs.{row_at}
+use Rattle.mm_tables.specs.Edits.{same_ref}
+use Rattle.mm_indexed.specs.Kept.{StoredRows}
+use Rattle.mm_row_order.specs.Refs.{row_at}
 use Rattle.mm_schema.specs.Columns.{cascading_target}
 use Rattle.mm_schema.specs.References.{refers}
 use Rattle.mm_schema.specs.Rows.{Pair}
 use Rattle.mm_schema.specs.Schema.{Schema, table_place}
 use Rattle.mm_schema.specs.declared.column.Column.{Column}
-use Rattle.mm_relation.specs.declared.edits.Edit.{Edit}
-use Rattle.mm_store.specs.Links.{IsReference}
+use Rattle.mm_store.specs.declared.edit.Edit.{Edit}
+use Rattle.mm_base.specs.Columns.{IsReference}
 use Rattle.mm_store.specs.Tables.{IsAt, Tables, key_at}
 use Rattle.mm_value.specs.declared.row_ref.RowRef.{RowRef}
 use Rattle.mm_value.specs.declared.values.Value.{Value}

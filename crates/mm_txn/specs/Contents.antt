@@ -1,16 +1,14 @@
 -- What a database holds at rest, and what edits make of it.
 use Rattle.std.specs.Prelude.{◌≡◌, ℕ, ◌<◌, ◌≤◌, List, ◌∷◌, ◌++◌, Result, All, OnErr, OnOk, length}
-use Rattle.mm_relation.specs.Kept.{StoredRows}
+use Rattle.mm_indexed.specs.Kept.{StoredRows}
 use Rattle.mm_query.specs.State.{State}
 use Rattle.mm_schema.specs.Refused.{AnswersDue, first_refusal}
 use Rattle.mm_schema.specs.Schema.{Schema}
 use Rattle.mm_schema.specs.declared.reference.Reference.{Reference}
 use Rattle.mm_standing.specs.Queries.{RowsByPlace, change_conditions as list_conditions}
 use Rattle.mm_standing.specs.State.{AreServed, Lists, count_at}
-use Rattle.mm_store.specs.Marks.{rows_at_mark}
+use Rattle.mm_store.specs.Marks.{KeepsMarks, mark_of}
 use Rattle.mm_store.specs.Tables.{IsAt, Tables}
-use Rattle.mm_store.specs.Undoing.{CanUndo}
-use Rattle.mm_store.specs.Snapshots.{Logged}
 use Rattle.mm_value.specs.declared.refusal.Refusal.{Refusal}
 use Rattle.mm_value.specs.declared.values.Value.{Value}
 use Rattle.mm_plan.specs.Kept.{instance_of}
@@ -34,12 +32,11 @@ state_held held = state_at_rest held.schema held.store held.lists
 
 -- ---- what edits make
 
--- Edits may be made: their tables are there, and each refers to older ones; the lists fit the rows; the log can be taken back; and no
--- standing query adds a number to a text, neither before the edits nor after them.
-pub record MayMake (store : Tables) (lists : Lists) (log : List Logged) (changes : List PlacedEdits) : Type 0 where
+-- Edits may be made: their tables are there, and each refers to older ones; the lists fit the rows; and no standing query adds a number
+-- to a text, neither before the edits nor after them.
+pub record MayMake (store : Tables) (lists : Lists) (changes : List PlacedEdits) : Type 0 where
   pub are : AreEdits store changes
   pub back : All (λ (reference : Reference). reference.to < reference.from) store.links
-  pub fits : CanUndo store log
   pub served : AreServed store lists.queries
   pub listed : AreListed (instance_of store.tables) lists
   pub typed : All (IsTested (rows_by_place (instance_of store.tables)) (rows_edited store changes)) lists.queries
@@ -51,16 +48,15 @@ IsDue store lists own cascaded result = (stored : StoredRows) → IsAt store own
 
 -- Each relation has these rows, or all have theirs still, as the result says; the log and the lists follow; and going back to an older
 -- mark gives the rows and each list as it gave them.
-pub record Makes (rows : RowsByPlace) (old new : Tables) (lists followed : Lists) (before after : List Logged) (result : Result Unit Refusal) : Type 0 where
+pub record Makes (rows : RowsByPlace) (old new : Tables) (lists followed : Lists) (result : Result Unit Refusal) : Type 0 where
   pub ok : OnOk result (HaveRows rows old new)
   pub err : OnErr result (HaveRows (rows_by_place (instance_of old.tables)) old new)
   pub links : new.links ≡ old.links
-  pub kept : OnErr result (after ≡ before)
-  pub longer : length before ≤ length after
-  pub fits : CanUndo new after
+  pub kept : OnErr result (mark_of new ≡ mark_of old)
+  pub longer : mark_of old ≤ mark_of new
+  pub marks : (mark : ℕ) → mark ≤ mark_of old → KeepsMarks old new mark
   pub listed : AreListed (instance_of new.tables) followed
   pub queries : followed.queries ≡ lists.queries
   pub log : OnErr result (followed.log ≡ lists.log)
   pub log_longer : length lists.log ≤ length followed.log
-  pub saved : (mark : ℕ) → mark ≤ length before → rows_at_mark mark after new ≡ rows_at_mark mark before old
   pub undone : (mark : ℕ) → mark ≤ length lists.log → (list : ℕ) (row : List Value) → count_at mark list row followed ≡ count_at mark list row lists

@@ -1,7 +1,7 @@
 -- Where an index stands.
 use Rattle.std.specs.Prelude.{◌<◌, length}
-use Rattle.mm_relation.specs.Kept.{StoredRows}
-use Rattle.mm_relation.specs.Reads.{HasIndex}
+use Rattle.mm_indexed.specs.Kept.{StoredRows}
+use Rattle.mm_indexed.specs.Reads.{HasIndex}
 use Rattle.mm_store.specs.Tables.{IsAt, Tables}
 use Rattle.mm_txn.specs.declared.index_place.IndexPlace.{IndexPlace}
 

@@ -3,7 +3,7 @@ use Rattle.std.specs.Prelude.{List, [], None}
 use Rattle.mm_plan.specs.Kept.{instance_of}
 use Rattle.mm_query.specs.State.{State}
 use Rattle.mm_query.specs.declared.bound_query.BoundQuery.{BoundQuery}
-use Rattle.mm_relation.specs.Kept.{StoredRows}
+use Rattle.mm_indexed.specs.Kept.{StoredRows}
 use Rattle.mm_schema.specs.Schema.{Schema}
 
 -- The state of a catalog, of the rows beside its tables and of the queries beside its standing queries, where no transaction is open.

@@ -3,10 +3,9 @@ use Rattle.std.specs.Prelude.{◌≡◌, ◌==◌, ◌&&◌, ℕ, ◌<◌, Bool,
 use Rattle.std.specs.List.{list_any}
 use Rattle.std.specs.Option.{option_map_or}
 use Rattle.mm_partition.specs.Places.{slot_at}
-use Rattle.mm_relation.specs.Edits.{new_rows}
-use Rattle.mm_relation.specs.Kept.{StoredRows}
-use Rattle.mm_relation.specs.RowLists.{edit_pairs}
-use Rattle.mm_relation.specs.declared.edits.Edit.{Edit}
+use Rattle.mm_store.specs.RowEdits.{new_rows, edit_pairs}
+use Rattle.mm_indexed.specs.Kept.{StoredRows}
+use Rattle.mm_store.specs.declared.edit.Edit.{Edit}
 use Rattle.mm_schema.specs.Instance.{TableEdits as NamedEdits}
 use Rattle.mm_schema.specs.References.{lose_targets}
 use Rattle.mm_schema.specs.Refused.{Condition}

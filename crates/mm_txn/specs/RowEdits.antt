@@ -2,9 +2,9 @@
 use Rattle.std.specs.Prelude.{ℕ, List, Some, map}
 use Rattle.mm_query.specs.Atoms.{updated_row}
 use Rattle.mm_query.specs.declared.atom.Assignment.{Assignment}
-use Rattle.mm_relation.specs.Refs.{Slots, row_at}
-use Rattle.mm_relation.specs.declared.edits.Edit.{Edit}
-use Rattle.mm_relation.specs.declared.edits.Edit.TheVariants.{Swap}
+use Rattle.mm_row_order.specs.Refs.{Slots, row_at}
+use Rattle.mm_store.specs.declared.edit.Edit.{Edit}
+use Rattle.mm_store.specs.declared.edit.Edit.TheVariants.{Swap}
 use Rattle.mm_schema.specs.Rows.{Pair}
 use Rattle.mm_value.specs.declared.row_ref.RowRef.{RowRef}
 use Rattle.mm_value.specs.declared.values.Value.{Value}

@@ -1,8 +1,8 @@
 //! The rows that a DELETE cascades to (the CASCADE of SQL's referential actions).
 ghost use Rattle.std.specs.Prelude.{◌≡◌, ◌<◌, ◌∷◌, [], All, filter, length, map, slice_get, IfOk, OnOk, None, Some};
 ghost use Rattle.std.specs.Option.{option_copied, option_map};
-ghost use Rattle.mm_relation.specs.Edits.{new_rows};
-ghost use Rattle.mm_relation.specs.Kept.{StoredRows};
+ghost use Rattle.mm_store.specs.RowEdits.{new_rows};
+ghost use Rattle.mm_indexed.specs.Kept.{StoredRows};
 ghost use Rattle.mm_schema.specs.Columns.{cascading_target};
 ghost use Rattle.mm_schema.specs.Schema.{HasDistinctNames};
 ghost use Rattle.mm_schema.specs.declared.table.Table.{Table};
@@ -16,9 +16,8 @@ ghost use Rattle.mm_txn.specs.PlacedEdits.{AreEdits, FitsAt, edits_at, named, pa
 use crate::edits::RelationEdits;
 use crate::row_edits::removals_at;
 use mm_delta::{references_of_gone, row_gone};
-use mm_relation::Edit;
 use mm_schema::{Catalog, Column, Name};
-use mm_store::{IndexRef, Store, View};
+use mm_store::{Edit, IndexRef, Store, View};
 use mm_value::{Few, RowRef};
 use std::alloc::{AllocError, Global};
 

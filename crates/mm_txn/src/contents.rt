@@ -1,16 +1,15 @@
 //! What a database holds: a catalog, the rows of its tables, and the lists of its standing queries.
 ghost use Rattle.std.specs.Prelude.{◌≡◌, ℕ, ◌≤◌, true, false, List, [], length, take};
 ghost use Rattle.mm_standing.specs.State.{count_at};
-ghost use Rattle.mm_store.specs.Marks.{rows_at_mark, rows_now};
-ghost use Rattle.mm_store.specs.Undoing.{CanUndo};
+ghost use Rattle.mm_store.specs.Marks.{KeepsMarks, mark_of, rows_at_mark};
 ghost use Rattle.mm_value.specs.declared.values.Value.{Value};
 ghost use Rattle.mm_txn.specs.Contents.{IsAtRest};
 ghost use Rattle.mm_plan.specs.Kept.{instance_of};
-ghost use Rattle.mm_txn.specs.Saved.{AreSaved, IsSettled};
+ghost use Rattle.mm_txn.specs.Saved.{GoesBack, IsSettled};
 
 use mm_schema::Catalog;
 use mm_standing::Standing;
-use mm_store::{Store, Undo};
+use mm_store::Store;
 use std::alloc::Global;
 use std::marker::Model;
 
@@ -38,7 +37,9 @@ impl Contents {
     /// No table and no standing query. It takes no memory.
     pub(crate) fn new(alloc: Global) -> Contents
         ensures schema { result.schema ≡ record { tables = []; standing = [] } }
-        ensures store { result.store ≡ record { tables = []; links = [] } }
+        ensures tables { result.store.tables ≡ [] }
+        ensures links { result.store.links ≡ [] }
+        ensures log { result.store.stored.log ≡ [] }
         ensures lists { result.lists ≡ record { queries = []; bags = []; prepared = []; log = []; reads = 0 } }
     {
         Contents {
@@ -48,54 +49,49 @@ impl Contents {
         }
     }
 
-    /// All fit each other, and the rows that stand are those of the tables. The call does nothing.
+    /// All fit each other, and what stands now can be gone back to. The call does nothing.
     pub(crate) fn is_at_rest(&self)
         ensures rest { IsAtRest self.now }
-        ensures rows { rows_now self.now.store ≡ instance_of self.now.store.tables }
+        ensures back { GoesBack self.now.store self.now.lists (mark_of self.now.store) (length self.now.lists.log) }
+        ensures rows { rows_at_mark (mark_of self.now.store) self.now.store ≡ instance_of self.now.store.tables }
     {
-        self.store.rows_stand();
+        let _mark = self.store.mark();
     }
 
-    /// How many changes the log of the lists has.
-    pub(crate) fn mark(&self) -> usize
-        ensures { result ≡ length self.now.lists.log }
+    /// How long the logs of the store and of the lists are.
+    pub(crate) fn lengths(&self) -> (usize, usize)
+        ensures { result ≡ (mark_of self.now.store, length self.now.lists.log) }
     {
-        self.standing.mark()
+        (self.store.mark(), self.standing.mark())
     }
 
     /// Takes back what was changed of the rows and of the lists since their logs were so long. It takes no memory.
-    pub(crate) fn revert(&mut self, undo: &mut Undo, commands: usize, changes: usize)
-        requires fits { CanUndo self.old.store undo.old }
-        requires commands { commands ≤ length undo.old }
+    pub(crate) fn revert(&mut self, commands: usize, changes: usize)
+        requires back { GoesBack self.old.store self.old.lists commands changes }
         requires changes { changes ≤ length self.old.lists.log }
-        requires saved { AreSaved changes (rows_at_mark commands undo.old self.old.store) self.old.lists }
         ensures schema { self.new.schema ≡ self.old.schema }
-        ensures rows { instance_of self.new.store.tables ≡ rows_at_mark commands undo.old self.old.store }
-        ensures earlier { (earlier : ℕ) → earlier ≤ commands
-            → rows_at_mark earlier undo.new self.new.store ≡ rows_at_mark earlier undo.old self.old.store }
-        ensures undo { undo.new ≡ take commands undo.old }
-        ensures fits { CanUndo self.new.store undo.new }
+        ensures rows { instance_of self.new.store.tables ≡ rows_at_mark commands self.old.store }
+        ensures mark { mark_of self.new.store ≡ commands }
+        ensures marks { (earlier : ℕ) → earlier ≤ commands → KeepsMarks self.old.store self.new.store earlier }
         ensures queries { self.new.lists.queries ≡ self.old.lists.queries }
         ensures counts { (earlier : ℕ) → earlier ≤ changes → (list : ℕ) (row : List Value)
             → count_at earlier list row self.new.lists ≡ count_at earlier list row self.old.lists }
         ensures log { self.new.lists.log ≡ take changes self.old.lists.log }
     {
-        self.store.revert(undo, commands);
+        self.store.revert(commands);
         self.standing.revert(changes);
     }
 
     /// Makes what was done final, unless a transaction is open.
-    pub(crate) fn settle_outside(&mut self, is_open: bool, undo: &mut Undo)
-        requires { CanUndo self.old.store undo.old }
+    pub(crate) fn settle_outside(&mut self, is_open: bool)
         ensures schema { self.new.schema ≡ self.old.schema }
         ensures rows { instance_of self.new.store.tables ≡ instance_of self.old.store.tables }
-        ensures fits { CanUndo self.new.store undo.new }
         ensures queries { self.new.lists.queries ≡ self.old.lists.queries }
-        ensures open { is_open ≡ true → (self.new ≡ self.old) × (undo.new ≡ undo.old) }
-        ensures settled { is_open ≡ false → IsSettled undo.new self.new.lists }
+        ensures open { is_open ≡ true → self.new ≡ self.old }
+        ensures settled { is_open ≡ false → IsSettled self.new.store self.new.lists }
     {
         if !is_open {
-            self.store.settle(undo);
+            self.store.settle();
             self.standing.settle();
         }
     }

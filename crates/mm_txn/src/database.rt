@@ -21,20 +21,18 @@ use crate::listing::list_tables;
 use crate::savepoints::{MAX_SAVEPOINTS, Mark, latest};
 use mm_query::{BoundChange, Definition, ItemList, Listing, Mutation, PlanLine, Query};
 use mm_schema::Name;
-use mm_store::{TableRows, Undo};
+use mm_store::TableRows;
 use mm_templist::ShownRows;
 use mm_value::Refusal;
 use std::alloc::{AllocError, Global};
 use std::marker::Model;
 
 /// A database: the catalog, and beside it the rows of its tables. It makes changes and answers questions, and each is one step of the
-/// machine of row lists. What is refused changes nothing. In a transaction a log tells how to take back what was changed, and its
-/// savepoints are marks of it.
+/// machine of row lists. What is refused changes nothing. In a transaction the store and the lists log how to take back what was
+/// changed, and its savepoints are marks of these logs. Outside one the logs are empty, since each command is final at once.
 #[derive(Drop)]
 pub struct Db {
     contents: Contents,
-    /// What the open transaction has changed. Outside one it is empty, since each command is final at once.
-    undo: Undo,
     /// Whether a transaction is open.
     is_open: bool,
     /// The savepoints of the open transaction, the oldest first.
@@ -47,9 +45,9 @@ impl Model for Db {
 
     ghost Value = { State };
 
-    ghost view = { λ d. kept_state d.contents d.undo d.is_open d.marks.items };
+    ghost view = { λ d. kept_state d.contents d.is_open d.marks.items };
 
-    ghost invariant = { λ d. IsConsistent d.contents d.undo d.is_open d.marks.items };
+    ghost invariant = { λ d. IsConsistent d.contents d.is_open d.marks.items };
 }
 
 impl Db {
@@ -59,7 +57,6 @@ impl Db {
     {
         Db {
             contents: Contents::new(alloc),
-            undo: Undo::new(alloc),
             is_open: false,
             marks: Vec::new(alloc),
         }
@@ -91,15 +88,14 @@ impl Db {
         if !self.is_open {
             return Err(Refusal::NoTransaction);
         }
-        self.contents.settle_outside(false, &mut self.undo);
+        self.contents.settle_outside(false);
         self.marks.clear();
         self.is_open = false;
         Ok(())
     }
 
     /// Ends a transaction and takes back what it changed: the rows are those at [`Db::begin`]. `NoTransaction` where none is open.
-    /// It takes no memory, so it can always be done. The changes are undone command by command, the newest first, as by the undo
-    /// log of Gray.
+    /// It takes no memory, so it can always be done. The changes are undone one by one, the newest first, as by the undo log of Gray.
     fn rollback(&mut self) -> Result<(), Refusal>
         ensures due { MatchResult result (λ _. first_refusal (conditions Rollback self.old) ≡ None)
             (λ refusal. first_refusal (conditions Rollback self.old) ≡ Some refusal) }
@@ -109,7 +105,7 @@ impl Db {
         if !self.is_open {
             return Err(Refusal::NoTransaction);
         }
-        self.contents.revert(&mut self.undo, 0, 0);
+        self.contents.revert(0, 0);
         self.marks.clear();
         self.is_open = false;
         Ok(())
@@ -130,8 +126,7 @@ impl Db {
             return Err(Refusal::TooMany);
         }
         self.contents.is_at_rest();
-        let commands = self.undo.mark();
-        let changes = self.contents.mark();
+        let (commands, changes) = self.contents.lengths();
         self.marks.push(Mark {
             name,
             commands,
@@ -154,7 +149,7 @@ impl Db {
         }
         let place = latest(self.marks.as_slice(), name).ok_or(Refusal::NoSuchSavepoint)?;
         let (commands, changes) = self.marks[place].lengths();
-        self.contents.revert(&mut self.undo, commands, changes);
+        self.contents.revert(commands, changes);
         self.marks.truncate(place + 1);
         Ok(())
     }
@@ -186,7 +181,7 @@ impl Db {
             return Err(Refusal::NotInTransaction);
         }
         self.contents.is_at_rest();
-        self.contents.define(alloc, &self.undo, definition)
+        self.contents.define(alloc, definition)
     }
 
     /// Changes the rows of a table, and tells how many rows of it that concerned. The refusals are those of

@@ -1,24 +1,21 @@
 //! Changes of the catalog, and of the relations beside its tables. But for those of indexes they are for a database in which no
 //! transaction is open.
-ghost use Rattle.std.specs.Prelude.{◌≡◌, ℕ, true, false, List, IfOk, OnOk, OnErr, map};
+ghost use Rattle.std.specs.Prelude.{◌≡◌, true, false, [], IfOk, OnOk, OnErr, map};
 ghost use Rattle.mm_schema.specs.Indexes.{drop_index_conditions, index_conditions};
 ghost use Rattle.mm_schema.specs.Refused.{AnswersDue, first_refusal};
 ghost use Rattle.mm_schema.specs.Schema.{drop_table_conditions, table_conditions};
-ghost use Rattle.mm_store.specs.Marks.{rows_at_mark};
-ghost use Rattle.mm_store.specs.Undoing.{CanUndo};
-ghost use Rattle.mm_store.specs.Snapshots.{Logged};
 ghost use Rattle.mm_query.specs.Machine.{after_definition, definition_conditions, is_of_index};
 ghost use Rattle.mm_query.specs.declared.command.Definition.TheVariants as define;
 ghost use Rattle.mm_txn.specs.Contents.{state_held};
 ghost use Rattle.mm_laws.specs.Typing.{AreTyped};
 ghost use Rattle.mm_plan.specs.Kept.{AreKept, instance_of};
 ghost use Rattle.mm_txn.specs.Kept.{state_of};
-ghost use Rattle.mm_txn.specs.Saved.{IsSettled};
+ghost use Rattle.mm_txn.specs.Saved.{IsSettled, KeepsLog};
 
 use crate::contents::Contents;
 use mm_query::Definition;
 use mm_schema::{Catalog, Column, IndexDef, Name, TableDef};
-use mm_store::{Store, Undo};
+use mm_store::Store;
 use mm_value::{ColType, Refusal};
 use std::alloc::{AllocError, Global};
 
@@ -35,20 +32,16 @@ impl Contents {
     pub(crate) fn define(
         &mut self,
         alloc: Global,
-        undo: &Undo,
         definition: Definition<'_>,
     ) -> Result<(), Refusal>
         requires typed { AreTyped self.old.schema.tables (instance_of self.old.store.tables) }
-        requires fits { CanUndo self.old.store undo.now }
-        requires settled { is_of_index definition ≡ false → IsSettled undo.now self.old.lists }
+        requires settled { is_of_index definition ≡ false → IsSettled self.old.store self.old.lists }
         ensures due { AnswersDue (first_refusal (definition_conditions definition.entry (state_held self.old))) result }
         ensures ok { OnOk result (state_held self.new ≡ after_definition definition.entry (state_held self.old)) }
         ensures err { OnErr result (state_held self.new ≡ state_held self.old) }
-        ensures fits { CanUndo self.new.store undo.now }
-        ensures settled { is_of_index definition.entry ≡ false → IsSettled undo.now self.new.lists }
+        ensures settled { is_of_index definition.entry ≡ false → IsSettled self.new.store self.new.lists }
         ensures lists { is_of_index definition.entry ≡ true → self.new.lists ≡ self.old.lists }
-        ensures rows_before { is_of_index definition.entry ≡ true
-            → (mark : ℕ) → rows_at_mark mark undo.now self.new.store ≡ rows_at_mark mark undo.now self.old.store }
+        ensures log { is_of_index definition.entry ≡ true → KeepsLog self.old.store self.new.store }
     {
         match definition {
             Definition::Table(definition) => {
@@ -56,7 +49,7 @@ impl Contents {
             }
             Definition::DropTable(name) => self.drop_table(&name),
             Definition::Index(index) => {
-                add_index(alloc, &mut self.catalog, &mut self.store, undo, index)
+                add_index(alloc, &mut self.catalog, &mut self.store, index)
             }
             Definition::DropIndex(name) => drop_index(&mut self.catalog, &mut self.store, &name),
             Definition::Watch(named) => self.watch(alloc, named),
@@ -66,10 +59,11 @@ impl Contents {
 
     /// Drops a table with its rows and indexes; those behind it move up. The refusals are those of [`Catalog::drop_table`].
     fn drop_table(&mut self, name: &Name) -> Result<(), Refusal>
+        requires { IsSettled self.old.store self.old.lists }
         ensures due { AnswersDue (first_refusal (drop_table_conditions name.now self.old.schema)) result }
         ensures ok { OnOk result (state_held self.new ≡ after_definition (define.DropTable name.now) (state_held self.old)) }
         ensures err { OnErr result (state_held self.new ≡ state_held self.old) }
-        ensures log { self.new.lists.log ≡ self.old.lists.log }
+        ensures settled { IsSettled self.new.store self.new.lists }
     {
         let place = self.catalog.place_of(name).ok_or(Refusal::NoSuchTable)?;
         self.catalog.drop_table(name)?;
@@ -86,12 +80,14 @@ fn add_table(
     store: &mut Store,
     definition: TableDef,
 ) -> Result<(), Refusal>
-    requires { AreKept catalog.old store.old }
+    requires kept { AreKept catalog.old store.old }
+    requires log { store.old.stored.log ≡ [] }
     ensures due { AnswersDue (first_refusal (table_conditions definition catalog.old)) result }
     ensures ok { OnOk result
         (state_of catalog.new store.new.tables ≡ after_definition (define.Table definition) (state_of catalog.old store.old.tables)) }
     ensures err { OnErr result (state_of catalog.new store.new.tables ≡ state_of catalog.old store.old.tables) }
     ensures kept { AreKept catalog.new store.new }
+    ensures log { store.new.stored.log ≡ [] }
 {
     if let Some(refusal) = catalog.table_refusal(&definition) {
         return Err(refusal);
@@ -114,24 +110,20 @@ fn types_of(alloc: Global, columns: &[Column]) -> Result<Vec<ColType>, AllocErro
     columns.iter().map(|column| column.col_type).collect(alloc)
 }
 
-/// Makes an index over the rows that are there, with room for what comes into it when the log is taken back. The refusals are those
-/// of [`Catalog::add_index`].
+/// Makes an index over the rows that are there. The refusals are those of [`Catalog::add_index`].
 fn add_index(
     alloc: Global,
     catalog: &mut Catalog,
     store: &mut Store,
-    undo: &Undo,
     index: IndexDef,
 ) -> Result<(), Refusal>
-    requires kept { AreKept catalog.old store.old }
-    requires fits { CanUndo store.old undo.now }
+    requires { AreKept catalog.old store.old }
     ensures due { AnswersDue (first_refusal (index_conditions index catalog.old)) result }
     ensures ok { OnOk result
         (state_of catalog.new store.new.tables ≡ after_definition (define.Index index) (state_of catalog.old store.old.tables)) }
     ensures err { OnErr result (state_of catalog.new store.new.tables ≡ state_of catalog.old store.old.tables) }
     ensures kept { AreKept catalog.new store.new }
-    ensures fits { CanUndo store.new undo.now }
-    ensures rows_before { (mark : ℕ) → rows_at_mark mark undo.now store.new ≡ rows_at_mark mark undo.now store.old }
+    ensures log { KeepsLog store.old store.new }
 {
     let place = catalog.place_of(&index.table).ok_or(Refusal::NoSuchTable)?;
     let columns = &catalog.table_at(place).definition.columns;
@@ -140,7 +132,7 @@ fn add_index(
         .ok_or(Refusal::NoSuchColumn)?;
     let (name, kind) = (index.name.copy(), index.kind);
     catalog.add_index(index)?;
-    if let Err(AllocError) = store.add_index(alloc, place, column, kind, undo) {
+    if let Err(AllocError) = store.add_index(alloc, place, column, kind) {
         let _ = catalog.drop_index(&name);
         return Err(Refusal::Memory);
     }
@@ -155,9 +147,7 @@ fn drop_index(catalog: &mut Catalog, store: &mut Store, name: &Name) -> Result<(
         (state_of catalog.new store.new.tables ≡ after_definition (define.DropIndex name.now) (state_of catalog.old store.old.tables)) }
     ensures err { OnErr result (state_of catalog.new store.new.tables ≡ state_of catalog.old store.old.tables) }
     ensures kept { AreKept catalog.new store.new }
-    ensures fits { (undo : List Logged) → CanUndo store.old undo → CanUndo store.new undo }
-    ensures rows_before { (undo : List Logged) (mark : ℕ) → CanUndo store.old undo
-        → rows_at_mark mark undo store.new ≡ rows_at_mark mark undo store.old }
+    ensures log { KeepsLog store.old store.new }
 {
     let table = catalog.place_with_index(name).ok_or(Refusal::NoSuchIndex)?;
     let indexes = &catalog.table_at(table).indexes;

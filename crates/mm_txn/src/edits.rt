@@ -15,8 +15,7 @@ use crate::cascades::cascades;
 use crate::contents::Contents;
 use crate::row_edits::{additions, removals, updates};
 use mm_delta::TableChange;
-use mm_relation::Edit;
-use mm_store::Store;
+use mm_store::{Edit, Store};
 use mm_value::{Few, Refusal};
 use std::alloc::Global;
 

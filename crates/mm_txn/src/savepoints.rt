@@ -12,9 +12,9 @@ pub(crate) const MAX_SAVEPOINTS: usize = 64;
 #[derive(Drop)]
 pub(crate) struct Mark {
     pub(crate) name: Name,
-    /// How many commands the log of the store had.
+    /// How long the log of the store was.
     pub(crate) commands: usize,
-    /// How many changes the log of the lists had.
+    /// How long the log of the lists was.
     pub(crate) changes: usize,
 }
 

@@ -3,7 +3,7 @@ ghost use Rattle.std.specs.Prelude.{◌≡◌, Some, None, IfOk, MatchResult};
 ghost use Rattle.mm_query.specs.Machine.{conditions, rows_by_index};
 ghost use Rattle.mm_query.specs.State.{rows_in};
 ghost use Rattle.mm_query.specs.declared.command.Command.TheVariants.{Scan, ScanIndex};
-ghost use Rattle.mm_relation.specs.Kept.{StoredRows};
+ghost use Rattle.mm_indexed.specs.Kept.{StoredRows};
 ghost use Rattle.mm_schema.specs.Refused.{AnswersDue, first_refusal};
 ghost use Rattle.mm_store.specs.Ordered.{rows_in_order};
 ghost use Rattle.mm_store.specs.Tables.{IsAt};

@@ -1,5 +1,5 @@
 //! Standing queries that are kept and dropped. They are for a database in which no transaction is open.
-ghost use Rattle.std.specs.Prelude.{◌≡◌, [], None, Some, map, IfOk, OnErr, OnOk};
+ghost use Rattle.std.specs.Prelude.{◌≡◌, None, Some, map, IfOk, OnErr, OnOk};
 ghost use Rattle.mm_laws.specs.Typing.{AreTyped, type_at};
 ghost use Rattle.mm_plan.specs.Kept.{instance_of};
 ghost use Rattle.mm_query.specs.Resolving.{IsQueryWithin, placed_query, places_in};
@@ -9,6 +9,7 @@ ghost use Rattle.mm_schema.specs.Refused.{AnswersDue, first_refusal};
 ghost use Rattle.mm_schema.specs.Standing.{drop_standing_conditions, standing_conditions};
 ghost use Rattle.mm_txn.specs.Contents.{state_held};
 ghost use Rattle.mm_txn.specs.Rest.{earlier_refusal, naming_conditions};
+ghost use Rattle.mm_txn.specs.Saved.{IsSettled};
 
 use crate::contents::Contents;
 use mm_query::{Bound, BoundQuery, FieldPlace, FromItem, NamedQuery, Query, bind_query};
@@ -20,12 +21,12 @@ impl Contents {
     /// Keeps a query as a standing query, which comes last. The first refusal that is due is answered, or `Memory` in its place or in
     /// that of success. It asks for rows of the types of their columns.
     pub(crate) fn watch(&mut self, alloc: Global, named: NamedQuery<'_>) -> Result<(), Refusal>
-        requires log { self.old.lists.log ≡ [] }
+        requires settled { IsSettled self.old.store self.old.lists }
         requires typed { AreTyped self.old.schema.tables (instance_of self.old.store.tables) }
         ensures due { AnswersDue (first_refusal (watch_conditions named.entry.name named.entry.query (state_held self.old))) result }
         ensures ok { OnOk result (state_held self.new ≡ after_watch named.entry.name named.entry.query (state_held self.old)) }
         ensures err { OnErr result (state_held self.new ≡ state_held self.old) }
-        ensures log { self.new.lists.log ≡ [] }
+        ensures settled { IsSettled self.new.store self.new.lists }
     {
         prove!(self.catalog.standing().len() == self.standing.len());
         let NamedQuery { name, query } = named;
@@ -46,11 +47,11 @@ impl Contents {
 
     /// Drops a standing query. `NoSuchStandingQuery` where none has the name.
     pub(crate) fn unwatch(&mut self, name: &Name) -> Result<(), Refusal>
-        requires { self.old.lists.log ≡ [] }
+        requires { IsSettled self.old.store self.old.lists }
         ensures due { AnswersDue (first_refusal (drop_standing_conditions name.now self.old.schema)) result }
         ensures ok { OnOk result (state_held self.new ≡ after_unwatch name.now (state_held self.old)) }
         ensures err { OnErr result (state_held self.new ≡ state_held self.old) }
-        ensures log { self.new.lists.log ≡ [] }
+        ensures settled { IsSettled self.new.store self.new.lists }
     {
         let place = self
             .catalog

@@ -1,14 +1,13 @@
 -- What the tests do to the tables of a sample leaves a sample.
-use Rattle.std.proofs.Common.{◌≡◌, ℕ, ◌<◌, List, length, sym, ap, ◌∙◌, subst}
+use Rattle.std.proofs.Common.{◌≡◌, ℕ, ◌<◌, List, length, sym, ap, ◌∙◌, subst, arith}
 use Rattle.std.proofs.lemmas.List.Elements.{All-same}
-use Rattle.mm_relation.specs.Kept.{StoredRows}
-use Rattle.mm_relation.specs.Reads.{AddsIndex}
+use Rattle.mm_indexed.specs.Kept.{StoredRows}
+use Rattle.mm_indexed.specs.Index.{AddsIndex, EachTurns}
 use Rattle.mm_schema.specs.declared.index.IndexKind.{IndexKind}
-use Rattle.store_tests.proofs.PlainStores.{kept, plain_at, plain_indexed}
+use Rattle.store_tests.proofs.PlainStores.{plain_at, plain_formed, plain_indexed}
 use Rattle.store_tests.specs.SampleStore.{ArePlain, IsPlain}
-use Rattle.mm_store.specs.Tables.{HasRows, IsAt, Tables, Turns}
+use Rattle.mm_store.specs.Tables.{IsAt, SameForm, Tables, Turns}
 use Rattle.mm_value.specs.declared.col_type.ColType.{ColType}
-use Rattle.mm_value.specs.declared.values.Value.{Value}
 use Rattle.query_tests.specs.Sample.{IsSample}
 
 -- each of them has two columns
@@ -18,11 +17,11 @@ two_at view place sample stored at = ap (λ (types : List ColType). length types
 still_sample : (old new : Tables) → IsSample old → (length new.tables ≡ length old.tables) × ArePlain new → IsSample new
 still_sample old new sample is = record { two = is.0 ∙ sample.two; plain = is.1 }
 
--- one has other rows
-pub filled : (old new : Tables) (place : ℕ) → place < 2 → IsSample old → (rows : StoredRows → List (List Value))
-    → ((stored : StoredRows) → IsAt old place stored → (x : StoredRows) × Turns old place x new × HasRows stored (rows stored) x) → IsSample new
-filled old new place within sample rows told =
-    still_sample old new sample (kept old new place (subst (λ (n : ℕ). place < n) (sym sample.two) within) sample.plain rows told)
+-- each has its form
+pub formed : (old new : Tables) → EachTurns SameForm old.tables new.tables → IsSample old → IsSample new
+formed old new forms sample =
+    let size = forms.size in
+    still_sample old new sample (omega arith, plain_formed old new forms sample.plain)
 
 -- one has another index, whose columns are as they were
 pub indexed : (old new : Tables) (place : ℕ) (column : ℕ) (kind : IndexKind) → place < 2 → IsSample old

@@ -1,15 +1,13 @@
 //! Stores for tests.
 ghost use Rattle.std.specs.Prelude.{◌≡◌, ◌<◌, [], length, All, IfOk};
 ghost use Rattle.mm_partition.specs.Types.{HasTypes};
-ghost use Rattle.mm_relation.specs.Edits.{edit_name, named, new_rows};
-ghost use Rattle.mm_relation.specs.declared.indexes.names.Side.TheVariants as side;
+ghost use Rattle.mm_store.specs.RowEdits.{new_rows, old_refs};
 ghost use Rattle.query_tests.specs.Sample.{IsSample};
 ghost use Rattle.store_tests.specs.SampleStore.{plain_types};
 
 use crate::pair::pair;
-use mm_relation::Edit;
 use mm_schema::{IndexKind, Reference};
-use mm_store::{Store, Undo};
+use mm_store::{Edit, Store};
 use mm_value::{ColType, Few, Refusal};
 use std::alloc::{AllocError, Global};
 
@@ -56,7 +54,7 @@ pub fn empty(alloc: Global) -> Result<Store, AllocError>
 
 /// The additions of rows of the keys from 1 to `count` with these values.
 fn additions(alloc: Global, count: u32, values: Values) -> Result<Few<Edit>, AllocError>
-    ensures none { IfOk result (λ edits. named edit_name side.Old edits ≡ []) }
+    ensures none { IfOk result (λ edits. old_refs edits ≡ []) }
     ensures typed { IfOk result (λ edits. All (HasTypes plain_types) (new_rows edits)) }
 {
     let mut edits = Few::with_capacity(alloc, count as usize)?;
@@ -87,10 +85,8 @@ fn fill(
     ensures { IsSample store.new }
 {
     let edits = additions(alloc, count, values)?;
-    store.check(alloc, table, edits.as_slice())?;
-    let mut undo = Undo::new(alloc);
-    store.apply(alloc, table, edits, &mut undo)?;
-    store.add_index(alloc, table, 1, kind, &undo)?;
+    store.apply(alloc, table, edits)?;
+    store.add_index(alloc, table, 1, kind)?;
     Ok(())
 }
 

@@ -12,12 +12,12 @@ use Rattle.mm_partition.specs.Types.{HasTypes}
 use Rattle.mm_query.specs.Atoms.{value_in}
 use Rattle.mm_query.specs.Queries.{combinations, fits, projected, value_at, values_of}
 use Rattle.mm_query.specs.declared.bound_query.FieldPlace.{FieldPlace}
-use Rattle.mm_relation.specs.Edits.{new_rows}
-use Rattle.mm_relation.specs.Kept.{StoredRows}
-use Rattle.mm_relation.specs.Refs.{Slots}
-use Rattle.mm_relation.specs.RowLists.{edit_pairs, rows_of}
-use Rattle.mm_relation.specs.declared.edits.Edit.{Edit}
-use Rattle.mm_relation.specs.declared.edits.Edit.TheVariants.{Add, Swap, Gone}
+use Rattle.mm_store.specs.RowEdits.{new_rows, edit_pairs}
+use Rattle.mm_indexed.specs.Kept.{StoredRows}
+use Rattle.mm_row_order.specs.Refs.{Slots}
+use Rattle.mm_indexed.specs.RowLists.{rows_of}
+use Rattle.mm_store.specs.declared.edit.Edit.{Edit}
+use Rattle.mm_store.specs.declared.edit.Edit.TheVariants.{Add, Swap, Gone}
 use Rattle.mm_standing.specs.Queries.{GivesTyped, RowsByPlace, StandingQuery}
 use Rattle.mm_store.specs.Tables.{AreFit, IsAt, Tables, rows_at, rows_with}
 use Rattle.mm_value.specs.Types.{type_of}

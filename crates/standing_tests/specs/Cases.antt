@@ -9,14 +9,13 @@ use Rattle.mm_query.specs.declared.atom.Operand.{Operand}
 use Rattle.mm_query.specs.declared.atom.Operand.TheVariants.{Literal, Column, Shifted}
 use Rattle.mm_query.specs.declared.bound_query.BoundQuery.{BoundQuery}
 use Rattle.mm_query.specs.declared.bound_query.FieldPlace.{FieldPlace}
-use Rattle.mm_relation.specs.Kept.{StoredRows}
-use Rattle.mm_relation.specs.declared.edits.Edit.{Edit}
+use Rattle.mm_indexed.specs.Kept.{StoredRows}
+use Rattle.mm_store.specs.declared.edit.Edit.{Edit}
 use Rattle.mm_standing.specs.Queries.{RowsByPlace, StandingQuery}
 use Rattle.mm_standing.specs.State.{AreServed, FitAt, FitNow, Lists}
+use Rattle.mm_store.specs.Marks as marks
 use Rattle.mm_store.specs.Marks.{rows_at_mark}
 use Rattle.mm_store.specs.Tables.{Tables, rows_at, rows_with}
-use Rattle.mm_store.specs.Undoing.{CanUndo}
-use Rattle.mm_store.specs.Snapshots.{Logged}
 use Rattle.mm_value.specs.declared.col_type.ColType.TheVariants.{Int}
 use Rattle.store_tests.specs.SampleStore.{ArePlain, plain_types}
 
@@ -49,34 +48,32 @@ rows_edited store table edits place =
 abbrev pub HaveNumbers : RowsByPlace → Type 0
 HaveNumbers rows = (place : ℕ) → All (HasTypes plain_types) (rows place)
 
--- The rows of the table at each place when the log had so many commands.
-abbrev pub rows_then : ℕ → List Logged → Tables → RowsByPlace
-rows_then commands undo store place = slice_index_or (rows_at_mark commands undo store) place []
+-- The rows of the table at each place when the log of the tables had so many records.
+abbrev pub rows_then : ℕ → Tables → RowsByPlace
+rows_then commands store place = slice_index_or (rows_at_mark commands store) place []
 
 -- ---- cases
 
--- There are two tables of two columns, and their rows are of whole numbers; the log of their commands can be taken back; and the lists
--- have the rows of their queries.
-pub record IsCase (store : Tables) (undo : List Logged) (lists : Lists) : Type 0 where
+-- There are two tables of two columns, and their rows are of whole numbers; and the lists have the rows of their queries.
+pub record IsCase (store : Tables) (lists : Lists) : Type 0 where
   pub two : length store.tables ≡ 2
   pub plain : ArePlain store
   pub typed : HaveNumbers (before_at store)
-  pub undoable : CanUndo store undo
   pub served : AreServed store lists.queries
   pub whole : All IsWhole lists.queries
   pub fits : FitNow (before_at store) lists
   pub ready : lists.prepared ≡ []
 
--- When the tables had so many commands, and the lists so many changes, the lists had the rows of their queries, and all rows were of
--- whole numbers.
-pub record IsMark (store : Tables) (undo : List Logged) (lists : Lists) (commands changes : ℕ) : Type 0 where
-  pub commands_there : commands ≤ length undo
+-- Both can go back to when the log of the tables had so many records, and that of the lists so many changes. Then the lists had the rows
+-- of their queries, and all rows were of whole numbers.
+pub record IsMark (store : Tables) (lists : Lists) (commands changes : ℕ) : Type 0 where
+  pub commands_there : marks.IsMark store commands
   pub changes_there : changes ≤ length lists.log
-  pub typed : HaveNumbers (rows_then commands undo store)
-  pub fits : FitAt changes (rows_then commands undo store) lists
+  pub typed : HaveNumbers (rows_then commands store)
+  pub fits : FitAt changes (rows_then commands store) lists
 
 -- A case that can go back to its start and to a mark.
-pub record IsMarked (store : Tables) (undo : List Logged) (lists : Lists) (commands changes : ℕ) : Type 0 where
-  pub case : IsCase store undo lists
-  pub start : IsMark store undo lists 0 0
-  pub mark : IsMark store undo lists commands changes
+pub record IsMarked (store : Tables) (lists : Lists) (commands changes : ℕ) : Type 0 where
+  pub case : IsCase store lists
+  pub start : IsMark store lists 0 0
+  pub mark : IsMark store lists commands changes

@@ -12,7 +12,7 @@ use mm_delta::Signed;
 use mm_plan::run_query;
 use mm_query::BoundQuery;
 use mm_standing::Standing;
-use mm_store::{Store, Undo};
+use mm_store::Store;
 use mm_value::Refusal;
 use std::alloc::Global;
 use std::marker::Model;
@@ -22,12 +22,11 @@ use std::marker::Model;
 #[derive(Drop)]
 pub struct Case {
     store: Store,
-    undo: Undo,
     standing: Standing,
     mark: Mark,
 }
 
-/// How many commands the log of the tables and how many changes that of the lists had.
+/// How many records the log of the tables and how many changes that of the lists had.
 #[derive(Clone, Copy)]
 struct Mark {
     commands: usize,
@@ -48,17 +47,16 @@ impl Model for Case {
 
     ghost view = { λ c. c.store };
 
-    ghost invariant = { λ c. IsMarked c.store c.undo c.standing c.mark.commands c.mark.changes };
+    ghost invariant = { λ c. IsMarked c.store c.standing c.mark.commands c.mark.changes };
 }
 
 impl Case {
     /// Two tables with no rows and no standing queries. With `indexed` the numbers of the first have a HASH index.
     pub fn new(alloc: Global, indexed: bool) -> Result<Case, Refusal> {
         let store = tables(alloc, indexed)?;
-        store.rows_stand();
+        let _now = store.mark();
         Ok(Case {
             store,
-            undo: Undo::new(alloc),
             standing: Standing::new(alloc),
             mark: START,
         })
@@ -76,14 +74,7 @@ impl Case {
             return Err(Refusal::NoSuchTable);
         }
         let edits = addition(alloc, key, number)?;
-        make_edits(
-            alloc,
-            &mut self.store,
-            &mut self.undo,
-            &mut self.standing,
-            table,
-            edits,
-        )
+        make_edits(alloc, &mut self.store, &mut self.standing, table, edits)
     }
 
     /// Removes the row of a key from a table. `NoSuchTable` where no table stands at the place; `NoTargetRow` where no row has the
@@ -93,14 +84,7 @@ impl Case {
             return Err(Refusal::NoSuchTable);
         }
         let edits = removal(alloc, &self.store, table, key)?;
-        make_edits(
-            alloc,
-            &mut self.store,
-            &mut self.undo,
-            &mut self.standing,
-            table,
-            edits,
-        )
+        make_edits(alloc, &mut self.store, &mut self.standing, table, edits)
     }
 
     /// Makes the addition of a row ready, and drops it. `NoSuchTable` where no table stands at the place; what else refuses the
@@ -136,11 +120,10 @@ impl Case {
     ) -> Result<(), Refusal> {
         refuse(&query, tables.as_slice())?;
         self.mark = START;
-        settle(&mut self.store, &mut self.undo, &mut self.standing);
+        settle(&mut self.store, &mut self.standing);
         watch(
             alloc,
             &self.store,
-            &self.undo,
             &mut self.standing,
             &self.store,
             query,
@@ -159,11 +142,10 @@ impl Case {
         let tables = vec![in alloc; 0, 1]?;
         self.refuse_elsewhere(other, &query, tables.as_slice())?;
         self.mark = START;
-        settle(&mut self.store, &mut self.undo, &mut self.standing);
+        settle(&mut self.store, &mut self.standing);
         watch(
             alloc,
             &self.store,
-            &self.undo,
             &mut self.standing,
             &other.store,
             query,
@@ -199,9 +181,8 @@ impl Case {
 
     /// Makes a mark of the rows and the lists as they are.
     pub fn set_mark(&mut self) {
-        self.store.rows_stand();
         self.mark = Mark {
-            commands: self.undo.mark(),
+            commands: self.store.mark(),
             changes: self.standing.mark(),
         };
     }
@@ -209,13 +190,7 @@ impl Case {
     /// Takes back what was changed since the mark.
     pub fn go_back(&mut self) {
         let Mark { commands, changes } = self.mark;
-        go_back(
-            &mut self.store,
-            &mut self.undo,
-            &mut self.standing,
-            commands,
-            changes,
-        );
+        go_back(&mut self.store, &mut self.standing, commands, changes);
     }
 
     /// Takes back what was changed since the last settlement. The mark goes.
@@ -227,14 +202,14 @@ impl Case {
     /// Makes what was changed final. The mark goes.
     pub fn settle(&mut self) {
         self.mark = START;
-        settle(&mut self.store, &mut self.undo, &mut self.standing);
+        settle(&mut self.store, &mut self.standing);
     }
 
     /// Drops the standing query at a place, if there is one. What was changed is settled first.
     pub fn unwatch(&mut self, place: usize) {
         self.mark = START;
-        settle(&mut self.store, &mut self.undo, &mut self.standing);
-        self.store.rows_stand();
+        settle(&mut self.store, &mut self.standing);
+        let _now = self.store.mark();
         if place < self.standing.len() {
             self.standing.unwatch(place);
         }
@@ -253,14 +228,7 @@ impl Case {
             return Err(Refusal::NoSuchTable);
         }
         let edits = replacement(alloc, &self.store, table, key, number)?;
-        make_edits(
-            alloc,
-            &mut self.store,
-            &mut self.undo,
-            &mut self.standing,
-            table,
-            edits,
-        )
+        make_edits(alloc, &mut self.store, &mut self.standing, table, edits)
     }
 
     /// How many rows the list at a place shows. `NoSuchStandingQuery` where there is none.

@@ -3,9 +3,8 @@ ghost use Rattle.std.specs.Prelude.{◌≡◌, ℕ, ◌<◌, ◌≤◌, All, Lis
 ghost use Rattle.mm_multiset.specs.Counts.{Counts};
 ghost use Rattle.mm_delta.specs.Edited.{before_at};
 ghost use Rattle.mm_query.specs.Queries.{bag_of};
-ghost use Rattle.mm_relation.specs.Edits.{edit_name, named, new_rows};
-ghost use Rattle.mm_relation.specs.Kept.{StoredRows};
-ghost use Rattle.mm_relation.specs.declared.indexes.names.Side.TheVariants as side;
+ghost use Rattle.mm_store.specs.RowEdits.{new_rows, old_refs};
+ghost use Rattle.mm_indexed.specs.Kept.{StoredRows};
 ghost use Rattle.mm_partition.specs.Places.{IsLive};
 ghost use Rattle.mm_partition.specs.Types.{HasTypes};
 ghost use Rattle.mm_standing.specs.State.{AreServed, FitNow, FitPrepared, count_at, count_now};
@@ -17,10 +16,9 @@ ghost use Rattle.store_tests.specs.SampleStore.{ArePlain, plain_types};
 use crate::samples::row;
 use mm_delta::{Signed, TableChange, delta};
 use mm_query::{BoundQuery, FieldPlace, Operand};
-use mm_relation::Edit;
 use mm_schema::IndexKind;
 use mm_standing::Standing;
-use mm_store::{IndexRef, Store, Undo};
+use mm_store::{Edit, IndexRef, Store};
 use mm_value::{ColType, Few, Refusal, RowRef, Tuple, Value, ValueRef};
 use std::alloc::{AllocError, Global};
 
@@ -32,6 +30,7 @@ pub fn tables(alloc: Global, indexed: bool) -> Result<Store, Refusal>
     ensures two { IfOk result (λ store. length store.tables ≡ 2) }
     ensures plain { IfOk result ArePlain }
     ensures typed { IfOk result (λ store. HaveNumbers (before_at store)) }
+    ensures settled { IfOk result (λ store. store.stored.log ≡ []) }
 {
     let mut store = Store::new(alloc);
     store.add_table(alloc, TYPES, 0, &[])?;
@@ -49,11 +48,11 @@ fn add_index(alloc: Global, store: &mut Store) -> Result<(), AllocError>
     ensures two { length store.new.tables ≡ 2 }
     ensures plain { ArePlain store.new }
     ensures rows { OnOk result (before_at store.new ≡ before_at store.old) }
+    ensures log { store.new.stored.log ≡ store.old.stored.log }
 {
-    let undo = Undo::new(alloc);
-    store.rows_stand();
-    store.add_index(alloc, 0, 1, IndexKind::Hash, &undo)?;
-    store.rows_stand();
+    let _before = store.mark();
+    store.add_index(alloc, 0, 1, IndexKind::Hash)?;
+    let _after = store.mark();
     Ok(())
 }
 
@@ -66,7 +65,7 @@ fn tuple(alloc: Global, key: i64, number: i64) -> Result<Tuple, AllocError>
 
 /// The addition of the row of a key and a number.
 pub fn addition(alloc: Global, key: i64, number: i64) -> Result<Few<Edit>, AllocError>
-    ensures none { IfOk result (λ edits. named edit_name side.Old edits ≡ []) }
+    ensures none { IfOk result (λ edits. old_refs edits ≡ []) }
     ensures typed { IfOk result (λ edits. All (HasTypes plain_types) (new_rows edits)) }
 {
     Ok(Few::one(Edit::Add(tuple(alloc, key, number)?)))
@@ -131,23 +130,23 @@ fn at_key(store: &Store, table: usize, key: i64) -> Option<RowRef>
 pub fn make_edits(
     alloc: Global,
     store: &mut Store,
-    undo: &mut Undo,
     standing: &mut Standing,
     table: usize,
     edits: Few<Edit>,
 ) -> Result<(), Refusal>
-    requires case { IsCase store.old undo.old standing.old }
+    requires case { IsCase store.old standing.old }
     requires there { table < length store.old.tables }
     requires fit { (stored : StoredRows) → IsAt store.old table stored → AreFit stored edits }
-    ensures case { IsCase store.new undo.new standing.new }
-    ensures marks { (commands changes : ℕ) → IsMark store.old undo.old standing.old commands changes
-        → IsMark store.new undo.new standing.new commands changes }
+    ensures case { IsCase store.new standing.new }
+    ensures marks { (commands changes : ℕ) → IsMark store.old standing.old commands changes → IsMark store.new standing.new commands changes }
 {
-    store.check(alloc, table, edits.as_slice())?;
-    prepare(alloc, store, standing, table, edits.as_slice())?;
-    if let Err(AllocError) = store.apply(alloc, table, edits, undo) {
+    let prepared = prepare(alloc, store, standing, table, edits.as_slice());
+    let mark = store.mark();
+    // The refusal of the rows comes before that of the lists.
+    if let Err(refusal) = store.apply(alloc, table, edits).and(prepared) {
+        store.revert(mark);
         standing.discard();
-        return Err(Refusal::Memory);
+        return Err(refusal);
     }
     standing.apply_prepared();
     Ok(())
@@ -231,35 +230,28 @@ pub fn changes_of(
 }
 
 /// Takes back what was changed since a mark.
-pub fn go_back(
-    store: &mut Store,
-    undo: &mut Undo,
-    standing: &mut Standing,
-    commands: usize,
-    changes: usize,
-)
-    requires case { IsCase store.old undo.old standing.old }
-    requires mark { IsMark store.old undo.old standing.old commands changes }
-    ensures case { IsCase store.new undo.new standing.new }
-    ensures marks { (c h : ℕ) → c ≤ commands → h ≤ changes → IsMark store.old undo.old standing.old c h
-        → IsMark store.new undo.new standing.new c h }
+pub fn go_back(store: &mut Store, standing: &mut Standing, commands: usize, changes: usize)
+    requires case { IsCase store.old standing.old }
+    requires mark { IsMark store.old standing.old commands changes }
+    ensures case { IsCase store.new standing.new }
+    ensures marks { (c h : ℕ) → c ≤ commands → h ≤ changes → IsMark store.old standing.old c h → IsMark store.new standing.new c h }
 {
-    store.revert(undo, commands);
+    store.revert(commands);
     standing.revert(changes);
 }
 
 /// Makes what was changed final.
-pub fn settle(store: &mut Store, undo: &mut Undo, standing: &mut Standing)
-    requires case { IsCase store.old undo.old standing.old }
-    ensures case { IsCase store.new undo.new standing.new }
-    ensures start { IsMark store.new undo.new standing.new 0 0 }
-    ensures undo { undo.new ≡ [] }
+pub fn settle(store: &mut Store, standing: &mut Standing)
+    requires case { IsCase store.old standing.old }
+    ensures case { IsCase store.new standing.new }
+    ensures start { IsMark store.new standing.new 0 0 }
+    ensures settled { store.new.stored.log ≡ [] }
     ensures log { standing.new.log ≡ [] }
     ensures rows { before_at store.new ≡ before_at store.old }
 {
-    store.settle(undo);
+    store.settle();
     standing.settle();
-    store.rows_stand();
+    let _now = store.mark();
 }
 
 /// Keeps a standing query, which comes last, with the rows that it gives over the tables of a store. They are those that it gives
@@ -267,14 +259,13 @@ pub fn settle(store: &mut Store, undo: &mut Undo, standing: &mut Standing)
 pub fn watch(
     alloc: Global,
     store: &Store,
-    undo: &Undo,
     standing: &mut Standing,
     source: &Store,
     query: BoundQuery,
     tables: Vec<usize>,
 ) -> Result<(), Refusal>
-    requires case { IsCase store.now undo.now standing.old }
-    requires undo { undo.now ≡ [] }
+    requires case { IsCase store.now standing.old }
+    requires settled { store.now.stored.log ≡ [] }
     requires log { standing.old.log ≡ [] }
     requires two { length source.now.tables ≡ 2 }
     requires there { All (λ table. table < 2) tables.items }
@@ -282,11 +273,11 @@ pub fn watch(
     requires whole { length tables.items ≡ length query.from }
     requires unshifted { is_unshifted query ≡ true }
     requires rows { bag_of query (map (rows_at source.now.tables) tables.items) ≡ bag_of query (map (rows_at store.now.tables) tables.items) }
-    ensures case { IsCase store.now undo.now standing.new }
-    ensures start { IsMark store.now undo.now standing.new 0 0 }
+    ensures case { IsCase store.now standing.new }
+    ensures start { IsMark store.now standing.new 0 0 }
 {
     let _lists = standing.len();
-    store.rows_stand();
+    let _now = store.mark();
     let types = vec![in alloc; ColType::Int; query.fields.as_slice().len()]?;
     standing.watch(alloc, source, query, tables, types)?;
     Ok(())

@@ -1,2 +1,1 @@
-pub mod SampleRelation
 pub mod SampleStore

@@ -1,9 +1,8 @@
 -- The tables of the tests.
-use Rattle.std.specs.Prelude.{◌≡◌, List, [], ◌∷◌, length, All, Contains}
-use Rattle.mm_relation.specs.Kept.{StoredRows}
+use Rattle.std.specs.Prelude.{◌≡◌, ℕ, List, [], ◌∷◌, length, All, Contains}
+use Rattle.mm_indexed.specs.Kept.{StoredRows}
+use Rattle.mm_store.specs.Marks.{IsMark}
 use Rattle.mm_store.specs.Tables.{Tables}
-use Rattle.mm_store.specs.Undoing.{CanUndo}
-use Rattle.mm_store.specs.Snapshots.{Logged}
 use Rattle.mm_value.specs.declared.col_type.ColType.{ColType}
 use Rattle.mm_value.specs.declared.col_type.ColType.TheVariants.{Int}
 
@@ -19,9 +18,10 @@ pub record IsPlain (stored : StoredRows) : Type 0 where
 abbrev pub ArePlain : Tables → Type 0
 ArePlain store = All IsPlain store.tables
 
--- There are two such tables, the second refers to the first by its second column, and the log can be taken back.
-pub record IsCase (store : Tables) (undo : List Logged) : Type 0 where
+-- There are two such tables, the second refers to the first by its second column, and the log can be undone, and undone to a mark.
+pub record IsCase (store : Tables) (commands : ℕ) : Type 0 where
   pub two : length store.tables ≡ 2
   pub plain : ArePlain store
   pub link : Contains store.links (record { from = 1; column = 1; to = 0 })
-  pub fits : CanUndo store undo
+  pub start : IsMark store 0
+  pub mark : IsMark store commands

@@ -1,14 +1,12 @@
-//! Tests of relations and of the store: of what no contract says.
+//! Tests of the store: of what no contract says.
 //!
-//! They stand apart from the crates that they test, since a crate with tests is proved twice.
+//! They are in a crate of their own, since a crate with tests is proved twice.
 #![tactic(auto)]
 
 #[cfg(test)]
 mod assertions;
 #[cfg(test)]
 mod growths;
-#[cfg(test)]
-mod relations;
 #[cfg(test)]
 mod stores;
 #[cfg(test)]

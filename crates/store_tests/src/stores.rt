@@ -1,20 +1,19 @@
 //! What no clause says: that ample memory is never refused. And two tables with real rows, of which one may refer to the other.
-ghost use Rattle.std.specs.Prelude.{◌≡◌, ◌<◌, ◌≤◌, [], ◌∷◌, length, All, Contains, IfOk, IfSome, OnOk};
-ghost use Rattle.mm_relation.specs.Kept.{StoredRows};
-ghost use Rattle.mm_store.specs.Tables.{AreFit, AreLawful, IsAt, IsFrom};
-ghost use Rattle.mm_relation.specs.declared.indexes.names.Side.TheVariants as side;
-ghost use Rattle.mm_relation.specs.Edits.{edit_name, named, new_rows};
+ghost use Rattle.std.specs.Prelude.{◌≡◌, ℕ, ◌<◌, ◌≤◌, [], ◌∷◌, length, All, Contains, IfOk, IfSome, OnOk};
+ghost use Rattle.mm_base.specs.Columns.{IsFrom};
+ghost use Rattle.mm_indexed.specs.Kept.{StoredRows};
+ghost use Rattle.mm_store.specs.Marks.{IsMark, mark_of};
+ghost use Rattle.mm_store.specs.RowEdits.{new_rows, old_refs};
+ghost use Rattle.mm_store.specs.Tables.{AreFit, IsAt};
 ghost use Rattle.mm_partition.specs.Places.{IsLive};
 ghost use Rattle.mm_partition.specs.Types.{HasTypes};
 ghost use Rattle.mm_schema.specs.declared.reference.Reference.{Reference as Link};
 ghost use Rattle.store_tests.specs.SampleStore.{ArePlain, plain_types};
-ghost use Rattle.mm_store.specs.Undoing.{CanUndo};
 
 use crate::assertions::{assert_same, assert_that};
 use mm_partition::RowView;
-use mm_relation::Edit;
 use mm_schema::{IndexKind, Reference};
-use mm_store::{IndexRef, Store, Undo};
+use mm_store::{Edit, IndexRef, Store};
 use mm_value::{ColType, Few, Refusal, Row, RowRef, Tuple, Value, ValueRef};
 use std::alloc::{AllocError, Global};
 use std::marker::Model;
@@ -36,9 +35,9 @@ pub fn add_index(
     ensures count { length store.new.tables ≡ length store.old.tables }
     ensures plain { ArePlain store.new }
     ensures links { store.new.links ≡ store.old.links }
+    ensures log { store.new.stored.log ≡ store.old.stored.log }
 {
-    let undo = empty_log(store, alloc);
-    store.add_index(alloc, table, 1, kind, &undo)?;
+    store.add_index(alloc, table, 1, kind)?;
     Ok(())
 }
 
@@ -47,10 +46,12 @@ pub fn add_index(
 fn add_both(store: &mut Store, alloc: Global, references: &[Reference]) -> Result<(), AllocError>
     requires none { store.old.tables ≡ [] }
     requires links { store.old.links ≡ [] }
+    requires log { store.old.stored.log ≡ [] }
     requires references { All (IsFrom 1 2) references.now }
     ensures two { OnOk result (length store.new.tables ≡ 2) }
     ensures plain { OnOk result (ArePlain store.new) }
     ensures links { OnOk result (store.new.links ≡ references.now) }
+    ensures log { OnOk result (store.new.stored.log ≡ []) }
 {
     store.add_table(alloc, TYPES, 0, &[])?;
     store.add_table(alloc, TYPES, 0, references)?;
@@ -67,6 +68,7 @@ fn sample(alloc: Global, references: &[Reference]) -> Result<Store, AllocError>
     ensures two { IfOk result (λ store. length store.tables ≡ 2) }
     ensures plain { IfOk result ArePlain }
     ensures links { IfOk result (λ store. store.links ≡ references.now) }
+    ensures log { IfOk result (λ store. store.stored.log ≡ []) }
 {
     let mut store = Store::new(alloc);
     add_both(&mut store, alloc, references)?;
@@ -79,6 +81,7 @@ fn sample_again(alloc: Global, references: &[Reference]) -> Result<Store, AllocE
     ensures two { IfOk result (λ store. length store.tables ≡ 2) }
     ensures plain { IfOk result ArePlain }
     ensures links { IfOk result (λ store. store.links ≡ references.now) }
+    ensures log { IfOk result (λ store. store.stored.log ≡ []) }
 {
     match sample(alloc, references) {
         Ok(store) => Ok(store),
@@ -93,9 +96,17 @@ fn tuple_of(alloc: Global, key: i64) -> Result<Tuple, AllocError>
     Tuple::copy_of(alloc, &[Value::Int(key), Value::Int(key % 10)])
 }
 
+/// The row of a key and a value.
+fn row_of(alloc: Global, key: i64, value: i64) -> Result<Row, AllocError>
+    ensures { IfOk result (HasTypes plain_types) }
+{
+    let values = vec![in alloc; Value::Int(key), Value::Int(value)]?;
+    Ok(Row::new(values))
+}
+
 /// The addition of a row for each key.
 fn additions(alloc: Global, keys: &[i64]) -> Result<Few<Edit>, AllocError>
-    ensures none { IfOk result (λ edits. named edit_name side.Old edits ≡ []) }
+    ensures none { IfOk result (λ edits. old_refs edits ≡ []) }
     ensures typed { IfOk result (λ edits. All (HasTypes plain_types) (new_rows edits)) }
 {
     let mut edits = Few::with_capacity(alloc, keys.len())?;
@@ -105,61 +116,17 @@ fn additions(alloc: Global, keys: &[i64]) -> Result<Few<Edit>, AllocError>
     Ok(edits)
 }
 
-/// Makes the edits of a table, and notes them.
-pub fn make_edits(
-    store: &mut Store,
-    alloc: Global,
-    table: usize,
-    edits: Few<Edit>,
-    undo: &mut Undo,
-) -> Result<(), AllocError>
-    requires there { table < length store.old.tables }
-    requires plain { ArePlain store.old }
-    requires lawful { (stored : StoredRows) → IsAt store.old table stored → AreLawful store.old table stored edits }
-    requires fits { CanUndo store.old undo.old }
-    ensures count { length store.new.tables ≡ length store.old.tables }
-    ensures plain { ArePlain store.new }
-    ensures links { store.new.links ≡ store.old.links }
-    ensures longer { length undo.old ≤ length undo.new }
-    ensures fits { CanUndo store.new undo.new }
-{
-    store.apply(alloc, table, edits, undo)?;
-    Ok(())
-}
-
-/// Makes the edits of a table, notes them, and says that it did, unless they are refused.
-fn note(
-    store: &mut Store,
-    alloc: Global,
-    table: usize,
-    edits: Few<Edit>,
-    undo: &mut Undo,
-) -> Result<bool, AllocError>
+/// Makes the edits of a table.
+fn apply(store: &mut Store, alloc: Global, table: usize, edits: Few<Edit>) -> Result<(), Refusal>
     requires there { table < length store.old.tables }
     requires plain { ArePlain store.old }
     requires fit { (stored : StoredRows) → IsAt store.old table stored → AreFit stored edits }
-    requires fits { CanUndo store.old undo.old }
     ensures count { length store.new.tables ≡ length store.old.tables }
     ensures plain { ArePlain store.new }
     ensures links { store.new.links ≡ store.old.links }
-    ensures longer { length undo.old ≤ length undo.new }
-    ensures fits { CanUndo store.new undo.new }
+    ensures marks { (mark : ℕ) → IsMark store.old mark → IsMark store.new mark }
 {
-    match store.check(alloc, table, edits.as_slice()) {
-        Ok(()) => {}
-        Err(Refusal::Memory) => return Err(AllocError),
-        Err(_) => return Ok(false),
-    }
-    make_edits(store, alloc, table, edits, undo)?;
-    Ok(true)
-}
-
-/// A log of no commands.
-fn empty_log(store: &Store, alloc: Global) -> Undo
-    ensures { CanUndo store.now result }
-{
-    let _tables = store.len();
-    Undo::new(alloc)
+    store.apply(alloc, table, edits)
 }
 
 /// The whole number that a row has in a column, if it has one there.
@@ -202,13 +169,40 @@ pub enum Step<'a> {
     Turn(i64, i64),
     /// The row of a key goes.
     Remove(i64),
+    /// The rows of two keys exchange them.
+    Exchange(i64, i64),
 }
 
 /// A step in a table, and whether it is made.
 type Trial<'a> = (usize, Step<'a>, bool);
 
+/// The edits by which the rows of two keys exchange them, none where there are no two such rows.
+fn exchange(
+    store: &Store,
+    alloc: Global,
+    table: usize,
+    one: i64,
+    other: i64,
+) -> Result<Option<Few<Edit>>, AllocError>
+    requires there { table < length store.now.tables }
+    requires plain { ArePlain store.now }
+    ensures { IfOk result (λ found. IfSome found (λ edits. (stored : StoredRows) → IsAt store.now table stored → AreFit stored edits)) }
+{
+    let (Some(first), Some(second)) = (at_key(store, table, one), at_key(store, table, other))
+    else {
+        return Ok(None);
+    };
+    if first == second {
+        return Ok(None);
+    }
+    let of_first = row_of(alloc, other, value_at(store, table, one).unwrap_or(0))?;
+    let of_second = row_of(alloc, one, value_at(store, table, other).unwrap_or(0))?;
+    let edits = vec![in alloc; Edit::Swap(first, of_first), Edit::Swap(second, of_second)]?;
+    Ok(Some(Few::from_vec(edits)))
+}
+
 /// The edits of a step in a table, none where there is no row of the key.
-pub fn edits_of(
+fn edits_of(
     store: &Store,
     alloc: Global,
     table: usize,
@@ -227,8 +221,8 @@ pub fn edits_of(
             let Some(at) = at_key(store, table, key) else {
                 return Ok(None);
             };
-            let values = vec![in alloc; Value::Int(key), Value::Int(value)]?;
-            Ok(Some(Few::one(Edit::Swap(at, Row::new(values)))))
+            let row = row_of(alloc, key, value)?;
+            Ok(Some(Few::one(Edit::Swap(at, row))))
         }
         Step::Remove(key) => {
             let Some(at) = at_key(store, table, key) else {
@@ -236,52 +230,41 @@ pub fn edits_of(
             };
             Ok(Some(Few::one(Edit::Gone(at))))
         }
+        Step::Exchange(one, other) => exchange(store, alloc, table, one, other),
     }
 }
 
-/// Notes a step in a table, and says that it did, unless there is no row of the key or the step is refused.
-fn try_step(
-    store: &mut Store,
-    alloc: Global,
-    table: usize,
-    step: Step,
-    undo: &mut Undo,
-) -> Result<bool, AllocError>
+/// Makes a step in a table, and says that it did, unless there is no row of the key or the step is refused.
+fn try_step(store: &mut Store, alloc: Global, table: usize, step: Step) -> Result<bool, AllocError>
     requires there { table < length store.old.tables }
     requires plain { ArePlain store.old }
-    requires fits { CanUndo store.old undo.old }
     ensures count { length store.new.tables ≡ length store.old.tables }
     ensures plain { ArePlain store.new }
     ensures links { store.new.links ≡ store.old.links }
-    ensures longer { length undo.old ≤ length undo.new }
-    ensures fits { CanUndo store.new undo.new }
+    ensures marks { (mark : ℕ) → IsMark store.old mark → IsMark store.new mark }
 {
     let Some(edits) = edits_of(store, alloc, table, step)? else {
         return Ok(false);
     };
-    note(store, alloc, table, edits, undo)
+    match apply(store, alloc, table, edits) {
+        Ok(()) => Ok(true),
+        Err(Refusal::Memory) => Err(AllocError),
+        Err(_) => Ok(false),
+    }
 }
 
 /// The same where memory is refused once at most.
-fn make_step(
-    store: &mut Store,
-    alloc: Global,
-    table: usize,
-    one: Step,
-    undo: &mut Undo,
-) -> Result<bool, AllocError>
+fn make_step(store: &mut Store, alloc: Global, table: usize, one: Step) -> Result<bool, AllocError>
     requires there { table < length store.old.tables }
     requires plain { ArePlain store.old }
-    requires fits { CanUndo store.old undo.old }
     ensures count { length store.new.tables ≡ length store.old.tables }
     ensures plain { ArePlain store.new }
     ensures links { store.new.links ≡ store.old.links }
-    ensures longer { length undo.old ≤ length undo.new }
-    ensures fits { CanUndo store.new undo.new }
+    ensures marks { (mark : ℕ) → IsMark store.old mark → IsMark store.new mark }
 {
-    match try_step(store, alloc, table, one, undo) {
+    match try_step(store, alloc, table, one) {
         Ok(done) => Ok(done),
-        Err(_) => try_step(store, alloc, table, one, undo),
+        Err(_) => try_step(store, alloc, table, one),
     }
 }
 
@@ -292,10 +275,10 @@ pub fn put(store: &mut Store, alloc: Global, table: usize, keys: &[i64]) -> Resu
     ensures count { length store.new.tables ≡ length store.old.tables }
     ensures plain { ArePlain store.new }
     ensures links { store.new.links ≡ store.old.links }
+    ensures log { OnOk result (store.new.stored.log ≡ []) }
 {
-    let mut undo = empty_log(store, alloc);
-    let done = make_step(store, alloc, table, Step::Put(keys), &mut undo)?;
-    store.settle(&mut undo);
+    let done = make_step(store, alloc, table, Step::Put(keys))?;
+    store.settle();
     Ok(done)
 }
 
@@ -319,6 +302,7 @@ fn put_apart(store: &mut Store, alloc: Global) -> Result<[bool; 4], AllocError>
     requires plain { ArePlain store.old }
     ensures two { length store.new.tables ≡ 2 }
     ensures links { store.new.links ≡ store.old.links }
+    ensures log { OnOk result (store.new.stored.log ≡ []) }
 {
     Ok([
         put(store, alloc, 0, &[1, 2, 3])?,
@@ -332,6 +316,7 @@ fn put_apart(store: &mut Store, alloc: Global) -> Result<[bool; 4], AllocError>
 fn drop_first(rt: &impl Abort, store: &mut Store)
     requires two { length store.old.tables ≡ 2 }
     requires none { store.old.links ≡ [] }
+    requires log { store.old.stored.log ≡ [] }
 {
     store.drop_table(0);
     assert_same(rt, [store.len(), store.view().len_of(0)], [1, 2]);
@@ -528,11 +513,11 @@ fn try_look(store: &Store, alloc: Global) -> Result<Shown, AllocError>
     Ok(Shown { rows, counts })
 }
 
-/// Two tables of which the second refers to the first, and the log of what is made of them.
+/// Two tables of which the second refers to the first, and a mark to which they can be reverted.
 #[derive(Drop)]
 pub struct Case {
     pub store: Store,
-    pub undo: Undo,
+    mark: usize,
 }
 
 impl Model for Case {
@@ -543,7 +528,7 @@ impl Model for Case {
 
     ghost view = { λ c. c.store };
 
-    ghost invariant = { λ c. IsCase c.store c.undo };
+    ghost invariant = { λ c. IsCase c.store c.mark };
 }
 
 impl Case {
@@ -552,8 +537,8 @@ impl Case {
         let mut store = sample_again(alloc, &[LAST_DIGIT])?;
         put(&mut store, alloc, 0, first)?;
         put(&mut store, alloc, 1, second)?;
-        let undo = empty_log(&store, alloc);
-        Ok(Case { store, undo })
+        let mark = store.mark();
+        Ok(Case { store, mark })
     }
 
     /// Makes a step in a table, and says that it did, unless there is no such table or the step is refused.
@@ -561,7 +546,16 @@ impl Case {
         if table >= self.store.len() {
             return Ok(false);
         }
-        make_step(&mut self.store, alloc, table, step, &mut self.undo)
+        make_step(&mut self.store, alloc, table, step)
+    }
+
+    /// Makes a step of the second table by one call. `None` if there is no row of the key, or if an allocation in front of the call
+    /// fails.
+    pub fn apply(&mut self, alloc: Global, step: Step) -> Option<Result<(), Refusal>> {
+        let Ok(Some(edits)) = edits_of(&self.store, alloc, 1, step) else {
+            return None;
+        };
+        Some(apply(&mut self.store, alloc, 1, edits))
     }
 
     /// Tries steps one after the other, each in a table, and says whether just those were made that are told to be.
@@ -573,39 +567,49 @@ impl Case {
         Ok(all)
     }
 
-    /// The same, and then whether all is as it was once they are taken back.
+    /// The same, and then whether all is as it was once they are undone.
     fn comes_back(&mut self, alloc: Global, trials: &[Trial]) -> Result<bool, AllocError> {
-        let mark = self.undo.mark();
         let shown = self.look(alloc)?;
+        self.set_mark();
         let told = self.goes_as(alloc, trials)?;
-        Ok(told && self.go_back(mark) && self.shows(alloc, &shown)?)
+        self.go_back();
+        Ok(told && self.shows(alloc, &shown)?)
     }
 
-    /// Tries steps and then more of them, takes these back and then those, and says whether all is as it was each time.
+    /// Tries steps of a transaction and then more of them, undoes these and then those, and says whether all is as it was each time.
     fn comes_back_twice(
         &mut self,
         alloc: Global,
         trials: &[Trial],
         more: &[Trial],
     ) -> Result<bool, AllocError> {
-        let mark = self.undo.mark();
         let shown = self.look(alloc)?;
         let told = self.goes_as(alloc, trials)? && self.comes_back(alloc, more)?;
-        Ok(told && self.go_back(mark) && self.shows(alloc, &shown)?)
+        self.start_again();
+        Ok(told && self.shows(alloc, &shown)?)
     }
 
-    /// Goes back to a mark, and says that it did, unless the log has fewer commands.
-    pub fn go_back(&mut self, mark: usize) -> bool {
-        if mark > self.undo.mark() {
-            return false;
-        }
-        self.store.revert(&mut self.undo, mark);
-        true
+    /// Sets the mark, and returns the number of records that the log has.
+    pub fn set_mark(&mut self) -> usize {
+        self.mark = self.store.mark();
+        self.mark
     }
 
-    /// Makes all commands final.
+    /// Undoes what was made since the mark.
+    pub fn go_back(&mut self) {
+        self.store.revert(self.mark);
+    }
+
+    /// Undoes the whole transaction.
+    fn start_again(&mut self) {
+        self.mark = 0;
+        self.store.revert(0);
+    }
+
+    /// Ends the transaction, and keeps its rows.
     fn finish(&mut self) {
-        self.store.settle(&mut self.undo);
+        self.store.settle();
+        self.mark = self.store.mark();
     }
 
     /// The row of a key of the first table.
@@ -670,11 +674,12 @@ impl Case {
         Ok(all)
     }
 
-    /// The same, and then whether all is as it was once they are taken back.
+    /// The same, and then whether all is as it was once they are undone.
     fn many_come_back(&mut self, alloc: Global, count: u32) -> Result<bool, AllocError> {
         let shown = self.look(alloc)?;
         let all = self.turn_many(alloc, count)?;
-        Ok(all && self.go_back(0) && self.shows(alloc, &shown)?)
+        self.start_again();
+        Ok(all && self.shows(alloc, &shown)?)
     }
 }
 
@@ -753,7 +758,7 @@ fn go_back_twice(rt: &(impl Abort + AllocGlobal), case: &mut Case) -> Result<(),
         rt,
         case.comes_back_twice(rt.alloc(), &FIRST_STEPS, &MORE_STEPS)?,
     );
-    assert_same(rt, case.undo.mark(), 0);
+    assert_same(rt, case.store.mark(), 0);
     Ok(())
 }
 
@@ -808,7 +813,7 @@ const FREED: [Trial; 2] = [(0, Step::Remove(0), true), (0, Step::Remove(1), true
 /// Makes many changes and takes them back, and takes the targets out.
 fn take_many_back(rt: &(impl Abort + AllocGlobal), case: &mut Case) -> Result<(), Fail> {
     let alloc = rt.alloc();
-    assert_that(rt, case.many_come_back(alloc, 5000)?);
+    assert_that(rt, case.many_come_back(alloc, 2000)?);
     assert_that(rt, case.goes_as(alloc, &FREED)?);
     Ok(())
 }
@@ -817,4 +822,87 @@ fn take_many_back(rt: &(impl Abort + AllocGlobal), case: &mut Case) -> Result<()
 fn takes_many_changes_back(rt: HostRuntime) -> Result<(), Fail> {
     let mut case = Case::new(rt.alloc(), &[0, 1], &[])?;
     take_many_back(&rt, &mut case)
+}
+
+/// The rows of two keys exchange them, of which one comes and goes in the same transaction.
+const EXCHANGES: [Trial; 4] = [
+    (1, Step::Exchange(13, 21), true),
+    (1, Step::Put(&[32]), true),
+    (1, Step::Exchange(32, 13), true),
+    (1, Step::Exchange(21, 32), true),
+];
+
+/// What stands beside the keys then: each row kept its own value.
+const EXCHANGED: [(i64, Option<i64>); 3] = [(13, Some(2)), (21, Some(1)), (32, Some(3))];
+
+/// Exchanges keys, undoes that, and does it again.
+fn exchange_keys(rt: &(impl Abort + AllocGlobal), case: &mut Case) -> Result<(), Fail> {
+    let alloc = rt.alloc();
+    assert_that(rt, case.comes_back(alloc, &EXCHANGES)?);
+    assert_that(rt, case.goes_as(alloc, &EXCHANGES)?);
+    for (key, value) in &EXCHANGED {
+        assert_same(rt, value_at(&case.store, 1, *key), *value);
+    }
+    assert_that(
+        rt,
+        case.refers(13, 2) && case.refers(21, 1) && case.refers(32, 3),
+    );
+    Ok(())
+}
+
+#[test]
+fn exchanges_keys_of_rows(rt: HostRuntime) -> Result<(), Fail> {
+    let mut case = Case::new(rt.alloc(), &[1, 2, 3], &[13, 21])?;
+    exchange_keys(&rt, &mut case)
+}
+
+/// Two new rows of one key, a new row with the key of an old one, no row, and a row of a new key.
+const DUPLICATES: [Trial; 4] = [
+    (1, Step::Put(&[31, 23, 31]), false),
+    (1, Step::Put(&[31, 21]), false),
+    (1, Step::Put(&[]), true),
+    (1, Step::Put(&[31]), true),
+];
+
+/// Adds rows of which two would have one key, and others.
+fn refuse_duplicates(rt: &(impl Abort + AllocGlobal), case: &mut Case) -> Result<(), Fail> {
+    assert_that(rt, case.goes_as(rt.alloc(), &DUPLICATES)?);
+    assert_same(rt, lengths(&case.store), [3, 3]);
+    Ok(())
+}
+
+#[test]
+fn refuses_duplicates(rt: HostRuntime) -> Result<(), Fail> {
+    let mut case = Case::new(rt.alloc(), &[1, 2, 3], &[13, 21])?;
+    refuse_duplicates(&rt, &mut case)
+}
+
+/// A thousand keys in an order that looks random: the multiples of 619 modulo the prime 1,009 go round all numbers.
+fn shuffled_keys(alloc: Global) -> Result<Vec<i64>, AllocError> {
+    let mut keys = Vec::new(alloc);
+    for k in 0..1000u32 {
+        keys.push(i64::from(k * 619 % 1009))?;
+    }
+    Ok(keys)
+}
+
+/// Adds a thousand rows by one command, and deletes each by a command of its own.
+fn come_and_go(rt: &(impl Abort + AllocGlobal), case: &mut Case) -> Result<(), Fail> {
+    let alloc = rt.alloc();
+    let keys = shuffled_keys(alloc)?;
+    assert_that(rt, case.step(alloc, 1, Step::Put(keys.as_slice()))?);
+    case.finish();
+    for key in &keys {
+        assert_same(rt, value_at(&case.store, 1, *key), Some(*key % 10));
+        assert_that(rt, case.step(alloc, 1, Step::Remove(*key))?);
+    }
+    assert_same(rt, lengths(&case.store), [10, 0]);
+    Ok(())
+}
+
+#[test]
+fn finds_each_of_many_rows(rt: HostRuntime) -> Result<(), Fail> {
+    let digits = [0, 1, 2, 3, 4, 5, 6, 7, 8, 9];
+    let mut case = Case::new(rt.alloc(), &digits, &[])?;
+    come_and_go(&rt, &mut case)
 }

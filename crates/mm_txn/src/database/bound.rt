@@ -154,9 +154,8 @@ impl Db {
         self.contents.is_at_rest();
         let edits = self.contents.edits_of(alloc, change)?;
         let count = edits.own.edits.as_slice().len();
-        self.contents
-            .make_edits(alloc, edits, &mut self.undo, reads)?;
-        self.contents.settle_outside(self.is_open, &mut self.undo);
+        self.contents.make_edits(alloc, edits, reads)?;
+        self.contents.settle_outside(self.is_open);
         Ok(count)
     }
 }

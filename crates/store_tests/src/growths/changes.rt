@@ -1,46 +1,25 @@
-//! Changes of a table: checked, and made.
+//! Changes of a table: made, or refused.
 use super::asked_again;
 use super::shows::{Shows, table_shows};
 use crate::assertions::{assert_same, assert_that};
-use crate::stores::{Case, Step, edits_of, make_edits};
+use crate::stores::{Case, Step};
 use mm_value::Refusal;
 use std::alloc::{AllocError, Global};
 use std::process::Abort;
 use std::test::Fail;
 
 impl Case {
-    /// Makes a step of the second table by one call. None where the step may not be made, or where a growth in front of the call
-    /// is refused.
-    fn make(&mut self, alloc: Global, step: Step) -> Option<Result<(), AllocError>> {
-        let Ok(Some(edits)) = edits_of(&self.store, alloc, 1, step) else {
-            return None;
-        };
-        if self.store.check(alloc, 1, edits.as_slice()).is_err() {
-            return None;
-        }
-        Some(make_edits(&mut self.store, alloc, 1, edits, &mut self.undo))
-    }
-
-    /// Whether a step of the second table may be made. None where a growth in front of the call is refused.
-    fn check(&self, alloc: Global, step: Step) -> Option<Result<(), Refusal>> {
-        let Ok(Some(edits)) = edits_of(&self.store, alloc, 1, step) else {
-            return None;
-        };
-        Some(self.store.check(alloc, 1, edits.as_slice()))
-    }
-
     /// Whether the second table shows this.
     pub fn second_shows(&self, alloc: Global, all: Shows) -> Result<bool, AllocError> {
         table_shows(&self.store, 1, alloc, all)
     }
 }
 
-/// Takes a step of the second table back. The table is to show one thing in front of the step, and another behind it.
+/// Undoes a step of the second table. The table is to show one thing in front of the step, and another behind it.
 fn comes_back(
     rt: &impl Abort,
     alloc: Global,
     case: &mut Case,
-    mark: usize,
     tables: [Shows; 2],
 ) -> Result<(), Fail> {
     let [before, after] = tables;
@@ -48,7 +27,7 @@ fn comes_back(
         return Ok(());
     };
     assert_that(rt, is_made);
-    assert_that(rt, case.go_back(mark));
+    case.go_back();
     let Ok(is_back) = case.second_shows(alloc, before) else {
         return Ok(());
     };
@@ -64,15 +43,14 @@ fn makes_again(
     step: Step,
     mark: usize,
     before: Shows,
-) -> Result<(), Fail> {
+) -> Result<Option<Result<(), Refusal>>, Fail> {
     asked_again(rt)?;
-    assert_same(rt, case.undo.mark(), mark);
+    assert_same(rt, case.store.mark(), mark);
     assert_that(rt, case.second_shows(alloc, before)?);
-    assert_same(rt, &case.make(alloc, step), &Some(Ok(())));
-    Ok(())
+    Ok(case.apply(alloc, step))
 }
 
-/// Makes a step of the second table and takes it back. The table is to show one thing in front of it, and another behind it.
+/// Makes a step of the second table and undoes it. The table is to show one thing in front of it, and another behind it.
 fn goes_and_comes(
     rt: &(impl Abort + Print),
     alloc: Global,
@@ -80,14 +58,15 @@ fn goes_and_comes(
     step: Step,
     tables: [Shows; 2],
 ) -> Result<(), Fail> {
-    let mark = case.undo.mark();
-    let Some(answer) = case.make(alloc, step) else {
+    let mark = case.set_mark();
+    let Some(mut answer) = case.apply(alloc, step) else {
         return Ok(());
     };
-    if answer.is_err() {
-        makes_again(rt, alloc, case, step, mark, tables[0])?;
+    if answer == Err(Refusal::Memory) {
+        answer = makes_again(rt, alloc, case, step, mark, tables[0])?.ok_or("no edits")?;
     }
-    comes_back(rt, alloc, case, mark, tables)
+    assert_same(rt, &answer, &Ok(()));
+    comes_back(rt, alloc, case, tables)
 }
 
 /// No rows.
@@ -150,45 +129,49 @@ fn apply_to_rows_growths(rt: HostRuntime) -> Result<(), Fail> {
     turns_and_removes(&rt, alloc, &mut case)
 }
 
-/// Steps of the second table, and whether each may be made.
-const CHECKS: [(Step, Result<(), Refusal>); 3] = [
-    (Step::Put(&[41, 22]), Ok(())),
-    (Step::Put(&[41, 32]), Err(Refusal::DuplicateKey)),
-    (Step::Put(&[41, 34]), Err(Refusal::NoTargetRow)),
+/// Steps of the second table that are refused.
+const REFUSED: [(Step, Refusal); 2] = [
+    (Step::Put(&[41, 32]), Refusal::DuplicateKey),
+    (Step::Put(&[41, 34]), Refusal::NoTargetRow),
 ];
 
-/// Checks a step of the second table.
-fn check_step(
+/// Tries a step of the second table that is refused: then all is as it was.
+fn refuses(
     rt: &(impl Abort + Print),
     alloc: Global,
-    case: &Case,
+    case: &mut Case,
     step: Step,
-    due: Result<(), Refusal>,
+    refusal: Refusal,
 ) -> Result<(), Fail> {
-    let Some(mut answer) = case.check(alloc, step) else {
+    let mark = case.set_mark();
+    let Some(mut answer) = case.apply(alloc, step) else {
         return Ok(());
     };
     if answer == Err(Refusal::Memory) {
-        asked_again(rt)?;
-        answer = case.check(alloc, step).ok_or("no edits")?;
+        answer = makes_again(rt, alloc, case, step, mark, THREE)?.ok_or("no edits")?;
     }
-    assert_same(rt, &answer, &due);
+    assert_same(rt, &answer, &Err(refusal));
+    assert_same(rt, case.store.mark(), mark);
+    let Ok(is_same) = case.second_shows(alloc, THREE) else {
+        return Ok(());
+    };
+    assert_that(rt, is_same);
     Ok(())
 }
 
-/// Checks steps of the second table.
-fn checks(rt: &(impl Abort + Print), alloc: Global, case: &Case) -> Result<(), Fail> {
-    for (step, due) in &CHECKS {
-        check_step(rt, alloc, case, *step, *due)?;
+/// Tries steps of the second table that are refused.
+fn refuses_each(rt: &(impl Abort + Print), alloc: Global, case: &mut Case) -> Result<(), Fail> {
+    for (step, refusal) in &REFUSED {
+        refuses(rt, alloc, case, *step, *refusal)?;
     }
     Ok(())
 }
 
 #[test]
-fn check_growths(rt: HostRuntime) -> Result<(), Fail> {
+fn refused_apply_growths(rt: HostRuntime) -> Result<(), Fail> {
     let alloc = rt.alloc();
-    let Ok(case) = Case::new(alloc, &[1, 2, 3], &[13, 21, 32]) else {
+    let Ok(mut case) = Case::new(alloc, &[1, 2, 3], &[13, 21, 32]) else {
         return Ok(());
     };
-    checks(&rt, alloc, &case)
+    refuses_each(&rt, alloc, &mut case)
 }

@@ -14,9 +14,11 @@ use std::test::Fail;
 
 /// Adds four tables of two columns each to none, and rows to the first.
 fn add_four(store: &mut Store, alloc: Global) -> Result<(), AllocError>
-    requires { store.old.tables ≡ [] }
+    requires none { store.old.tables ≡ [] }
+    requires log { store.old.stored.log ≡ [] }
     ensures four { OnOk result (length store.new.tables ≡ 4) }
     ensures plain { OnOk result (ArePlain store.new) }
+    ensures log { OnOk result (store.new.stored.log ≡ []) }
 {
     store.add_table(alloc, TYPES, 0, &[])?;
     store.add_table(alloc, TYPES, 0, &[])?;
@@ -30,6 +32,7 @@ fn add_four(store: &mut Store, alloc: Global) -> Result<(), AllocError>
 fn four_tables(alloc: Global) -> Result<Store, AllocError>
     ensures four { IfOk result (λ store. length store.tables ≡ 4) }
     ensures plain { IfOk result ArePlain }
+    ensures log { IfOk result (λ store. store.stored.log ≡ []) }
 {
     let mut store = Store::new(alloc);
     add_four(&mut store, alloc)?;
@@ -76,7 +79,8 @@ const TO_FIRST: Reference = Reference {
 
 /// Adds the table again, which was refused memory: till then all is as it was.
 fn adds_table_again(rt: &(impl Abort + Print), alloc: Global, store: &mut Store) -> Result<(), Fail>
-    requires { length store.old.tables ≡ 4 }
+    requires four { length store.old.tables ≡ 4 }
+    requires log { store.old.stored.log ≡ [] }
 {
     asked_again(rt)?;
     assert_same(rt, store.len(), 4);
@@ -87,7 +91,8 @@ fn adds_table_again(rt: &(impl Abort + Print), alloc: Global, store: &mut Store)
 
 /// Adds a table to four, which refers to the first of them.
 fn adds_table(rt: &(impl Abort + Print), alloc: Global, store: &mut Store) -> Result<(), Fail>
-    requires { length store.old.tables ≡ 4 }
+    requires four { length store.old.tables ≡ 4 }
+    requires log { store.old.stored.log ≡ [] }
 {
     if store.add_table(alloc, TYPES, 0, &[TO_FIRST]).is_err() {
         adds_table_again(rt, alloc, store)?;

@@ -44,11 +44,11 @@ loop-place-preserved c = record {
       let same = c.loop-place.invariant.same in
       let changes = c.in_ok-indexed.ensures in
       let at = some_at c.args.view.now.store.tables (get_or c.args.tables.now k 0) (c.requires.there k 0 c.loop-place-test.true) in
-      let was = (table_seen c.args.view.now (get_or c.args.tables.now k 0) at.0 at.1).kept in
+      let is_table = table_seen c.args.view.now (get_or c.args.tables.now k 0) at.0 at.1 in
       counts_more c.args.query.now c.args.view.now.store c.args.changes.now c.args.tables.now row k at.0
       (count_of row (bag_of c.args.query.now (map (before_at c.args.view.now.store) c.args.tables.now))) (count_in row c.loop-place.comes.entries)
       (count_in row c.add_term.new.comes.entries)
-      (count_in row c.loop-place.goes.entries) (count_in row c.add_term.new.goes.entries) c.loop-place-test.true at.1 was c.requires.fit
+      (count_in row c.loop-place.goes.entries) (count_in row c.add_term.new.goes.entries) c.loop-place-test.true at.1 is_table c.requires.fit
       (c.loop-place.invariant.counts row)
       (subst (λ (s : Tables). count_in row c.add_term.new.comes.entries + count_in row c.loop-place.goes.entries
       + count_of row (bag_of c.args.query.now (lists_around 0 (after_at s c.args.changes.now) (gone_at s c.args.changes.now) (before_at s) c.args.tables.now k))

@@ -1,12 +1,11 @@
 -- The row of one reference more is read.
 use Rattle.std.proofs.Common.{◌≡◌, ◌+◌, ◌++◌, ◌∷◌, [], List, get_or, map, take, sym, ap, ◌∙◌, subst, arith}
-use Rattle.std.proofs.lemmas.List.{map-append}
-use Rattle.mm_partition.specs.Places.{slot_at}
+use Rattle.std.proofs.lemmas.List.{map-append, take_more}
+use Rattle.mm_partition.specs.Places.{slot_at, row_in}
 use Rattle.mm_partition.specs.Reads.{row_read}
 use Rattle.mm_partition.specs.Views.{viewed}
 use Rattle.mm_partition.specs.declared.row_read.RowRead.TheVariants.{Stored}
-use Rattle.mm_relation.specs.Refs.{row_at, row_in}
-use Rattle.mm_store.proofs.Lists.{take_more}
+use Rattle.mm_row_order.specs.Refs.{row_at}
 use Rattle.mm_store.specs.Tables.{IsAt, Tables}
 use Rattle.mm_value.specs.declared.row_ref.RowRef.{RowRef}
 use Rattle.mm_value.specs.declared.values.Value.{Value}

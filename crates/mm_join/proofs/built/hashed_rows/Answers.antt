@@ -2,10 +2,10 @@ use Rattle.std.proofs.Common.{◌≡◌, [], ◌∷◌, ◌++◌, length, length
 use Rattle.std.specs.List.Sorted.{IsPermutation}
 use Rattle.std.proofs.lemmas.List.{length-map}
 use Rattle.std.proofs.lemmas.List.Sorted.{IsPermutation-refl, length_permutation}
-use Rattle.mm_partition.specs.Places.{IsLive, slot_at}
+use Rattle.mm_partition.specs.Places.{IsLive, slot_at, row_in}
 use Rattle.mm_query.specs.Atoms.{value_in}
-use Rattle.mm_relation.specs.Refs.{row_at, row_in}
-use Rattle.mm_relation.proofs.Matches.{split_next}
+use Rattle.mm_row_order.specs.Refs.{row_at}
+use Rattle.mm_indexed.proofs.Matches.{split_next}
 use Rattle.mm_select.proofs.Walks.{holds_next, split_all}
 use Rattle.mm_store.proofs.Joining.{some_at}
 use Rattle.mm_store.specs.Tables.{IsAt, Tables}

@@ -1,7 +1,7 @@
 use Rattle.std.proofs.Common.{◌≡◌, ◌+◌, ◌≤◌, ◌++◌, length, map}
 use Rattle.std.specs.List.Sorted.{IsPermutation}
 use Rattle.mm_partition.specs.Places.{slot_at}
-use Rattle.mm_relation.specs.Kept.{StoredRows}
+use Rattle.mm_indexed.specs.Kept.{StoredRows}
 use Rattle.mm_store.specs.Tables.{IsAt}
 use Rattle.mm_join.specs.AccessMethods.{hashed_row}
 use Rattle.mm_join.proofs.built.hashed_rows.Given as goal

@@ -1,12 +1,11 @@
-use Rattle.std.proofs.Common.{◌≡◌, Option, Some, sym, ap, ◌∙◌, subst}
+use Rattle.std.proofs.Common.{◌≡◌, Option, Some, sym, ap, ◌∙◌, subst, ℕ}
 use Rattle.std.specs.Prelude.{IfSome, slice_get}
 use Rattle.std.specs.Option.{option_map}
-use Rattle.mm_partition.specs.Places.{slot_at}
+use Rattle.mm_partition.specs.Places.{slot_at, row_in}
 use Rattle.mm_query.specs.Atoms.{value_in}
-use Rattle.mm_relation.specs.Refs.{row_at, row_in}
+use Rattle.mm_row_order.specs.Refs.{row_at}
 use Rattle.mm_store.specs.Tables.{IsAt, Tables}
 use Rattle.mm_value.specs.Prefix.{order_prefix}
-use Rattle.std.proofs.Common.{ℕ}
 use Rattle.mm_join.proofs.Prefixed.{prefix_read}
 use Rattle.mm_join.proofs.column.prefix_there.Goals as goal
 

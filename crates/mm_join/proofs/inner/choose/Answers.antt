@@ -3,7 +3,7 @@ use Rattle.std.proofs.lemmas.List.{append-nil}
 use Rattle.std.proofs.lemmas.Option.{slice_get_within}
 use Rattle.mm_partition.specs.Views.{viewed}
 use Rattle.mm_query.specs.Queries.{rows_read}
-use Rattle.mm_relation.specs.Kept.{StoredRows}
+use Rattle.mm_indexed.specs.Kept.{StoredRows}
 use Rattle.mm_partition.specs.Places.{IsLive}
 use Rattle.mm_select.proofs.Walks.{row_given}
 use Rattle.mm_store.proofs.Joining.{one_relation}

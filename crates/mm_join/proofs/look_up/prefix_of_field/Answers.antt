@@ -4,7 +4,7 @@ use Rattle.std.specs.Prelude.{slice_get}
 use Rattle.std.proofs.lemmas.Option.{IfSome_then, slice_get_within}
 use Rattle.mm_partition.specs.Places.{IsLive}
 use Rattle.mm_query.specs.Atoms.{value_in}
-use Rattle.mm_relation.specs.Kept.{StoredRows}
+use Rattle.mm_indexed.specs.Kept.{StoredRows}
 use Rattle.mm_select.proofs.Fits.{row_here}
 use Rattle.mm_store.proofs.Joining.{one_relation}
 use Rattle.mm_value.specs.Prefix.{order_prefix}

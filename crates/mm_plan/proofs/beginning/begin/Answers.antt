@@ -7,7 +7,7 @@ use Rattle.mm_plan.proofs.beginning.begin.Goals as goal
 use Rattle.mm_plan.proofs.beginning.begin.Goals.{After-select-arg-1, in-Scan, in_default}
 use Rattle.mm_plan.specs.Steps.{HasKey, Reaches, may_look}
 use Rattle.mm_plan.specs.declared.step.Step.TheVariants as step
-use Rattle.mm_relation.specs.Kept.{StoredRows}
+use Rattle.mm_indexed.specs.Kept.{StoredRows}
 use Rattle.mm_select.specs.Accesses.{Asks, IsServed, is_along}
 use Rattle.mm_select.specs.Fitting.{AreFitting}
 use Rattle.mm_store.proofs.Joining.{some_at}

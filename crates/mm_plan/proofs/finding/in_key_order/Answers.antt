@@ -12,7 +12,7 @@ use Rattle.mm_plan.proofs.finding.in_key_order.Goals as goal
 
 pub returns-then-len-lt2-clause-found : goal.returns-then-len-lt2-clause-found
 returns-then-len-lt2-clause-found c = λ stored here.
-    few_in_order stored (table_seen c.args.view.now c.args.table stored here).kept c.args.refs.items (c.requires.live stored here)
+    few_in_order stored (table_seen c.args.view.now c.args.table stored here) c.args.refs.items (c.requires.live stored here)
     (omega (arith, c.len.ensures.value, c.if-len-lt2.true))
 
 pub with_keys-requires-clause-key : goal.with_keys-requires-clause-key
@@ -34,5 +34,5 @@ returns-clause-found c = λ stored here.
     (c.in_ok-rows.ensures.keys stored here) in
     c.in_ok-append_once.ensures ∙ ap (λ (xs : List RowRef). xs ++ once None (ats c.as_slice-2.result.now)) c.clear.ensures.items
     ∙ ap (λ rs. once None (ats rs)) c.as_slice-2.ensures.value
-    ∙ once_in_order stored (table_seen c.args.view.now c.args.table stored here).kept c.args.refs.items (c.requires.live stored here) sorted keys
+    ∙ once_in_order stored (table_seen c.args.view.now c.args.table stored here) c.args.refs.items (c.requires.live stored here) sorted keys
     c.sort_by_key.ensures.sorted same

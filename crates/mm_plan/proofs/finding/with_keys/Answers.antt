@@ -1,16 +1,14 @@
 use Rattle.std.proofs.Common.{◌≡◌, ◌+◌, ◌<◌, ◌++◌, ◌∷◌, [], get_or, length, map, take, sym, ap, ◌∙◌, subst, arith}
 use Rattle.std.specs.Prelude.{slice_get}
 use Rattle.std.specs.List.{All}
-use Rattle.std.proofs.lemmas.List.{map-append, take_all}
+use Rattle.std.proofs.lemmas.List.{map-append, take_all, take_more}
 use Rattle.std.proofs.lemmas.List.Elements.{All-get_or, All-push}
 use Rattle.mm_partition.specs.Views.{viewed}
-use Rattle.mm_partition.specs.Places.{IsLive}
+use Rattle.mm_partition.specs.Places.{IsLive, row_in}
 use Rattle.mm_plan.specs.Finding.{IsKeyed}
 use Rattle.mm_plan.specs.declared.finding.Keyed.{Keyed}
-use Rattle.mm_relation.proofs.Typed.{HasTypes-length}
-use Rattle.mm_relation.specs.Refs.{row_in}
+use Rattle.mm_indexed.proofs.Typed.{HasTypes-length}
 use Rattle.mm_store.proofs.Joining.{some_at}
-use Rattle.mm_store.proofs.Lists.{take_more}
 use Rattle.mm_store.specs.Tables.{IsAt, Tables}
 use Rattle.mm_value.specs.declared.row_ref.RowRef.{RowRef}
 use Rattle.mm_plan.proofs.finding.with_keys.Goals as goal

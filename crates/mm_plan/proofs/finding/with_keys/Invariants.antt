@@ -2,7 +2,7 @@ use Rattle.std.proofs.Common.{◌≡◌, ◌+◌, ◌≤◌, map, take}
 use Rattle.std.specs.List.{All}
 use Rattle.mm_plan.specs.Finding.{IsKeyed}
 use Rattle.mm_plan.specs.declared.finding.Keyed.{Keyed}
-use Rattle.mm_relation.specs.Kept.{StoredRows}
+use Rattle.mm_indexed.specs.Kept.{StoredRows}
 use Rattle.mm_store.specs.Tables.{IsAt}
 use Rattle.mm_plan.proofs.finding.with_keys.Given as goal
 

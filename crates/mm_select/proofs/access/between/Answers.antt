@@ -6,7 +6,7 @@ use Rattle.mm_select.proofs.Along.{appended}
 use Rattle.mm_select.proofs.Found.{range_along}
 use Rattle.mm_select.proofs.KeyWalks.{range_in_order}
 use Rattle.std.specs.Option.{option_copied}
-use Rattle.mm_relation.specs.Reads.{IsRange}
+use Rattle.mm_indexed.specs.Reads.{IsRange}
 use Rattle.mm_select.specs.Accesses.{AreAlong}
 use Rattle.mm_select.specs.declared.access.Access.TheVariants as access
 use Rattle.mm_store.proofs.Shown.{table_seen}
@@ -27,7 +27,7 @@ pub returns-clause-ordered : goal.returns-clause-ordered
 returns-clause-ordered c = λ stored at ordered.
     let on = c.requires.served stored at in
     c.from_vec.ensures.items
-    ∙ range_in_order stored (table_seen c.args.view.now c.args.table stored at).kept c.args.index c.args.column c.args.low c.args.high c.range.new.out.items on
+    ∙ range_in_order stored (table_seen c.args.view.now c.args.table stored at) c.args.index c.args.column c.args.low c.args.high c.range.new.out.items on
     (appended (IsRange c.args.column stored (option_copied c.args.low) (option_copied c.args.high)) c.new-found.result.items c.range.new.out.items
     c.new-found.ensures.items (rw (c.end_ref.ensures, c.end_ref-2.ensures) at (c.in_ok-range.ensures.ok stored c.args.column at on.0))) ordered
 

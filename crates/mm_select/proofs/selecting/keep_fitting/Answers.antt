@@ -4,8 +4,8 @@ use Rattle.std.specs.Prelude.{slice_set}
 use Rattle.std.proofs.lemmas.List.{get_or_default, length-set, take_at}
 use Rattle.mm_partition.specs.Places.{IsLive}
 use Rattle.mm_query.specs.Queries.{none_fails}
-use Rattle.mm_relation.proofs.Matches.{Keeping, Keeping-kept, Keeping-skipped, first_held}
-use Rattle.mm_relation.specs.Kept.{StoredRows}
+use Rattle.mm_indexed.proofs.Matches.{Keeping, Keeping-kept, Keeping-skipped, first_held}
+use Rattle.mm_indexed.specs.Kept.{StoredRows}
 use Rattle.mm_store.proofs.Joining.{some_at}
 use Rattle.mm_store.specs.Tables.{IsAt, Tables}
 use Rattle.mm_templist.specs.Combos.{row_of}

@@ -1,6 +1,6 @@
 use Rattle.std.proofs.Common.{◌≡◌, ◌≤◌, ◌+◌, [], ◌∷◌, Some}
 use Rattle.mm_query.specs.Queries.{none_fails}
-use Rattle.mm_relation.proofs.Matches.{Keeping}
+use Rattle.mm_indexed.proofs.Matches.{Keeping}
 use Rattle.mm_select.proofs.Covered.{IsCandidate}
 use Rattle.mm_templist.specs.Combos.{row_of}
 use Rattle.mm_select.proofs.selecting.keep_fitting.Given as goal

@@ -4,13 +4,13 @@ use Rattle.std.proofs.lemmas.List.{length-append, length_push}
 use Rattle.std.proofs.lemmas.List.Elements.{All-filter}
 use Rattle.mm_partition.specs.Places.{IsLive, slot_at}
 use Rattle.mm_query.specs.Queries.{none_fails}
-use Rattle.mm_relation.specs.Refs.{row_at}
+use Rattle.mm_row_order.specs.Refs.{row_at}
 use Rattle.mm_store.proofs.Joining.{some_at}
 use Rattle.mm_store.specs.Tables.{IsAt, Tables}
 use Rattle.mm_templist.specs.Combos.{row_of}
 use Rattle.mm_select.specs.Matches.{matching}
 use Rattle.mm_select.proofs.KeyWalks.{walk_counted}
-use Rattle.mm_relation.proofs.Matches.{split_next}
+use Rattle.mm_indexed.proofs.Matches.{split_next}
 use Rattle.mm_select.proofs.Walks.{holds_next, matching_more, matching_still, split_all}
 use Rattle.mm_select.proofs.selecting.scan.Goals as goal
 

@@ -3,11 +3,10 @@ use Rattle.std.proofs.Common.{◌≡◌, List, Option, Some, length, pos, refl, 
 use Rattle.std.specs.Option.{option_map, unwrap_or}
 use Rattle.std.proofs.lemmas.Bool.{ltb-false}
 use Rattle.std.proofs.lemmas.Option.{get_or_from_slice_get, slice_get_read, slice_get_within}
-use Rattle.mm_partition.specs.Places.{IsLive}
+use Rattle.mm_partition.specs.Places.{IsLive, row_in}
 use Rattle.mm_partition.specs.Views.{viewed}
 use Rattle.mm_query.specs.Atoms.{value_in}
-use Rattle.mm_relation.specs.Refs.{row_in}
-use Rattle.mm_relation.specs.Kept.{StoredRows}
+use Rattle.mm_indexed.specs.Kept.{StoredRows}
 use Rattle.mm_select.proofs.Fits.{row_here}
 use Rattle.mm_store.specs.Tables.{IsAt}
 use Rattle.mm_store.proofs.Joining.{one_relation}

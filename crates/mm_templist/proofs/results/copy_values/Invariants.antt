@@ -1,4 +1,4 @@
-use Rattle.std.proofs.Common.{◌≡◌, length, map, take}
+use Rattle.std.proofs.Common.{◌≡◌, length, take}
 use Rattle.mm_partition.specs.Views.{viewed}
 use Rattle.mm_query.specs.Queries.{rows_read, values_of}
 use Rattle.mm_templist.specs.Runs.{referred}

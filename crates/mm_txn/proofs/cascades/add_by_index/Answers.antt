@@ -1,11 +1,10 @@
 -- For each row that goes those are found that have its key.
 use Rattle.std.proofs.Common.{◌<◌, ◌++◌, [], ◌∷◌, length, slice_get, take, ap, ◌∙◌, subst, sym, arith}
 use Rattle.std.proofs.lemmas.List.{take_all, take_more}
-use Rattle.mm_partition.specs.Places.{slot_at}
+use Rattle.mm_partition.specs.Places.{slot_at, row_in}
 use Rattle.mm_partition.specs.Views.{viewed}
-use Rattle.mm_relation.proofs.Typed.{HasTypes-length}
-use Rattle.mm_relation.specs.Refs.{row_in}
-use Rattle.mm_relation.specs.declared.edits.Edit.{Edit}
+use Rattle.mm_indexed.proofs.Typed.{HasTypes-length}
+use Rattle.mm_store.specs.declared.edit.Edit.{Edit}
 use Rattle.mm_store.specs.Tables.{IsAt, Tables}
 use Rattle.mm_value.specs.Views.{value_of}
 use Rattle.mm_txn.specs.Cascades.{AddsReferrers}

@@ -2,8 +2,8 @@
 use Rattle.std.proofs.Common.{◌≡◌, true, false, List, [], ◌∷◌, ◌++◌, append_assoc, append-nil, ap, ◌∙◌, refl, subst, sym}
 use Rattle.std.specs.List.{All, filter}
 use Rattle.mm_partition.specs.Places.{IsLive, slot_at}
-use Rattle.mm_relation.specs.Refs.{row_at}
-use Rattle.mm_relation.proofs.Matches.{split_next}
+use Rattle.mm_row_order.specs.Refs.{row_at}
+use Rattle.mm_indexed.proofs.Matches.{split_next}
 use Rattle.mm_select.proofs.Walks.{holds_next, split_all}
 use Rattle.mm_value.specs.declared.row_ref.RowRef.{RowRef}
 use Rattle.mm_txn.specs.Cascades.{is_cascaded_by}
@@ -30,7 +30,7 @@ loop-at-preserved-in-Continue-branch-2 c = record {
       let row = row_at (slot_at stored.places) c.in-Some.at in
       let goes : is_cascaded_by c.args.view.now.store.tables cascade.column (cascade.to, cascade.gone.now) row ≡ true =
       sym (scan_goes c.args.view.now.store c.args.table cascade.column (cascade.to, cascade.gone.now) c.requires.cascade row c.follow-target.result
-      (c.follow-target.ensures stored at) (λ target there. (table_seen c.args.view.now cascade.to target there).kept))
+      (c.follow-target.ensures stored at) (λ target there. (table_seen c.args.view.now cascade.to target there).apart))
       ∙ sym (c.contains.ensures ∙ c.in_ok-gone.ensures c.follow-target.result) ∙ c.if-contains.true in
       c.in_ok-push.ensures.items ∙ ap (λ (xs : List RowRef). xs ++ c.in-Some.at ∷ []) (c.loop-at.invariant.added stored at)
       ∙ append_assoc c.args.found.now.items _ (c.in-Some.at ∷ [])
@@ -46,7 +46,7 @@ loop-at-preserved c = record {
       let row = row_at (slot_at stored.places) c.in-Some.at in
       let stays : is_cascaded_by c.args.view.now.store.tables cascade.column (cascade.to, cascade.gone.now) row ≡ false =
       sym (scan_goes c.args.view.now.store c.args.table cascade.column (cascade.to, cascade.gone.now) c.requires.cascade row c.follow-target.result
-      (c.follow-target.ensures stored at) (λ target there. (table_seen c.args.view.now cascade.to target there).kept))
+      (c.follow-target.ensures stored at) (λ target there. (table_seen c.args.view.now cascade.to target there).apart))
       ∙ sym (c.contains.ensures ∙ c.in_ok-gone.ensures c.follow-target.result) ∙ c.if-contains.false in
       c.loop-at.invariant.added stored at
       ∙ ap (λ (xs : List RowRef). c.args.found.now.items ++ xs) (sym (filter_push _ c.loop-at.yielded c.in-Some.at false stays ∙ append-nil _));

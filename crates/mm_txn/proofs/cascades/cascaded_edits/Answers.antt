@@ -6,10 +6,11 @@ use Rattle.std.proofs.lemmas.List.{take_all}
 use Rattle.std.proofs.lemmas.List.Elements.{All-nil}
 use Rattle.std.proofs.lemmas.Result.{IfOk-weaker}
 use Rattle.mm_partition.specs.Places.{IsLive, slot_at}
-use Rattle.mm_relation.specs.Before.{same_ref}
-use Rattle.mm_relation.specs.Kept.{StoredRows}
-use Rattle.mm_relation.specs.Refs.{row_at}
-use Rattle.mm_relation.specs.RowLists.{edit_pairs, rows_of}
+use Rattle.mm_tables.specs.Edits.{same_ref}
+use Rattle.mm_indexed.specs.Kept.{StoredRows}
+use Rattle.mm_row_order.specs.Refs.{row_at}
+use Rattle.mm_store.specs.RowEdits.{edit_pairs}
+use Rattle.mm_indexed.specs.RowLists.{rows_of}
 use Rattle.mm_schema.proofs.StrictOrder.{Contains-from_IsIn}
 use Rattle.mm_schema.proofs.Duplicates.{Row}
 use Rattle.mm_query.specs.Edits.{is_cascaded, removals_of}

@@ -1,5 +1,5 @@
 use Rattle.std.proofs.Common.{◌≡◌, [], map, take}
-use Rattle.mm_relation.specs.Kept.{StoredRows}
+use Rattle.mm_indexed.specs.Kept.{StoredRows}
 use Rattle.mm_store.specs.Tables.{IsAt}
 use Rattle.mm_txn.specs.Cascades.{AddsReferrers, is_cascaded_by_some, placed_cascade}
 use Rattle.mm_txn.proofs.cascades.cascaded_edits.Given as goal

@@ -1,13 +1,12 @@
 -- Table by table the cascaded rows are found.
-use Rattle.std.proofs.Common.{◌≡◌, ◌≢◌, ◌<◌, ◌≤◌, ◌+◌, List, [], ◌∷◌, ◌++◌, Some, drop, length, map, slice_get, ap, ◌∙◌, rules, subst, sym, arith}
-use Rattle.std.proofs.Common.{eq-eqb}
+use Rattle.std.proofs.Common.{◌≡◌, ◌≢◌, ◌<◌, ◌≤◌, ◌+◌, List, [], ◌∷◌, ◌++◌, Some, drop, length, map, slice_get, ap, ◌∙◌, rules, subst, sym, arith, eq-eqb}
 use Rattle.std.specs.List.{All, filter}
 use Rattle.std.proofs.lemmas.Bool.{eqb-true, false≢true}
 use Rattle.std.proofs.lemmas.Grind.{common_steps}
 use Rattle.std.proofs.lemmas.List.{map-append, nil_from_length}
 use Rattle.std.proofs.lemmas.List.Elements.{All-cons, All-nil, All-push, All-weaker}
-use Rattle.mm_relation.specs.Edits.{new_rows}
-use Rattle.mm_relation.specs.declared.edits.Edit.{Edit}
+use Rattle.mm_store.specs.RowEdits.{new_rows}
+use Rattle.mm_store.specs.declared.edit.Edit.{Edit}
 use Rattle.mm_schema.specs.declared.table.Table.{Table}
 use Rattle.mm_query.specs.Edits.{is_cascaded, removals_of, with_cascades}
 use Rattle.mm_store.specs.Tables.{rows_at}

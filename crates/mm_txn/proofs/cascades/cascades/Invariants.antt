@@ -1,6 +1,6 @@
 use Rattle.std.proofs.Common.{◌≡◌, ◌<◌, [], ◌∷◌, drop, map}
 use Rattle.std.specs.List.{All}
-use Rattle.mm_relation.specs.Edits.{new_rows}
+use Rattle.mm_store.specs.RowEdits.{new_rows}
 use Rattle.mm_query.specs.Edits.{with_cascades}
 use Rattle.mm_plan.specs.Kept.{instance_of}
 use Rattle.mm_txn.specs.PlacedEdits.{AreEdits, PlacedEdits, named, placed}

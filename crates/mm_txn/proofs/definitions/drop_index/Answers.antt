@@ -6,6 +6,7 @@ use Rattle.mm_schema.proofs.IndexLemmas.{lacks_nowhere}
 use Rattle.mm_value.specs.declared.refusal.Refusal.{Refusal}
 use Rattle.mm_value.specs.declared.refusal.Refusal.TheVariants.{NoSuchIndex}
 use Rattle.mm_plan.specs.Kept.{AreKept}
+use Rattle.mm_txn.proofs.GoingBack.{KeepsLog-refl}
 use Rattle.mm_txn.proofs.IndexSteps.{index_dropped, index_not_missing, index_there, with_index_there}
 use Rattle.mm_txn.proofs.KeptReferences.{kept_by_no_index}
 use Rattle.mm_txn.proofs.definitions.drop_index.Goals as goal
@@ -50,3 +51,15 @@ returns-clause-ok c =
     c.place_with_index.ensures.distinct c.in_ok-index.index (sym c.place_of.ensures ∙ c.in_ok-index.ensures.ok_part) c.drop_index-2.new.self.tables
     c.drop_index-2.ensures.tables in
     λ i. record { schema = c.in_ok-drop_index.ensures.ok i; rows = dropped.0 i; queries = []; saved = None }
+
+pub returns-in_err-table-clause-log : goal.returns-in_err-table-clause-log
+returns-in_err-table-clause-log c = KeepsLog-refl c.args.store.now
+
+pub returns-in_err-index-clause-log : goal.returns-in_err-index-clause-log
+returns-in_err-index-clause-log c = KeepsLog-refl c.args.store.now
+
+pub returns-in_err-drop_index-clause-log : goal.returns-in_err-drop_index-clause-log
+returns-in_err-drop_index-clause-log c = KeepsLog-refl c.args.store.now
+
+pub returns-clause-log : goal.returns-clause-log
+returns-clause-log c = record { log = c.drop_index-2.ensures.log; marks = c.drop_index-2.ensures.marks }

@@ -5,9 +5,9 @@ use Rattle.std.specs.List.{All, filter}
 use Rattle.mm_partition.specs.Places.{slot_at}
 use Rattle.mm_partition.specs.Types.{HasTypes}
 use Rattle.mm_plan.specs.Finding.{meets}
-use Rattle.mm_relation.specs.Edits.{new_rows}
-use Rattle.mm_relation.specs.Kept.{StoredRows}
-use Rattle.mm_relation.specs.RowLists.{rows_of}
+use Rattle.mm_store.specs.RowEdits.{new_rows}
+use Rattle.mm_indexed.specs.Kept.{StoredRows}
+use Rattle.mm_indexed.specs.RowLists.{rows_of}
 use Rattle.mm_schema.specs.Refused.{AnswersDue}
 use Rattle.mm_query.specs.Binding.{AssignmentsWithin, Binds}
 use Rattle.mm_query.specs.Edits.{removals_of}

@@ -1,10 +1,8 @@
 use Rattle.std.proofs.Common.{◌≡◌, List, [], ◌∷◌, ◌++◌, append_assoc, append-nil, map, ap, ◌∙◌, subst, sym}
 use Rattle.mm_value.specs.declared.values.Value.{Value}
-use Rattle.mm_relation.specs.Changes.{Standing}
-use Rattle.mm_relation.specs.Edits.{new_rows}
-use Rattle.mm_relation.specs.RowLists.{edit_pairs}
-use Rattle.mm_relation.specs.declared.edits.Edit.{Edit}
-use Rattle.mm_relation.specs.declared.edits.Edit.TheVariants.{Add}
+use Rattle.mm_store.specs.RowEdits.{Standing, new_rows, edit_pairs}
+use Rattle.mm_store.specs.declared.edit.Edit.{Edit}
+use Rattle.mm_store.specs.declared.edit.Edit.TheVariants.{Add}
 use Rattle.mm_txn.proofs.EditsMade.{Standing-added, edit_pairs-added, new_rows-added}
 use Rattle.mm_txn.proofs.row_edits.additions.Goals as goal
 

@@ -1,5 +1,5 @@
 use Rattle.std.proofs.Common.{◌≡◌, ◌++◌, map}
-use Rattle.mm_relation.specs.declared.edits.Edit.TheVariants.{Add}
+use Rattle.mm_store.specs.declared.edit.Edit.TheVariants.{Add}
 use Rattle.mm_txn.proofs.row_edits.additions.Given as goal
 
 -- the additions of the rows so far and those of the rows to come are those of all rows

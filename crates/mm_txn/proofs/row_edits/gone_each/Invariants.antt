@@ -1,5 +1,5 @@
 use Rattle.std.proofs.Common.{◌≡◌, map, take}
-use Rattle.mm_relation.specs.declared.edits.Edit.TheVariants.{Gone}
+use Rattle.mm_store.specs.declared.edit.Edit.TheVariants.{Gone}
 use Rattle.mm_txn.proofs.row_edits.gone_each.Given as goal
 
 -- the edits of the references so far were made

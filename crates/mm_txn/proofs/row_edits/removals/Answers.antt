@@ -3,9 +3,9 @@ use Rattle.std.specs.Prelude.{IfOk}
 use Rattle.std.proofs.lemmas.Result.{IfOk-weaker}
 use Rattle.mm_partition.specs.Places.{slot_at}
 use Rattle.mm_plan.specs.Finding.{meets}
-use Rattle.mm_relation.specs.Refs.{row_at}
-use Rattle.mm_relation.specs.RowLists.{edit_pairs}
-use Rattle.mm_relation.specs.declared.edits.Edit.TheVariants.{Gone}
+use Rattle.mm_row_order.specs.Refs.{row_at}
+use Rattle.mm_store.specs.RowEdits.{edit_pairs}
+use Rattle.mm_store.specs.declared.edit.Edit.TheVariants.{Gone}
 use Rattle.mm_value.specs.declared.row_ref.RowRef.{RowRef}
 use Rattle.mm_store.proofs.Shown.{table_seen}
 use Rattle.mm_store.specs.Tables.{AreFit}

@@ -4,16 +4,15 @@ use Rattle.std.specs.List.{list_any}
 use Rattle.std.proofs.lemmas.List.{map-append, take_all}
 use Rattle.std.proofs.lemmas.List.Elements.{All-get_or}
 use Rattle.std.proofs.lemmas.Result.{err_from_is_err_and}
-use Rattle.mm_partition.specs.Places.{IsLive, slot_at}
+use Rattle.mm_partition.specs.Places.{IsLive, slot_at, row_in}
 use Rattle.mm_partition.specs.Views.{viewed}
 use Rattle.mm_query.specs.Atoms.{is_past_range, updated_row}
 use Rattle.mm_query.specs.Binding.{AssignmentsWithin}
-use Rattle.mm_relation.proofs.Typed.{HasTypes-length}
-use Rattle.mm_relation.specs.Kept.{StoredRows}
-use Rattle.mm_relation.specs.Refs.{row_in}
-use Rattle.mm_relation.specs.declared.edits.Edit.TheVariants.{Swap}
+use Rattle.mm_indexed.proofs.Typed.{HasTypes-length}
+use Rattle.mm_indexed.specs.Kept.{StoredRows}
+use Rattle.mm_store.specs.declared.edit.Edit.TheVariants.{Swap}
 use Rattle.mm_store.proofs.Joining.{some_at}
-use Rattle.mm_store.proofs.Lists.{take_more}
+use Rattle.std.proofs.lemmas.List.{take_more}
 use Rattle.mm_store.specs.Tables.{IsAt, Tables}
 use Rattle.mm_value.specs.declared.row_ref.RowRef.{RowRef}
 use Rattle.mm_txn.specs.RowEdits.{swap_of}

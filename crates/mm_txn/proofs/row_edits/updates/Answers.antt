@@ -4,10 +4,9 @@ use Rattle.std.proofs.lemmas.Result.{IfOk-weaker}
 use Rattle.mm_partition.specs.Places.{IsLive, slot_at}
 use Rattle.mm_plan.specs.Finding.{meets}
 use Rattle.mm_query.specs.Atoms.{range_conditions}
-use Rattle.mm_relation.specs.Changes.{Standing}
-use Rattle.mm_relation.specs.Kept.{StoredRows}
-use Rattle.mm_relation.specs.Refs.{row_at}
-use Rattle.mm_relation.specs.RowLists.{edit_pairs}
+use Rattle.mm_store.specs.RowEdits.{Standing, edit_pairs}
+use Rattle.mm_indexed.specs.Kept.{StoredRows}
+use Rattle.mm_row_order.specs.Refs.{row_at}
 use Rattle.mm_schema.specs.Refused.{AnswersDue, first_refusal}
 use Rattle.mm_store.proofs.Shown.{table_seen}
 use Rattle.mm_store.specs.Tables.{IsAt, Tables}

@@ -2,7 +2,7 @@ use Rattle.std.proofs.Common.{◌++◌, ◌∷◌, [], length, map, take, sym, a
 use Rattle.std.proofs.lemmas.List.{map-append, take_all}
 use Rattle.std.proofs.lemmas.Option.{get_or_from_slice_get, slice_get_within}
 use Rattle.mm_partition.specs.Views.{viewed}
-use Rattle.mm_store.proofs.Lists.{take_more}
+use Rattle.std.proofs.lemmas.List.{take_more}
 use Rattle.mm_value.specs.Views.{value_of}
 use Rattle.mm_txn.proofs.rows.read_values.Goals as goal
 

@@ -1,59 +1,80 @@
--- The lists follow the rows, and each mark stays.
-use Rattle.std.proofs.Common.{◌≤◌, List, length, refl, sym, ap, subst, ◌∙◌, arith}
-use Rattle.std.proofs.lemmas.List.{length_push}
+-- The lists follow the rows, and each mark stays. Where a change is refused, rows and lists go back to what they were.
+use Rattle.std.proofs.Common.{◌≡◌, ◌≤◌, ℕ, List, OnOk, Ok, Err, length, map, sym, ap, subst, ◌∙◌, arith}
+use Rattle.std.specs.Prelude.{Result}
+use Rattle.std.specs.Result.{result_and}
+use Rattle.mm_value.specs.declared.refusal.Refusal.{Refusal}
 use Rattle.mm_delta.specs.Edited.{before_at}
-use Rattle.mm_relation.specs.Kept.{StoredRows}
-use Rattle.mm_relation.specs.RowLists.{rows_of}
-use Rattle.mm_relation.specs.declared.edits.Edit.{Edit}
+use Rattle.mm_indexed.specs.Kept.{StoredRows}
+use Rattle.mm_indexed.specs.RowLists.{rows_of}
+use Rattle.mm_store.proofs.MarkLaws.{KeepsMarks-then}
+use Rattle.mm_store.specs.Marks.{KeepsMarks, mark_of}
+use Rattle.mm_store.specs.Tables.{Tables}
+use Rattle.mm_store.specs.declared.edit.Edit.{Edit}
 use Rattle.mm_standing.specs.State.{FitPrepared, Lists, count_at, count_now}
 use Rattle.mm_standing.specs.declared.change.ListChange.{ListChange}
-use Rattle.mm_store.specs.Tables.{rows_with}
-use Rattle.mm_store.specs.Snapshots.{Logged}
-use Rattle.store_tests.proofs.PlainStores.{kept}
+use Rattle.store_tests.proofs.PlainStores.{plain_formed}
 use Rattle.standing_tests.specs.Cases.{rows_edited}
-use Rattle.standing_tests.proofs.CaseSteps.{case_listed, case_still, mark_still}
+use Rattle.standing_tests.proofs.CaseSteps.{case_still, mark_still}
 use Rattle.standing_tests.proofs.ListCounts.{counts_still, fit_made, older_made, same_at, same_now, undone_made}
 use Rattle.standing_tests.proofs.NumberRows.{numbers_edited}
-use Rattle.standing_tests.proofs.TableRows.{rows_kept, rows_made}
+use Rattle.standing_tests.proofs.TableRows.{before_same, rows_made}
 use Rattle.standing_tests.proofs.steps.make_edits.Goals as goal
+use Rattle.standing_tests.proofs.steps.make_edits.Goals.{After-discard}
 
-pub returns-in_err-prepare-clause-case : goal.returns-in_err-prepare-clause-case
-returns-in_err-prepare-clause-case c =
-    case_listed c.args.store.now c.args.undo.now c.args.standing.now c.prepare.new.standing c.prepare.ensures.queries
-    (same_now c.args.standing.now c.prepare.new.standing c.prepare.ensures.entries) c.in_err-prepare.ensures.err c.requires.case
+-- If both results are fine, so is each.
+first_ok : (r s : Result Unit Refusal) (u : Unit) {P : Type 0} → result_and r s ≡ Ok u → OnOk r P → P
+first_ok (Ok x) s u e p = p
+first_ok (Err x) s u e p = let no : Err x ≡ Ok u = e in cc
 
-pub returns-in_err-prepare-clause-marks : goal.returns-in_err-prepare-clause-marks
-returns-in_err-prepare-clause-marks c = λ commands changes mark.
-    mark_still c.args.store.now c.args.store.now c.args.undo.now c.args.undo.now c.args.standing.now c.prepare.new.standing c.prepare.ensures.queries
-    commands changes mark.commands_there (subst (λ (cs : List ListChange). changes ≤ length cs) (sym c.prepare.ensures.log) mark.changes_there) refl
-    (same_at c.args.standing.now c.prepare.new.standing c.prepare.ensures.entries c.prepare.ensures.log changes) mark
+second_ok : (r s : Result Unit Refusal) (u : Unit) {P : Type 0} → result_and r s ≡ Ok u → OnOk s P → P
+second_ok (Ok x) (Ok y) u e p = p
+second_ok (Ok x) (Err y) u e p = let no : Err y ≡ Ok u = e in cc
+second_ok (Err x) s u e p = let no : Err x ≡ Ok u = e in cc
+
+-- The marks of the log as it was.
+marks_back : (c : After-discard) → (mark : ℕ) → mark ≤ mark_of c.args.store.now → KeepsMarks c.args.store.now c.revert.new.self mark
+marks_back c mark within =
+    KeepsMarks-then c.args.store.now c.apply.new.self c.revert.new.self mark (c.apply.ensures.marks mark within)
+    (c.revert.ensures.marks mark (subst (λ n. mark ≤ n) (sym c.mark-mark.ensures.mark) within))
+
+rows_back : (c : After-discard) → map (λ (s : StoredRows). rows_of s) c.revert.new.self.tables ≡ map (λ (s : StoredRows). rows_of s) c.args.store.now.tables
+rows_back c =
+    c.revert.ensures.rows
+    ∙ ((c.apply.ensures.marks c.mark-mark.result (omega (arith, c.mark-mark.ensures.mark))).rows ∙ c.mark-mark.ensures.rows)
+
+pub revert-requires : goal.revert-requires
+revert-requires c =
+    record { mark = (c.apply.ensures.marks c.mark-mark.result (omega (arith, c.mark-mark.ensures.mark))).kept c.mark-mark.ensures.is }
 
 pub returns-in-Err-clause-case : goal.returns-in-Err-clause-case
 returns-in-Err-clause-case c =
     let store = c.args.store.now in
     let lists = c.args.standing.now in
-    let new = c.apply.new.self in
+    let mid = c.apply.new.self in
+    let new = c.revert.new.self in
     let left = c.discard.new.self in
-    let same = kept store new c.args.table c.requires.there c.requires.case.plain rows_of c.in-Err.ensures.err in
-    let queries = ap (λ (l : Lists). l.queries) c.discard.ensures ∙ c.prepare.ensures.queries in
-    case_still store new c.args.undo.now c.apply.new.undo lists left queries c.requires.case same.0 same.1 c.apply.ensures.fits
-    (before_at store) (rows_kept store new c.args.table c.requires.there c.in-Err.ensures.err) c.requires.case.typed
+    let first = c.apply.ensures.form.size in
+    let second = c.revert.ensures.form.size in
+    let queries = ap (λ (l : Lists). l.queries) c.discard.ensures ∙ c.prepare-prepared.ensures.queries in
+    case_still store new lists left queries c.requires.case (omega arith)
+    (plain_formed mid new c.revert.ensures.form (plain_formed store mid c.apply.ensures.form c.requires.case.plain))
+    (before_at store) (before_same store new (rows_back c)) c.requires.case.typed
     (counts_still (count_now lists) (count_now left) (before_at store) lists.queries left.queries queries
-    (λ list row. ap (λ (l : Lists). count_now l list row) c.discard.ensures ∙ same_now lists c.prepare.new.standing c.prepare.ensures.entries list row)
+    (λ list row. ap (λ (l : Lists). count_now l list row) c.discard.ensures
+    ∙ same_now lists c.prepare-prepared.new.standing c.prepare-prepared.ensures.entries list row)
     c.requires.case.fits)
     (ap (λ (l : Lists). l.prepared) c.discard.ensures)
 
 pub returns-in-Err-clause-marks : goal.returns-in-Err-clause-marks
 returns-in-Err-clause-marks c = λ commands changes mark.
     let lists = c.args.standing.now in
-    let log = ap (λ (l : Lists). l.log) c.discard.ensures ∙ c.prepare.ensures.log in
-    mark_still c.args.store.now c.apply.new.self c.args.undo.now c.apply.new.undo lists c.discard.new.self
-    (ap (λ (l : Lists). l.queries) c.discard.ensures ∙ c.prepare.ensures.queries) commands changes
-    (subst (λ (ns : List Logged). commands ≤ length ns) (sym c.in-Err.ensures.kept) mark.commands_there)
+    let log = ap (λ (l : Lists). l.log) c.discard.ensures ∙ c.prepare-prepared.ensures.log in
+    mark_still c.args.store.now c.revert.new.self lists c.discard.new.self
+    (ap (λ (l : Lists). l.queries) c.discard.ensures ∙ c.prepare-prepared.ensures.queries) commands changes
+    (marks_back c commands mark.commands_there.within)
     (subst (λ (cs : List ListChange). changes ≤ length cs) (sym log) mark.changes_there)
-    (c.apply.ensures.rows_before commands mark.commands_there)
     (λ list row. ap (λ (l : Lists). count_at changes list row l) c.discard.ensures
-    ∙ same_at lists c.prepare.new.standing c.prepare.ensures.entries c.prepare.ensures.log changes list row)
+    ∙ same_at lists c.prepare-prepared.new.standing c.prepare-prepared.ensures.entries c.prepare-prepared.ensures.log changes list row)
     mark
 
 pub returns-clause-case : goal.returns-clause-case
@@ -61,32 +82,29 @@ returns-clause-case c =
     let store = c.args.store.now in
     let lists = c.args.standing.now in
     let new = c.apply.new.self in
-    let mid = c.prepare.new.standing in
+    let mid = c.prepare-prepared.new.standing in
     let left = c.apply_prepared.new.self in
     let rows = rows_edited store c.args.table c.args.edits in
-    let same = kept store new c.args.table c.requires.there c.requires.case.plain (λ (s : StoredRows). rows_with s c.args.edits)
-    c.in_default.ensures.ok in
-    case_still store new c.args.undo.now c.apply.new.undo lists left (c.apply_prepared.ensures.queries ∙ c.prepare.ensures.queries) c.requires.case
-    same.0 same.1 c.apply.ensures.fits rows (rows_made store new c.args.table c.requires.there c.args.edits c.in_default.ensures.ok)
+    let size = c.apply.ensures.form.size in
+    case_still store new lists left (c.apply_prepared.ensures.queries ∙ c.prepare-prepared.ensures.queries) c.requires.case
+    (omega arith) (plain_formed store new c.apply.ensures.form c.requires.case.plain) rows
+    (rows_made store new c.args.table c.requires.there c.args.edits
+    (first_ok c.apply.result c.prepare-prepared.result c.in_default.field-0 (sym c.in_default.ensures) c.apply.ensures.ok))
     (numbers_edited store c.args.table c.args.edits c.requires.case.plain c.requires.case.typed c.requires.fit)
     (fit_made lists mid left c.apply_prepared.ensures.made rows
-    (subst (λ (es : List Edit). FitPrepared (rows_edited store c.args.table es) mid) c.as_slice-2.ensures c.in_ok-prepare.ensures.ok)
+    (subst (λ (es : List Edit). FitPrepared (rows_edited store c.args.table es) mid) c.as_slice.ensures
+    (second_ok c.apply.result c.prepare-prepared.result c.in_default.field-0 (sym c.in_default.ensures) c.prepare-prepared.ensures.ok))
     c.apply_prepared.ensures.queries)
     c.apply_prepared.ensures.prepared
 
 pub returns-clause-marks : goal.returns-clause-marks
 returns-clause-marks c = λ commands changes mark.
     let lists = c.args.standing.now in
-    let mid = c.prepare.new.standing in
+    let mid = c.prepare-prepared.new.standing in
     let left = c.apply_prepared.new.self in
-    let logged = c.in_default.ensures.logged in
-    let longer = ap (λ (ns : List Logged). length ns) logged.2 in
-    let pushed = length_push c.args.undo.now (record { table = c.args.table; entries = logged.0; room = logged.1 }) in
-    let older = older_made lists mid left c.apply_prepared.ensures.made c.prepare.ensures.log in
-    let commands_there = mark.commands_there in
+    let older = older_made lists mid left c.apply_prepared.ensures.made c.prepare-prepared.ensures.log in
     let changes_there = mark.changes_there in
-    mark_still c.args.store.now c.apply.new.self c.args.undo.now c.apply.new.undo lists left
-    (c.apply_prepared.ensures.queries ∙ c.prepare.ensures.queries) commands changes (omega arith) (omega arith)
-    (c.apply.ensures.rows_before commands commands_there)
-    (undone_made lists mid left c.apply_prepared.ensures.made c.prepare.ensures.entries c.prepare.ensures.log changes changes_there)
+    mark_still c.args.store.now c.apply.new.self lists left (c.apply_prepared.ensures.queries ∙ c.prepare-prepared.ensures.queries) commands changes
+    (c.apply.ensures.marks commands mark.commands_there.within) (omega arith)
+    (undone_made lists mid left c.apply_prepared.ensures.made c.prepare-prepared.ensures.entries c.prepare-prepared.ensures.log changes changes_there)
     mark

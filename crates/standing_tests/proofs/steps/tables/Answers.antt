@@ -4,7 +4,7 @@ use Rattle.std.specs.List.{All}
 use Rattle.std.proofs.lemmas.List.Elements.{All-nil}
 use Rattle.mm_delta.specs.Edited.{before_at}
 use Rattle.mm_partition.specs.Types.{HasTypes}
-use Rattle.mm_relation.specs.Kept.{StoredRows}
+use Rattle.mm_indexed.specs.Kept.{StoredRows}
 use Rattle.mm_standing.specs.Queries.{RowsByPlace}
 use Rattle.mm_store.specs.Tables.{Tables, rows_at}
 use Rattle.store_tests.specs.SampleStore.{plain_types}

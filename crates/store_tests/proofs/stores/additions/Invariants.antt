@@ -1,6 +1,5 @@
 use Rattle.std.proofs.Common.{◌≡◌, []}
-use Rattle.mm_relation.specs.Edits.{new_rows}
-use Rattle.mm_relation.proofs.Changed.{olds}
+use Rattle.mm_store.specs.RowEdits.{new_rows, old_refs}
 use Rattle.store_tests.proofs.SampleEdits.{AreTyped}
 use Rattle.store_tests.specs.SampleStore.{plain_types}
 use Rattle.store_tests.proofs.stores.additions.Given as goal
@@ -8,6 +7,6 @@ use Rattle.store_tests.proofs.stores.additions.Given as goal
 -- the edits so far name no rows, and their rows have the types of the tables
 abbrev pub invariant-loop-key : goal.invariant-loop-key
 invariant-loop-key l = record {
-  none : olds l.edits ≡ [];
+  none : old_refs l.edits ≡ [];
   typed : AreTyped plain_types (new_rows l.edits);
 }

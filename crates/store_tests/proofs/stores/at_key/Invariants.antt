@@ -1,6 +1,6 @@
 use Rattle.std.specs.List.{All}
 use Rattle.mm_partition.specs.Places.{IsLive}
-use Rattle.mm_relation.specs.Kept.{StoredRows}
+use Rattle.mm_indexed.specs.Kept.{StoredRows}
 use Rattle.mm_store.specs.Tables.{IsAt}
 use Rattle.store_tests.proofs.stores.at_key.Given as goal
 

@@ -1,18 +1,15 @@
 use Rattle.std.proofs.Common.{◌+◌, [], map, ◌∙◌, subst, sym, arith}
 use Rattle.mm_partition.specs.Reads.{row_read}
 use Rattle.mm_partition.specs.Places.{IsLive, slot_at}
-use Rattle.mm_relation.specs.Edits.{edit_name}
-use Rattle.mm_relation.specs.declared.indexes.names.Side.TheVariants.{Old}
-use Rattle.mm_relation.proofs.Gathered.{All-one_gathered}
 use Rattle.mm_store.specs.Tables.{IsAt}
 use Rattle.mm_delta.specs.Unseen.{come_seen, gone_seen}
 use Rattle.mm_delta.proofs.Placed.{coming_more}
-use Rattle.mm_delta.proofs.UnseenEdits.{first_named, one_named}
+use Rattle.mm_delta.proofs.UnseenEdits.{first_named, one_named, one_taken}
 use Rattle.mm_delta.proofs.unseen.Sight.seen_rows.Goals as goal
 
 pub add_seen-requires-clause-live : goal.add_seen-requires-clause-live
 add_seen-requires-clause-live c = λ stored at.
-    All-one_gathered (λ e. edit_name e Old) (IsLive stored.places) c.args.edits.now c.loop-edit.edit-index c.edit-item.result c.loop-edit-test.true
+    one_taken (IsLive stored.places) c.args.edits.now c.loop-edit.edit-index c.edit-item.result c.loop-edit-test.true
     c.edit-item.is
     (c.requires.fit stored (subst (λ s. IsAt s c.args.table stored) c.loop-edit.invariant.same at)).standing.live
 

@@ -3,7 +3,7 @@ use Rattle.std.specs.List.{All}
 use Rattle.std.proofs.lemmas.List.Elements.{All-filter}
 use Rattle.mm_partition.specs.Reads.{row_read}
 use Rattle.mm_partition.specs.Places.{IsLive, slot_at}
-use Rattle.mm_relation.specs.Refs.{row_at}
+use Rattle.mm_row_order.specs.Refs.{row_at}
 use Rattle.mm_store.proofs.Joining.{some_at}
 use Rattle.mm_store.proofs.Shown.{table_seen}
 use Rattle.mm_store.specs.Tables.{AreFit, rows_with}
@@ -61,7 +61,7 @@ returns-clause-rows c =
     (λ i. having (c.in_ok-look_up.ensures.ok i)
     ((ap (rows_with at.0) c.edits_at-edits.ensures ∙ sym (walked_is c.args.view.now.store c.args.self.now.changes.now c.args.self.now.tables.now
     c.args.self.now.place c.args.place at.0 at.1)) i))
-    (found_alike at.0 (table_seen c.args.view.now (get_or c.args.self.now.tables.now c.args.place 0) at.0 at.1).kept r c.in_ok-refs.refs.items
+    (found_alike at.0 (table_seen c.args.view.now (get_or c.args.self.now.tables.now c.args.place 0) at.0 at.1) r c.in_ok-refs.refs.items
     (c.in_ok-refs.ensures at.0 at.1) edits
     (subst (AreFit at.0) (sym c.edits_at-edits.ensures) (fit_walked c.args.view.now.store c.args.self.now.changes.now c.args.self.now.place c.args.place
     (get_or c.args.self.now.tables.now c.args.place 0) at.0 c.requires.fit at.1))

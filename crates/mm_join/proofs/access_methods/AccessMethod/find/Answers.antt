@@ -1,8 +1,9 @@
 use Rattle.std.proofs.Common.{◌≡◌, ◌<◌, [], ◌∷◌, ◌++◌, Some, get_or, map, refl, sym, ap, ◌∙◌, subst, arith}
+use Rattle.std.proofs.lemmas.Option.{slice_get_within}
 use Rattle.mm_partition.specs.Views.{viewed}
 use Rattle.mm_query.specs.Queries.{rows_read}
 use Rattle.mm_partition.specs.Places.{IsLive}
-use Rattle.mm_relation.specs.Kept.{StoredRows}
+use Rattle.mm_indexed.specs.Kept.{StoredRows}
 use Rattle.mm_store.proofs.Joining.{one_relation, some_at}
 use Rattle.mm_store.proofs.Shown.{table_seen}
 use Rattle.mm_store.specs.Tables.{rows_at}
@@ -29,6 +30,16 @@ partner-requires-clause-reference c =
     let (stored, here) = some_at store.tables c.args.inner.now.table c.requires.there in
     let asked = subst (IsAccessMethod store c.args.outer.tables.now c.args.inner.now) c.in-Followed.is c.requires.method stored here in
     subst (λ n. c.in-Followed.field.place < n) (sym (live_length store c.args.outer.tables.now c.args.outer.refs.now c.requires.live)) asked.0
+
+pub partner-requires-clause-there : goal.partner-requires-clause-there
+partner-requires-clause-there c =
+    let store = c.args.view.now.store in
+    let (target, here) = some_at store.tables c.args.inner.now.table c.requires.there in
+    let asked = subst (IsAccessMethod store c.args.outer.tables.now c.args.inner.now) c.in-Followed.is c.requires.method target here in
+    let outer = c.args.outer in
+    let place = c.in-Followed.field.place in
+    let source = live_at store outer.tables.now outer.refs.now c.requires.live place (record { slot = 0 }) asked.0 in
+    slice_get_within store.tables (get_or outer.tables.now place 0) source.0 source.1
 
 pub partner-requires-clause-refers : goal.partner-requires-clause-refers
 partner-requires-clause-refers c =
@@ -69,13 +80,12 @@ returns-in_ok-push-in-Followed-clause-found c =
     let field = c.in-Followed.field in
     let rows = rows_of_combo store outer.tables.now outer.refs.now in
     let (stored, here) = some_at store.tables inner.table c.requires.there in
-    let kept = (table_seen c.args.view.now inner.table stored here).kept in
     let asked = subst (IsAccessMethod store outer.tables.now inner) c.in-Followed.is c.requires.method stored here in
     let d : RowRef = record { slot = 0 } in
     let one : c.push.new.self.items ≡ c.partner.result ∷ [] = c.in_ok-push-in-Followed.ensures.items
     ∙ ap (λ l. l ++ c.partner.result ∷ []) c.clear.ensures.items in
-    let have = partner_have store outer.tables.now outer.refs.now c.requires.live field asked.0 (map Some rows) refl inner.table stored here kept d
-    asked.1.1 c.partner.result c.partner.ensures in
+    let have = partner_have store outer.tables.now outer.refs.now c.requires.live field asked.0 (map Some rows) refl inner.table stored here
+    (table_seen c.args.view.now inner.table stored here) d asked.1.1 c.partner.result c.partner.ensures in
     subst (λ (w : AccessMethod). AreCandidates store inner.table inner.atoms.now rows (found_behind w (rows_at store.tables inner.table) rows)
     (listed w c.push.new.self.items)) (sym c.in-Followed.is)
     (subst (AreCandidates store inner.table inner.atoms.now rows 1) (sym one)

@@ -1,4 +1,4 @@
-use Rattle.std.proofs.Common.{rules, ◌≡◌, FitsSigned, pos, map, of_z, to_z, sym, ap, ◌∙◌, subst}
+use Rattle.std.proofs.Common.{rules, ◌≡◌, FitsSigned, pos, of_z, to_z, sym, ap, ◌∙◌, subst}
 use Rattle.std.proofs.lemmas.Int.{to_z-of_z}
 use Rattle.std.specs.Prelude.{OnOk}
 use Rattle.std.specs.Int.{w64}
@@ -6,7 +6,7 @@ use Rattle.std.specs.Option.{unwrap_or}
 use Rattle.mm_partition.specs.Views.{viewed}
 use Rattle.mm_query.specs.Atoms.{shifted}
 use Rattle.mm_query.specs.Queries.{rows_read, value_at}
-use Rattle.mm_relation.specs.Kept.{StoredRows}
+use Rattle.mm_indexed.specs.Kept.{StoredRows}
 use Rattle.mm_store.specs.Tables.{IsAt}
 use Rattle.mm_value.specs.Views.{value_of}
 use Rattle.mm_value.specs.declared.values.Value.{Value}

@@ -6,8 +6,8 @@ use Rattle.std.proofs.lemmas.Bool.{eq-eqb}
 use Rattle.mlhash.specs.Bag.{refs_of}
 use Rattle.mm_partition.specs.Places.{slot_at}
 use Rattle.mm_query.specs.Atoms.{value_in}
-use Rattle.mm_relation.specs.Reads.{AreMatches}
-use Rattle.mm_relation.specs.Refs.{row_at}
+use Rattle.mm_indexed.specs.Reads.{AreMatches}
+use Rattle.mm_row_order.specs.Refs.{row_at}
 use Rattle.mm_select.proofs.Along.{appended}
 use Rattle.mm_value.specs.Hash.{value_hash}
 use Rattle.mm_value.specs.Prefix.{order_prefix}

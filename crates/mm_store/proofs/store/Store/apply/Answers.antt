@@ -1,168 +1,90 @@
-use Rattle.std.proofs.Common.{◌≡◌, ℕ, ◌+◌, ◌≤◌, List, [], ◌∷◌, ◌++◌, length, slice_set, refl, sym, ap, ◌∙◌, subst}
-use Rattle.std.specs.Prelude.{drop, map}
-use Rattle.std.proofs.lemmas.List.{drop-append-le, map-append}
-use Rattle.std.proofs.lemmas.Result.{err_from_is_err_and}
-use Rattle.mm_relation.specs.Kept.{SameButRoom, StoredRows}
-use Rattle.mm_relation.specs.declared.index_room.IndexRoom.{IndexRoom}
-use Rattle.mm_relation.specs.declared.log.UndoRecord.{UndoRecord}
-use Rattle.mm_relation.proofs.Rooms.{slots_same}
-use Rattle.mm_store.specs.Commands.{IsEdited, plus}
-use Rattle.mm_store.specs.Tables.{IsAt, Turns}
-use Rattle.mm_store.specs.Tally.{IsTallied, count_of, logged_of}
-use Rattle.mm_store.specs.Undoing.{CanUndo, HasSpare, headings_of, undo_room}
-use Rattle.mm_store.specs.Snapshots.{Logged, back_all, snapshot_of}
-use Rattle.mm_store.specs.declared.undo.LoggedCommand.{LoggedCommand}
-use Rattle.mm_store.proofs.Applied.{set_own}
-use Rattle.mm_store.proofs.Applying.{HasRows-same, SameButRoom-refl}
-use Rattle.mm_store.proofs.Joining.{some_at}
-use Rattle.mm_store.proofs.MarkLaws.{rows_at_mark-same}
-use Rattle.mm_store.proofs.UndoRoom.{IsTallied-filled, IsTallied-push}
-use Rattle.mm_store.proofs.UndoLaws.{CanUndo-grown, CanUndo-logged}
-use Rattle.mm_store.proofs.Snapshots.{back_all-append, back_is_old, headings_turned, snapshot_same}
+use Rattle.std.proofs.Common.{ℕ, List, length, ap, ◌∙◌, sym, subst, arith}
+use Rattle.std.specs.List.{All}
+use Rattle.std.specs.Prelude.{OnErr}
+use Rattle.std.proofs.lemmas.Result.{on_err_weaker, on_ok_weaker}
+use Rattle.mm_base.proofs.Keeping.{keys_from_shapes}
+use Rattle.mm_indexed.specs.Index.{EachTurns}
+use Rattle.mm_indexed.specs.Kept.{StoredRows}
+use Rattle.mm_partition.specs.Types.{HasTypes}
+use Rattle.mm_row_order.specs.Refs.{Slots}
+use Rattle.mm_schema.specs.Refused.{AnswersDue, Condition, first_refusal}
+use Rattle.mm_store.specs.Marks.{KeepsMarks}
+use Rattle.mm_store.specs.RowEdits.{Standing, new_rows}
+use Rattle.mm_store.specs.Tables.{AreFit, HasRows, IsAt, KeepsRows, SameForm, Tables, Turns, edit_conditions, tables_of}
+use Rattle.mm_store.proofs.ListedTables.{conditions_there, forms_from_shapes, has_rows, length-tables, marks_kept, rows_kept, rows_with-asked}
+use Rattle.mm_store.proofs.ListedTables.{slots_at, table_there, turned, turns, types_there}
+use Rattle.mm_tables.proofs.InTables.{size_from_shapes}
+use Rattle.mm_tables.proofs.Slots.{both_ok}
+use Rattle.mm_value.specs.declared.col_type.ColType.{ColType}
+use Rattle.mm_value.specs.declared.values.Value.{Value}
 use Rattle.mm_store.proofs.store.Store.apply.Goals as goal
-use Rattle.mm_store.proofs.store.Store.apply.Goals.{In_err-needed, In_ok-needed, After-push_reserved}
+use Rattle.mm_store.proofs.store.Store.apply.Goals.{After-rows_are_listed}
 
-pub returns-in_err-undo_room-clause-err : goal.returns-in_err-undo_room-clause-err
-returns-in_err-undo_room-clause-err c =
-    let p = err_from_is_err_and c.from_residual.result c.from_residual.ensures.1 in
-    rw (p.1) (λ stored at. (
-      stored,
-      sym (set_own c.args.self.now.tables c.args.table stored at),
-      HasRows-same stored stored (SameButRoom-refl stored),
+-- the table, and that the edits are fit for it
+there : (c : After-rows_are_listed) → (stored : StoredRows) × IsAt (tables_of c.self.inside.base) c.args.table stored
+there c =
+    table_there c.self.inside.base c.args.table
+    (omega (arith, c.requires.there, ap (λ (s : Tables). length s.tables) c.self.view_is, length-tables c.self.inside.base))
+
+fit : (c : After-rows_are_listed) → AreFit (there c).0 c.args.edits
+fit c = c.requires.fit (there c).0 (subst (λ (s : Tables). IsAt s c.args.table (there c).0) c.self.view_is (there c).1)
+
+pub apply-result-requires-clause-standing : goal.apply-result-requires-clause-standing
+apply-result-requires-clause-standing c =
+    let d = (goal.at.apply-result-requires-clause-standing c).After-rows_are_listed in
+    subst (λ (s : Slots). Standing s c.args.edits) (slots_at c.self.inside.base c.args.table (there d).0 (there d).1) (fit d).standing
+
+pub apply-result-requires-clause-typed : goal.apply-result-requires-clause-typed
+apply-result-requires-clause-typed c =
+    let d = (goal.at.apply-result-requires-clause-typed c).After-rows_are_listed in
+    subst (λ (types : List ColType). All (HasTypes types) (new_rows c.args.edits))
+    (types_there c.self.inside.base c.args.table (there d).0 (there d).1) (fit d).typed
+
+pub returns-clause-due : goal.returns-clause-due
+returns-clause-due c stored at =
+    let old = c.self.inside.base in
+    let inside : IsAt (tables_of old) c.args.table stored = subst (λ (s : Tables). IsAt s c.args.table stored) (sym c.self.view_is) at in
+    subst (λ (s : Tables). AnswersDue (first_refusal (edit_conditions s c.args.table stored c.args.edits)) c.apply-result.result) c.self.view_is
+    (subst (λ (cs : List Condition). AnswersDue (first_refusal cs) c.apply-result.result)
+    (sym (conditions_there old c.rows_are_listed.ensures c.args.table stored inside c.args.edits)) c.apply-result.ensures.due)
+
+pub returns-clause-ok : goal.returns-clause-ok
+returns-clause-ok c =
+    let old = c.self.inside.base in
+    let new = c.apply-result.new.base in
+    let t : ℕ = c.args.table in
+    let size = size_from_shapes old.stored.tables new.stored.tables c.apply-result.ensures.shapes in
+    on_ok_weaker c.apply-result.result
+    (λ both stored at.
+    let inside : IsAt (tables_of old) t stored = subst (λ (s : Tables). IsAt s t stored) (sym c.self.view_is) at in (
+      turned old new size t stored inside both.1,
+      subst (λ (s : Tables). Turns s t (turned old new size t stored inside both.1) (tables_of new)) c.self.view_is
+          (turns old new size t stored inside both.1),
+      subst (λ (rows : List (List Value)). HasRows stored rows (turned old new size t stored inside both.1))
+          (sym (rows_with-asked old c.rows_are_listed.ensures t stored inside c.args.edits))
+          (has_rows old new size t stored inside both.1 _ c.apply-result.ensures.shapes c.rows_are_listed-2.ensures both.0),
     ))
+    (both_ok c.apply-result.result _ _ c.apply-result.ensures.rows c.apply-result.ensures.others)
 
--- ---- where memory is refused to the edits
+pub returns-clause-form : goal.returns-clause-form
+returns-clause-form c =
+    subst (λ (s : Tables). EachTurns SameForm s.tables (tables_of c.apply-result.new.base).tables) c.self.view_is
+    (forms_from_shapes c.self.inside.base c.apply-result.new.base c.apply-result.ensures.shapes)
 
-module _ (c : In_err-needed) where
-  abbrev kept_undo : List Logged
-  kept_undo = map logged_of c.reserve.new.commands.items
+pub returns-clause-err : goal.returns-clause-err
+returns-clause-err c =
+    subst (λ (s : Tables). OnErr c.apply-result.result (KeepsRows s (tables_of c.apply-result.new.base))) c.self.view_is
+    (on_err_weaker c.apply-result.result
+    (λ same.
+    rows_kept c.self.inside.base c.apply-result.new.base c.apply-result.ensures.shapes
+    (c.rows_are_listed-2.ensures ∙ (same ∙ sym c.rows_are_listed.ensures)))
+    c.apply-result.ensures.err)
 
-  kept_same : kept_undo ≡ c.args.undo.now
-  kept_same = ap (map logged_of) c.reserve.ensures.commands ∙ c.undo.view_is
-
-  kept_was : (stored : StoredRows) × IsAt c.args.self.now c.args.table stored
-  kept_was = some_at c.args.self.now.tables c.args.table c.requires.there
-
-  kept_is : (new : StoredRows) × Turns c.args.self.now c.args.table new c.edit.new.self × SameButRoom kept_was.0 new
-  kept_is = c.in_err-needed.ensures.err kept_was.0 kept_was.1
-
-  kept_fits : CanUndo c.edit.new.self kept_undo
-  kept_fits =
-      subst (CanUndo c.edit.new.self) (sym kept_same)
-      (CanUndo-grown c.args.self.now c.edit.new.self c.args.table kept_was.0 kept_is.0 kept_was.1 kept_is.1 c.edit.ensures.links kept_is.2.types
-      kept_is.2.key c.args.undo.now kept_is.2 c.requires.fits)
-
-  kept_snapshot : (mark : ℕ) → back_all (drop mark kept_undo) (snapshot_of c.edit.new.self) ≡ back_all (drop mark c.args.undo.now) (snapshot_of c.args.self.now)
-  kept_snapshot mark =
-      ap (λ (l : List Logged). back_all (drop mark l) (snapshot_of c.edit.new.self)) kept_same
-      ∙ ap (back_all (drop mark c.args.undo.now))
-      (snapshot_same c.args.self.now c.edit.new.self c.args.table kept_was.0 kept_is.0 kept_was.1 kept_is.1 (slots_same kept_was.0 kept_is.0 kept_is.2))
-
-  kept_headings : headings_of c.edit.new.self ≡ headings_of c.args.self.now
-  kept_headings =
-      headings_turned c.args.self.now c.edit.new.self c.args.table kept_was.0 kept_is.0 kept_was.1 kept_is.1 kept_is.2.types kept_is.2.key
-
-pub returns-in_err-needed-clause-fits : goal.returns-in_err-needed-clause-fits
-returns-in_err-needed-clause-fits c = kept_fits (goal.at.returns-in_err-needed-clause-fits c).In_err-needed
-
-pub returns-in_err-needed-clause-snapshot_before : goal.returns-in_err-needed-clause-snapshot_before
-returns-in_err-needed-clause-snapshot_before c = λ mark within. kept_snapshot (goal.at.returns-in_err-needed-clause-snapshot_before c).In_err-needed mark
-
-pub returns-in_err-needed-clause-rows_before : goal.returns-in_err-needed-clause-rows_before
-returns-in_err-needed-clause-rows_before c =
-    let at = (goal.at.returns-in_err-needed-clause-rows_before c).In_err-needed in
-    λ mark within.
-    rows_at_mark-same c.args.self.now c.edit.new.self c.args.undo.now (kept_undo at) mark c.requires.fits (kept_fits at) (kept_headings at)
-    (kept_snapshot at mark)
-
--- ---- after the edits
-
-module _ (c : In_ok-needed) where
-  abbrev entries : List UndoRecord
-  entries = c.edit.new.log.entries
-
-  abbrev command : Logged
-  command = record { table = c.args.table; entries = entries; room = c.in_ok-needed.needed }
-
-  was : (stored : StoredRows) × IsAt c.args.self.now c.args.table stored
-  was = some_at c.args.self.now.tables c.args.table c.requires.there
-
-  is : (new : StoredRows) × Turns c.args.self.now c.args.table new c.edit.new.self
-      × IsEdited was.0 c.args.edits c.in_ok-undo_room.undo_room c.in_ok-needed.needed entries new
-  is = c.in_ok-needed.ensures.ok was.0 was.1
-
-  -- what the log's older commands need in the table
-  undo_room_so_far : c.in_ok-undo_room.undo_room ≡ undo_room c.args.table c.args.undo.now
-  undo_room_so_far =
-      c.in_ok-undo_room.ensures.count
-      ∙ (c.reserve.ensures.counts c.args.table
-      ∙ (c.undo.invariant.counted c.args.table ∙ ap (undo_room c.args.table) c.undo.view_is))
-
-  logged_fits : CanUndo c.edit.new.self (c.args.undo.now ++ command ∷ [])
-  logged_fits =
-      CanUndo-logged c.args.self.now c.edit.new.self c.args.table was.0 is.0 was.1 is.1 c.edit.ensures.links is.2.rows.types is.2.rows.key c.args.undo.now
-      command refl is.2.makes c.in_ok-needed.ensures.reversible
-      (subst (λ (r : IndexRoom). HasSpare (plus r c.in_ok-needed.needed) is.0) undo_room_so_far is.2.spare) c.requires.fits
-
-  logged_snapshot : (mark : ℕ) → mark ≤ length c.args.undo.now
-      → back_all (drop mark (c.args.undo.now ++ command ∷ [])) (snapshot_of c.edit.new.self)
-      ≡ back_all (drop mark c.args.undo.now) (snapshot_of c.args.self.now)
-  logged_snapshot mark within =
-      ap (λ (l : List Logged). back_all l (snapshot_of c.edit.new.self)) (drop-append-le mark c.args.undo.now (command ∷ []) within)
-      ∙ (back_all-append (drop mark c.args.undo.now) (command ∷ []) (snapshot_of c.edit.new.self)
-      ∙ ap (back_all (drop mark c.args.undo.now))
-      (back_is_old c.args.self.now c.edit.new.self c.args.table was.0 is.0 was.1 is.1 command refl is.2.makes))
-
-  logged_headings : headings_of c.edit.new.self ≡ headings_of c.args.self.now
-  logged_headings = headings_turned c.args.self.now c.edit.new.self c.args.table was.0 is.0 was.1 is.1 is.2.rows.types is.2.rows.key
-
--- the command is the newest of the log
-logged_is : (c : After-push_reserved) → map logged_of c.push_reserved.new.self.items
-    ≡ c.args.undo.now ++ record { table = c.args.table; entries = c.edit.new.log.entries; room = c.in_ok-needed.needed } ∷ []
-logged_is c =
-    let last : LoggedCommand = record { table = c.args.table; needed = c.in_ok-needed.needed; log = c.replace-log.result } in
-    ap (map logged_of) c.push_reserved.ensures.items
-    ∙ (map-append logged_of c.reserve.new.commands.items (last ∷ [])
-    ∙ (ap (λ (l : List Logged). l ++ logged_of last ∷ []) (ap (map logged_of) c.reserve.ensures.commands ∙ c.undo.view_is)
-    ∙ ap (λ (es : List UndoRecord). c.args.undo.now ++ record { table = c.args.table; entries = es; room = c.in_ok-needed.needed } ∷ [])
-    (ap (λ log. log.entries) c.replace-log.ensures.value)))
-
-pub returns-clause-logged : goal.returns-clause-logged
-returns-clause-logged c = (c.edit.new.log.entries, c.in_ok-needed.needed, logged_is (goal.at.returns-clause-logged c).After-push_reserved)
-
-pub returns-clause-fits : goal.returns-clause-fits
-returns-clause-fits c =
-    subst (CanUndo c.edit.new.self) (sym (logged_is (goal.at.returns-clause-fits c).After-push_reserved))
-    (logged_fits (goal.at.returns-clause-fits c).In_ok-needed)
-
-pub returns-clause-snapshot_before : goal.returns-clause-snapshot_before
-returns-clause-snapshot_before c =
-    λ mark within.
-    ap (λ (l : List Logged). back_all (drop mark l) (snapshot_of c.edit.new.self)) (logged_is (goal.at.returns-clause-snapshot_before c).After-push_reserved)
-    ∙ logged_snapshot (goal.at.returns-clause-snapshot_before c).In_ok-needed mark within
-
-pub returns-clause-rows_before : goal.returns-clause-rows_before
-returns-clause-rows_before c =
-    let at = (goal.at.returns-clause-rows_before c).In_ok-needed in
-    let same = logged_is (goal.at.returns-clause-rows_before c).After-push_reserved in
-    λ mark within.
-    rows_at_mark-same c.args.self.now c.edit.new.self c.args.undo.now (map logged_of c.push_reserved.new.self.items) mark c.requires.fits
-    (subst (CanUndo c.edit.new.self) (sym same) (logged_fits at)) (logged_headings at)
-    (ap (λ (l : List Logged). back_all (drop mark l) (snapshot_of c.edit.new.self)) same ∙ logged_snapshot at mark within)
-
-pub invariant_of-undo-2 : goal.invariant_of-undo-2
-invariant_of-undo-2 c =
-    let commands = c.reserve.new.commands.items in
-    let counts = c.reserve.new.undo_room.items in
-    let last : LoggedCommand = record { table = c.args.table; needed = c.in_ok-needed.needed; log = c.replace-log.result } in
-    let left = c.undo.inside.idle.entries in
-    let tallied : IsTallied commands counts left =
-    IsTallied-filled commands c.undo.inside.undo_room.items counts left c.reserve.ensures.longer c.reserve.ensures.counts
-    (subst (λ (cs : List LoggedCommand). IsTallied cs c.undo.inside.undo_room.items left) (sym c.reserve.ensures.commands) c.undo.invariant) in
-    let emptied : c.replace-log.new.dest.entries ≡ [] = ap (λ log. log.entries) (c.replace-log.ensures.after ∙ c.new.ensures) in
-    let sum : IndexRoom = plus c.in_ok-undo_room.undo_room c.in_ok-needed.needed in
-    let counted : sum ≡ plus (count_of counts c.args.table) c.in_ok-needed.needed =
-    ap (λ (r : IndexRoom). plus r c.in_ok-needed.needed) c.in_ok-undo_room.ensures.count in
-    subst (λ (cs : List LoggedCommand). IsTallied cs (slice_set counts c.args.table sum) c.replace-log.new.dest.entries) (sym c.push_reserved.ensures.items)
-    (subst (IsTallied (commands ++ last ∷ []) (slice_set counts c.args.table sum)) (sym emptied)
-    (IsTallied-push commands last counts left tallied c.in_ok-undo_room.ensures.there sum counted))
+pub returns-clause-marks : goal.returns-clause-marks
+returns-clause-marks c mark within =
+    let old = c.self.inside.base in
+    let new = c.apply-result.new.base in
+    subst (λ (s : Tables). KeepsMarks s (tables_of new) mark) c.self.view_is
+    (marks_kept old new mark (keys_from_shapes old.stored.tables new.stored.tables c.apply-result.ensures.shapes)
+    (c.apply-result.ensures.marks mark (omega (arith, within, ap (λ (s : Tables). length s.stored.log) c.self.view_is)))
+    (λ low. omega (arith, low, c.apply-result.ensures.longer)))

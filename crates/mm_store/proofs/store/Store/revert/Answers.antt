@@ -1,26 +1,34 @@
-use Rattle.std.proofs.Common.{◌≡◌, ◌≤◌, length, sym, ◌∙◌, arith}
-use Rattle.mm_store.specs.Undoing.{headings_of}
-use Rattle.mm_store.proofs.Forms.{headings_formed}
-use Rattle.mm_store.proofs.MarkLaws.{rows_at_end, rows_still}
+use Rattle.std.proofs.Common.{List, length, ap, sym, subst, arith}
+use Rattle.std.proofs.lemmas.List.{length-take-le}
+use Rattle.mm_base.specs.Bases.{AreLawful}
+use Rattle.mm_base.proofs.Keeping.{keys_from_shapes}
+use Rattle.mm_indexed.specs.Index.{EachTurns}
+use Rattle.mm_store.specs.Marks.{KeepsMarks}
+use Rattle.mm_store.specs.Tables.{SameForm, Tables, tables_of}
+use Rattle.mm_store.proofs.ListedTables.{forms_from_shapes, marks_kept}
+use Rattle.mm_tables.specs.Tables.{at_mark, keys_of}
+use Rattle.mm_tables.specs.declared.log_record.LogRecord.{LogRecord}
 use Rattle.mm_store.proofs.store.Store.revert.Goals as goal
 
-pub returns-clause-rows : goal.returns-clause-rows
-returns-clause-rows c =
-    let old = c.args.self.now in
-    let new = c.loop-self.self in
-    let now = c.loop-self.invariant in
-    let headings : headings_of new ≡ headings_of old = headings_formed old.tables new.tables now.form in
-    let done : length c.loop-self.undo ≤ c.args.mark = omega (arith, c.loop-self-test.false, c.mark.ensures) in
-    sym c.rows_stand.ensures
-    ∙ (sym (rows_at_end new c.loop-self.undo c.args.mark done)
-    ∙ rows_still old new c.args.undo.now c.loop-self.undo now.newer.0 c.args.mark c.requires.fits now.fits headings now.newer.1 now.newer.2 now.enough)
+pub revert-requires-clause-lawful : goal.revert-requires-clause-lawful
+revert-requires-clause-lawful c =
+    subst (λ (s : Tables). AreLawful (keys_of s.stored.tables) (at_mark s.stored c.args.mark)) (sym c.self.view_is) c.requires.mark.lawful
 
-pub returns-clause-earlier : goal.returns-clause-earlier
-returns-clause-earlier c =
-    let old = c.args.self.now in
-    let new = c.loop-self.self in
-    let now = c.loop-self.invariant in
-    let headings : headings_of new ≡ headings_of old = headings_formed old.tables new.tables now.form in
-    λ earlier within.
-    rows_still old new c.args.undo.now c.loop-self.undo now.newer.0 earlier c.requires.fits now.fits headings now.newer.1 now.newer.2
-    (omega (arith, within, now.enough))
+pub returns-clause-marks : goal.returns-clause-marks
+returns-clause-marks c earlier within =
+    let old = c.self.inside.base in
+    let new = c.revert.new.self in
+    subst (λ (s : Tables). KeepsMarks s (tables_of new) earlier) c.self.view_is
+    (marks_kept old new earlier (keys_from_shapes old.stored.tables new.stored.tables c.revert.ensures.shapes) (c.revert.ensures.marks earlier within)
+    (λ low.
+    omega (
+      arith,
+      within,
+      ap (λ (rs : List LogRecord). length rs) c.revert.ensures.log,
+      length-take-le c.args.mark old.stored.log (omega (arith, c.requires.mark.within, ap (λ (s : Tables). length s.stored.log) c.self.view_is)),
+    )))
+
+pub returns-clause-form : goal.returns-clause-form
+returns-clause-form c =
+    subst (λ (s : Tables). EachTurns SameForm s.tables (tables_of c.revert.new.self).tables) c.self.view_is
+    (forms_from_shapes c.self.inside.base c.revert.new.self c.revert.ensures.shapes)

@@ -2,8 +2,8 @@ use Rattle.std.proofs.Common.{length, sym, ap, ◌∙◌, arith}
 use Rattle.std.proofs.lemmas.List.{length-map}
 use Rattle.std.proofs.lemmas.List.Sorted.{length_permutation}
 use Rattle.mm_partition.specs.Places.{slot_at}
-use Rattle.mm_relation.specs.Refs.{row_at}
-use Rattle.mm_relation.specs.RowLists.{rows_of}
+use Rattle.mm_row_order.specs.Refs.{row_at}
+use Rattle.mm_indexed.specs.RowLists.{rows_of}
 use Rattle.mm_schema.proofs.InOrder.{IsPermutation-in_order}
 use Rattle.mm_schema.specs.Rows.{rows_by}
 use Rattle.mm_store.specs.Ordered.{ordered_rows, rows_in_order}

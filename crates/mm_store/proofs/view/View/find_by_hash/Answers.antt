@@ -4,12 +4,11 @@ use Rattle.std.proofs.lemmas.List.Elements.{All-nil}
 use Rattle.std.proofs.lemmas.Result.{IfOk-weaker}
 use Rattle.mm_value.specs.Views.{value_of}
 use Rattle.mm_partition.specs.Places.{IsLive, slot_at}
-use Rattle.mm_relation.specs.Kept.{StoredRows}
-use Rattle.mm_relation.specs.Reads.{AreMatches, HasIndex, has_value}
+use Rattle.mm_indexed.specs.Kept.{StoredRows}
+use Rattle.mm_indexed.specs.Reads.{AreMatches, HasIndex, has_value}
 use Rattle.mm_schema.specs.declared.index.IndexKind.TheVariants as kind
 use Rattle.mm_store.proofs.Joining.{one_relation}
 use Rattle.mm_store.proofs.Looked.{live_matches}
-use Rattle.mm_store.proofs.Shown.{table_seen}
 use Rattle.mm_store.proofs.view.View.find_by_hash.Goals as goal
 
 pub find_by_hash-requires : goal.find_by_hash-requires
@@ -31,7 +30,7 @@ returns-clause-live c =
     let same : c.relation.result.now ≡ stored = one_relation c.relation.result.now stored (sym c.relation.ensures.at ∙ at) in
     let (column, on) = c.requires.index c.relation.result.now c.relation.ensures.at in
     subst (λ (s : StoredRows). All (IsLive s.places) found.items) same
-    (live_matches c.relation.result.now (table_seen c.args.self.now c.args.table c.relation.result.now c.relation.ensures.at).kept column
+    (live_matches c.relation.result.now c.relation.ensures.whole.kept column
     (value_of c.args.value) [] found.items (found.items, refl, each column on) (All-nil (IsLive c.relation.result.now.places))))
     c.find_by_hash.ensures.found
 

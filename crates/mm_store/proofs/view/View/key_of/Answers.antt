@@ -1,5 +1,5 @@
 use Rattle.std.proofs.Common.{◌≡◌, ◌<◌, length, ap, sym, ◌∙◌, subst}
-use Rattle.mm_relation.specs.Kept.{StoredRows}
+use Rattle.mm_indexed.specs.Kept.{StoredRows}
 use Rattle.mm_store.proofs.Joining.{one_relation}
 use Rattle.mm_store.proofs.Shown.{table_seen}
 use Rattle.mm_store.proofs.view.View.key_of.Goals as goal

@@ -4,10 +4,9 @@ use Rattle.std.specs.List.{All}
 use Rattle.std.proofs.lemmas.Result.{on_ok_weaker}
 use Rattle.mm_value.specs.Views.{value_of}
 use Rattle.mm_partition.specs.Places.{IsLive}
-use Rattle.mm_relation.specs.Kept.{StoredRows}
-use Rattle.mm_relation.specs.Reads.{Appends, IsRange}
+use Rattle.mm_indexed.specs.Kept.{StoredRows}
+use Rattle.mm_indexed.specs.Reads.{Appends, IsRange}
 use Rattle.mm_store.proofs.Joining.{one_relation}
-use Rattle.mm_store.proofs.Shown.{table_seen}
 use Rattle.mm_store.proofs.Looked.{live_range}
 use Rattle.mm_store.specs.Looked.{IsIndexOn}
 use Rattle.mm_store.proofs.view.View.range.Goals as goal
@@ -29,7 +28,7 @@ returns-clause-live c =
     let same : c.relation.result.now ≡ stored = one_relation c.relation.result.now stored (sym c.relation.ensures.at ∙ at) in
     let (column, on, tree) = c.requires.tree stored at in
     subst (λ (s : StoredRows). All (IsLive s.places) c.args.out.now.items → All (IsLive s.places) c.append_range.new.out.items) same
-    (live_range c.relation.result.now (table_seen c.args.self.now c.args.table c.relation.result.now c.relation.ensures.at).kept column
+    (live_range c.relation.result.now c.relation.ensures.whole.kept column
     (option_map value_of c.args.low) (option_map value_of c.args.high) c.args.out.now.items
     c.append_range.new.out.items
     (each column (subst (λ (s : StoredRows). IsIndexOn s column c.args.index) (sym same) on))))

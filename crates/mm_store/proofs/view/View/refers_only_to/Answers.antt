@@ -1,6 +1,6 @@
 use Rattle.std.proofs.Common.{◌↔◌, subst}
 use Rattle.std.specs.Prelude.{IsTrue}
-use Rattle.mm_store.specs.Links.{IsReference}
+use Rattle.mm_base.specs.Columns.{IsReference}
 use Rattle.mm_store.specs.Seen.{Seen}
 use Rattle.mm_store.proofs.view.View.refers_only_to.Goals as goal
 

@@ -1,8 +1,8 @@
 use Rattle.std.proofs.Common.{◌≡◌, sym, ◌∙◌, subst}
 use Rattle.std.specs.List.{All}
 use Rattle.mm_partition.specs.Places.{IsLive}
-use Rattle.mm_relation.specs.Kept.{StoredRows}
-use Rattle.mm_relation.specs.Reads.{IsWalk}
+use Rattle.mm_indexed.specs.Kept.{StoredRows}
+use Rattle.mm_indexed.specs.Reads.{IsWalk}
 use Rattle.mm_store.proofs.Joining.{one_relation}
 use Rattle.mm_store.specs.Looked.{IsIndexOn}
 use Rattle.mm_store.proofs.view.View.walk.Goals as goal

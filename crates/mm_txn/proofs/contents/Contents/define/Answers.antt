@@ -1,12 +1,13 @@
 -- The lists stand still where tables and indexes change, and fit still where a standing query goes.
-use Rattle.std.proofs.Common.{◌≡◌, ap, ◌∙◌}
+use Rattle.std.proofs.Common.{◌≡◌, ap, subst, ◌∙◌}
 use Rattle.mm_schema.specs.Indexes.{drop_index_conditions, index_conditions}
 use Rattle.mm_schema.specs.Refused.{first_refusal}
 use Rattle.mm_schema.specs.Schema.{table_conditions}
-use Rattle.mm_store.proofs.UndoLaws.{CanUndo-nil}
 use Rattle.mm_query.specs.Machine.{after_definition, is_of_index}
 use Rattle.mm_query.specs.declared.command.Definition.TheVariants as define
+use Rattle.mm_txn.specs.Contents.{Holdings}
 use Rattle.mm_txn.specs.Kept.{state_of}
+use Rattle.mm_txn.specs.Saved.{KeepsLog}
 use Rattle.mm_txn.proofs.Resting.{rest_by_index, rest_by_no_index, rest_by_table, rest_still}
 use Rattle.mm_txn.proofs.contents.Contents.define.Goals as goal
 
@@ -51,18 +52,27 @@ invariant_of-self-in-DropIndex c =
 
 -- ---- nothing is to be taken back where a change concerns more than an index
 
-pub returns-in-Table-clause-fits : goal.returns-in-Table-clause-fits
-returns-in-Table-clause-fits c = CanUndo-nil c.add_table.new.store c.args.undo.now (c.requires.settled (ap is_of_index c.in-Table.is)).undo_is
+pub add_table-requires-clause-log : goal.add_table-requires-clause-log
+add_table-requires-clause-log c = ap (λ (h : Holdings). h.store.stored.log) c.self.view_is ∙ (c.requires.settled (ap is_of_index c.in-Table.is)).edits
 
-pub returns-in-DropTable-clause-fits : goal.returns-in-DropTable-clause-fits
-returns-in-DropTable-clause-fits c = CanUndo-nil c.drop_table.new.self.store c.args.undo.now (c.requires.settled (ap is_of_index c.in-DropTable.is)).undo_is
+pub drop_table-requires : goal.drop_table-requires
+drop_table-requires c = c.requires.settled (ap is_of_index c.in-DropTable.is)
 
-pub returns-in-DropTable-clause-settled : goal.returns-in-DropTable-clause-settled
-returns-in-DropTable-clause-settled c = λ none.
-    record { undo_is = (c.requires.settled none).undo_is; log = c.drop_table.ensures.log ∙ (c.requires.settled none).log }
+pub watch-requires-clause-settled : goal.watch-requires-clause-settled
+watch-requires-clause-settled c = c.requires.settled (ap is_of_index c.in-Watch.is)
 
-pub returns-in-Watch-clause-settled : goal.returns-in-Watch-clause-settled
-returns-in-Watch-clause-settled c = λ none. record { undo_is = (c.requires.settled none).undo_is; log = c.watch.ensures.log }
+pub unwatch-requires : goal.unwatch-requires
+unwatch-requires c = c.requires.settled (ap is_of_index c.in-Unwatch.is)
 
-pub returns-in-Unwatch-clause-settled : goal.returns-in-Unwatch-clause-settled
-returns-in-Unwatch-clause-settled c = λ none. record { undo_is = (c.requires.settled none).undo_is; log = c.unwatch.ensures.log }
+pub returns-in-Table-clause-settled : goal.returns-in-Table-clause-settled
+returns-in-Table-clause-settled c = λ none. record {
+  edits = c.add_table.ensures.log;
+  log = ap (λ (h : Holdings). h.lists.log) c.self.view_is ∙ (c.requires.settled none).log;
+}
+
+pub returns-in-Index-clause-log : goal.returns-in-Index-clause-log
+returns-in-Index-clause-log c = λ of_index. subst (λ (h : Holdings). KeepsLog h.store c.add_index.new.store) c.self-in-Index.view_is c.add_index.ensures.log
+
+pub returns-in-DropIndex-clause-log : goal.returns-in-DropIndex-clause-log
+returns-in-DropIndex-clause-log c = λ of_index.
+    subst (λ (h : Holdings). KeepsLog h.store c.drop_index.new.store) c.self-in-DropIndex.view_is c.drop_index.ensures.log

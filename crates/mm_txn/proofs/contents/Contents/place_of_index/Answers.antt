@@ -8,8 +8,8 @@ use Rattle.mm_value.specs.declared.refusal.Refusal.TheVariants.{NoSuchIndex}
 use Rattle.mm_query.specs.Machine.{rows_by_index}
 use Rattle.mm_query.specs.State.{State}
 use Rattle.mm_txn.proofs.IndexSteps.{along_within, column_found, column_there, has_index, index_here, relation_there, rows_along, table_there}
-use Rattle.mm_relation.specs.Kept.{StoredRows}
-use Rattle.mm_relation.specs.Reads.{HasIndex}
+use Rattle.mm_indexed.specs.Kept.{StoredRows}
+use Rattle.mm_indexed.specs.Reads.{HasIndex}
 use Rattle.mm_store.specs.Ordered.{rows_in_order}
 use Rattle.mm_store.specs.Tables.{IsAt, Tables}
 use Rattle.mm_txn.specs.Contents.{Holdings, state_held}

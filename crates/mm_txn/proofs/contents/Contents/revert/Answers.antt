@@ -1,8 +1,7 @@
 -- The lists fit the rows at the mark.
 use Rattle.std.proofs.Common.{◌≡◌, ℕ, ◌≤◌, List, take, sym, ap, subst, ◌∙◌, arith}
 use Rattle.mm_standing.specs.State.{Lists, count_at}
-use Rattle.mm_store.specs.Marks.{rows_at_mark}
-use Rattle.mm_store.specs.Undoing.{CanUndo}
+use Rattle.mm_store.specs.Marks.{IsMark, KeepsMarks, rows_at_mark}
 use Rattle.mm_value.specs.declared.values.Value.{Value}
 use Rattle.mm_txn.specs.Contents.{Holdings}
 use Rattle.mm_plan.specs.Kept.{instance_of}
@@ -11,15 +10,15 @@ use Rattle.mm_txn.proofs.GoingBack.{none_behind}
 use Rattle.mm_txn.proofs.RestKept.{rest_back}
 use Rattle.mm_txn.proofs.contents.Contents.revert.Goals as goal
 
-pub revert-requires-clause-fits : goal.revert-requires-clause-fits
-revert-requires-clause-fits c = subst (λ (h : Holdings). CanUndo h.store c.args.undo.now) (sym c.self.view_is) c.requires.fits
+pub revert-requires : goal.revert-requires
+revert-requires c = record { mark = subst (λ (h : Holdings). IsMark h.store c.args.commands) (sym c.self.view_is) c.requires.back.mark }
 
 pub invariant_of-self : goal.invariant_of-self
 invariant_of-self c =
     rest_back c.self.inside.catalog c.self.inside.store c.revert.new.self c.self.inside.standing c.revert-2.new.self c.self.invariant c.revert.ensures.links
     (ap (λ (l : Lists). l.queries) c.revert-2.ensures.rest) c.revert.ensures.form c.args.changes
-    (rows_at_mark c.args.commands c.args.undo.now c.self.inside.store) c.revert.ensures.rows
-    (subst (λ (h : Holdings). AreSaved c.args.changes (rows_at_mark c.args.commands c.args.undo.now h.store) h.lists) (sym c.self.view_is) c.requires.saved)
+    (rows_at_mark c.args.commands c.self.inside.store) c.revert.ensures.rows
+    (subst (λ (h : Holdings). AreSaved c.args.changes (rows_at_mark c.args.commands h.store) h.lists) (sym c.self.view_is) c.requires.back.saved)
     (λ list row. c.revert-2.ensures.counts c.args.changes (omega arith) list row)
     (none_behind c.args.changes c.self.inside.standing.log c.revert-2.new.self.log c.revert-2.ensures.log)
     (ap (λ (l : Lists). l.prepared) c.revert-2.ensures.rest ∙ c.self.invariant.listed.ready)
@@ -29,12 +28,11 @@ returns-clause-schema c = ap (λ (h : Holdings). h.schema) c.self.view_is
 
 pub returns-clause-rows : goal.returns-clause-rows
 returns-clause-rows c =
-    subst (λ (h : Holdings). instance_of c.revert.new.self.tables ≡ rows_at_mark c.args.commands c.args.undo.now h.store) c.self.view_is c.revert.ensures.rows
+    subst (λ (h : Holdings). instance_of c.revert.new.self.tables ≡ rows_at_mark c.args.commands h.store) c.self.view_is c.revert.ensures.rows
 
-pub returns-clause-earlier : goal.returns-clause-earlier
-returns-clause-earlier c =
-    subst (λ (h : Holdings). (n : ℕ) → n ≤ c.args.commands → rows_at_mark n c.revert.new.undo c.revert.new.self ≡ rows_at_mark n c.args.undo.now h.store)
-    c.self.view_is c.revert.ensures.earlier
+pub returns-clause-marks : goal.returns-clause-marks
+returns-clause-marks c =
+    subst (λ (h : Holdings). (n : ℕ) → n ≤ c.args.commands → KeepsMarks h.store c.revert.new.self n) c.self.view_is c.revert.ensures.marks
 
 pub returns-clause-queries : goal.returns-clause-queries
 returns-clause-queries c =

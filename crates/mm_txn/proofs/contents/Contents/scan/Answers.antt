@@ -7,7 +7,7 @@ use Rattle.mm_value.specs.declared.refusal.Refusal.{Refusal}
 use Rattle.mm_value.specs.declared.refusal.Refusal.TheVariants.{NoSuchTable}
 use Rattle.mm_query.specs.State.{State, rows_in}
 use Rattle.mm_query.proofs.Due.{lacks_nowhere, not_lacking}
-use Rattle.mm_relation.specs.RowLists.{rows_of}
+use Rattle.mm_indexed.specs.RowLists.{rows_of}
 use Rattle.mm_txn.proofs.DatabaseSteps.{rows_of_name, rows_there, some_there}
 use Rattle.mm_txn.proofs.RowsBeside.{beside}
 use Rattle.mm_txn.specs.Contents.{state_held}

@@ -1,13 +1,8 @@
 -- The rows and the counts stay.
-use Rattle.std.proofs.Common.{pos, sym, ap, subst, ◌∙◌}
+use Rattle.std.proofs.Common.{pos, ap, ◌∙◌}
 use Rattle.mm_standing.specs.State.{Lists}
-use Rattle.mm_store.specs.Undoing.{CanUndo}
-use Rattle.mm_txn.specs.Contents.{Holdings}
 use Rattle.mm_txn.proofs.RestKept.{rest_settled}
 use Rattle.mm_txn.proofs.contents.Contents.settle_outside.Goals as goal
-
-pub settle-requires : goal.settle-requires
-settle-requires c = subst (λ (h : Holdings). CanUndo h.store c.args.undo.now) (sym c.self.view_is) c.requires
 
 pub invariant_of-self : goal.invariant_of-self
 invariant_of-self c =

@@ -15,7 +15,7 @@ define-requires-clause-settled c =
           may_by_index c.self.inside.is_open (is_of_index c.args.definition) (sym w.is_of_index.ensures ∙ w.if-not-is_of_index.false)
       | else-self-via-else-self w ↦ may_by_closed c.self.inside.is_open (is_of_index c.args.definition) w.if-self.false
     ] in
-    settled_before c.self.inside.contents c.self.inside.undo c.self.inside.is_open c.self.inside.marks.items
+    settled_before c.self.inside.contents c.self.inside.is_open c.self.inside.marks.items
     c.self.invariant c.args.definition may
 
 pub invariant_of-self : goal.invariant_of-self
@@ -26,10 +26,10 @@ invariant_of-self c =
           may_by_index c.self.inside.is_open (is_of_index c.args.definition) (sym w.is_of_index.ensures ∙ w.if-not-is_of_index.false)
       | else-self-via-else-self w ↦ may_by_closed c.self.inside.is_open (is_of_index c.args.definition) w.if-self.false
     ] in
-    defined c.self.inside.contents c.self.inside.undo c.self.inside.is_open c.self.inside.marks.items
+    defined c.self.inside.contents c.self.inside.is_open c.self.inside.marks.items
     c.self.invariant c.args.definition may
-    c.define.new.self c.define.ensures.rows_before c.is_at_rest.ensures.rest c.define.result c.define.ensures.due c.define.ensures.ok
-    c.define.ensures.err c.define.ensures.fits c.define.ensures.settled c.define.ensures.lists
+    c.define.new.self c.define.ensures.log c.is_at_rest.ensures.rest c.define.result c.define.ensures.due c.define.ensures.ok
+    c.define.ensures.err c.define.ensures.settled c.define.ensures.lists
 
 pub returns-clause-ok : goal.returns-clause-ok
 returns-clause-ok c =
@@ -39,11 +39,11 @@ returns-clause-ok c =
           may_by_index c.self.inside.is_open (is_of_index c.args.definition) (sym w.is_of_index.ensures ∙ w.if-not-is_of_index.false)
       | else-self-via-else-self w ↦ may_by_closed c.self.inside.is_open (is_of_index c.args.definition) w.if-self.false
     ] in
-    subst (λ (s : State). OnOk c.define.result (kept_state c.define.new.self c.self.inside.undo c.self.inside.is_open c.self.inside.marks.items
+    subst (λ (s : State). OnOk c.define.result (kept_state c.define.new.self c.self.inside.is_open c.self.inside.marks.items
     ≡ after_definition c.args.definition s)) c.self.view_is
-    (definition_done c.self.inside.contents c.self.inside.undo c.self.inside.is_open c.self.inside.marks.items
+    (definition_done c.self.inside.contents c.self.inside.is_open c.self.inside.marks.items
     c.self.invariant c.args.definition may
-    c.define.new.self c.define.ensures.rows_before c.define.result c.define.ensures.ok)
+    c.define.new.self c.define.ensures.log c.define.result c.define.ensures.ok)
 
 pub returns-clause-err : goal.returns-clause-err
 returns-clause-err c =
@@ -53,8 +53,8 @@ returns-clause-err c =
           may_by_index c.self.inside.is_open (is_of_index c.args.definition) (sym w.is_of_index.ensures ∙ w.if-not-is_of_index.false)
       | else-self-via-else-self w ↦ may_by_closed c.self.inside.is_open (is_of_index c.args.definition) w.if-self.false
     ] in
-    subst (λ (s : State). OnErr c.define.result (kept_state c.define.new.self c.self.inside.undo c.self.inside.is_open c.self.inside.marks.items
+    subst (λ (s : State). OnErr c.define.result (kept_state c.define.new.self c.self.inside.is_open c.self.inside.marks.items
     ≡ s)) c.self.view_is
-    (definition_refused c.self.inside.contents c.self.inside.undo c.self.inside.is_open c.self.inside.marks.items
+    (definition_refused c.self.inside.contents c.self.inside.is_open c.self.inside.marks.items
     c.self.invariant c.args.definition may
-    c.define.new.self c.define.ensures.rows_before c.define.result c.define.ensures.err)
+    c.define.new.self c.define.ensures.log c.define.result c.define.ensures.err)

@@ -30,7 +30,7 @@ returns-in_err-edits-clause-due c = λ mutation is.
     let here = subst (λ (s : State). IsBoundChange s.schema mutation (bound_of c.args.change)) (sym c.self.view_is) is in
     let p = err_from_is_err_and c.from_residual.result c.from_residual.ensures.1 in
     let held = c.self.inside.contents in
-    let saved = saved_rows c.self.inside.is_open c.self.inside.undo held.store c.self.inside.marks.items in
+    let saved = saved_rows c.self.inside.is_open held.store c.self.inside.marks.items in
     let queries = queries_of held.lists.queries in
     rw (p.1, p.2) (due_beside held.schema held.store.tables queries saved mutation c.args.self.now c.self.view_is {T = ℕ} (Err c.in_err-edits.field-0.0)
     (early_due mutation held.schema held.store.tables queries c.in_err-edits.field-0.0 (c.in_err-edits.ensures.due mutation here)))
@@ -50,7 +50,6 @@ make_edits-requires c =
       are = ok.are;
       back = subst (λ (links : List Reference). All (λ (r : Reference). r.to < r.from) links) (sym rest.kept.links)
           (references_back held.schema rest.kept.back);
-      fits = c.self.invariant.fits;
       served = served held.schema held.store rest.kept.relations lists rest.placed.placed;
       listed = rest.listed;
       typed = subst (λ (r : RowsByPlace). All (IsTested (rows_by_place (instance_of held.store.tables)) r) lists)
@@ -74,7 +73,7 @@ invariant_of-self c =
     let all = placed edits.own ∷ map placed edits.cascaded.items in
     let back = change_refused held.schema held.store c.is_at_rest.ensures.rest.kept.relations here.distinct mutation
     (placed edits.own) (map placed edits.cascaded.items) ok c.make_edits.new.self.store c.in_err-make_edits.ensures.made.err in
-    refused held c.self.inside.undo c.self.inside.marks.items c.self.inside.is_open c.self.invariant c.make_edits.new.self c.make_edits.new.undo
+    refused held c.self.inside.marks.items c.self.inside.is_open c.self.invariant c.make_edits.new.self
     c.make_edits.ensures.schema (rows_edited held.store all) c.make_edits.result c.make_edits.ensures.made back.0 c.in_err-make_edits.ensures.made.kept
     c.in_err-make_edits.ensures.made.log
 
@@ -87,7 +86,7 @@ returns-in_err-make_edits-clause-due c = λ mutation is.
     let edits = c.in_ok-edits.edits in
     let ok = c.in_ok-edits.ensures.ok mutation here in
     let none = c.in_ok-edits.ensures.due mutation here in
-    let saved = saved_rows c.self.inside.is_open c.self.inside.undo held.store c.self.inside.marks.items in
+    let saved = saved_rows c.self.inside.is_open held.store c.self.inside.marks.items in
     let lists = held.lists.queries in
     let due = change_due held.schema held.store rest.kept.relations here.distinct mutation (placed edits.own) (map placed edits.cascaded.items)
     ok lists
@@ -109,8 +108,8 @@ returns-in_err-make_edits-clause-err c =
     let back = change_refused held.schema held.store c.is_at_rest.ensures.rest.kept.relations here.distinct mutation
     (placed edits.own) (map placed edits.cascaded.items) ok c.make_edits.new.self.store c.in_err-make_edits.ensures.made.err in
     let rows = back.0 in
-    let saved = saved_through_change held c.self.inside.undo c.self.inside.marks.items c.self.inside.is_open c.self.invariant c.make_edits.new.self
-    c.make_edits.new.undo same (rows_edited held.store all) c.make_edits.result c.make_edits.ensures.made in
+    let saved = saved_through_change held c.self.inside.marks.items c.self.inside.is_open c.self.invariant c.make_edits.new.self
+    same (rows_edited held.store all) c.make_edits.result c.make_edits.ensures.made in
     let queries = ap queries_of c.make_edits.ensures.made.queries in
     rw (p.1) ((λ i. record { schema = same i; rows = rows i; queries = queries i; saved = saved i }) ∙ c.self.view_is)
 
@@ -130,10 +129,10 @@ invariant_of-self-2 c =
     subst (λ (s : State). AreTyped held.schema.tables s.rows) (sym done.0)
     (rows_typed_after mutation (watched_state held.schema held.store.tables queries)
     (value_conditions mutation (state_of held.schema held.store.tables)) here.distinct none c.self.invariant.typed.rows) in
-    changed held c.self.inside.undo c.self.inside.marks.items c.self.inside.is_open c.self.invariant c.make_edits.new.self c.make_edits.new.undo
+    changed held c.self.inside.marks.items c.self.inside.is_open c.self.invariant c.make_edits.new.self
     c.make_edits.ensures.schema (rows_edited held.store all) c.make_edits.result c.make_edits.ensures.made
-    c.settle_outside.new.self c.settle_outside.new.undo c.settle_outside.ensures.open typed c.settle_outside.ensures.schema
-    c.settle_outside.ensures.rows c.settle_outside.ensures.fits c.settle_outside.ensures.queries c.settle_outside.ensures.settled
+    c.settle_outside.new.self c.settle_outside.ensures.open typed c.settle_outside.ensures.schema
+    c.settle_outside.ensures.rows c.settle_outside.ensures.queries c.settle_outside.ensures.settled
 
 pub returns-clause-due : goal.returns-clause-due
 returns-clause-due c = λ mutation is.
@@ -143,7 +142,7 @@ returns-clause-due c = λ mutation is.
     let edits = c.in_ok-edits.edits in
     let ok = c.in_ok-edits.ensures.ok mutation here in
     let none = c.in_ok-edits.ensures.due mutation here in
-    let saved = saved_rows c.self.inside.is_open c.self.inside.undo held.store c.self.inside.marks.items in
+    let saved = saved_rows c.self.inside.is_open held.store c.self.inside.marks.items in
     let lists = held.lists.queries in
     let due = change_due held.schema held.store rest.kept.relations here.distinct mutation (placed edits.own) (map placed edits.cascaded.items)
     ok lists
@@ -161,8 +160,8 @@ returns-clause-ok c = λ mutation is.
     let all = placed edits.own ∷ map placed edits.cascaded.items in
     let same = c.settle_outside.ensures.schema ∙ c.make_edits.ensures.schema in
     let queries = queries_of held.lists.queries in
-    let saved = saved_rows c.self.inside.is_open c.self.inside.undo held.store c.self.inside.marks.items in
-    let later = saved_rows c.self.inside.is_open c.settle_outside.new.undo last.store c.self.inside.marks.items in
+    let saved = saved_rows c.self.inside.is_open held.store c.self.inside.marks.items in
+    let later = saved_rows c.self.inside.is_open last.store c.self.inside.marks.items in
     let done = change_done held.schema held.store c.is_at_rest.ensures.rest.kept.relations here.distinct mutation
     (placed edits.own) (map placed edits.cascaded.items) ok queries c.make_edits.new.self.store c.in_ok-make_edits.ensures.made.ok in
     (λ i. record { schema = same i; rows = instance_of last.store.tables; queries = queries_of last.lists.queries; saved = later })
@@ -170,9 +169,9 @@ returns-clause-ok c = λ mutation is.
     (queries_of last.lists.queries) later
     (ap queries_of (c.settle_outside.ensures.queries ∙ c.make_edits.ensures.made.queries))
     ((λ i. record { schema = held.schema; rows = c.settle_outside.ensures.rows i; queries = queries; saved = None }) ∙ done.0)
-    (saved_to_the_end held c.self.inside.undo c.self.inside.marks.items c.self.inside.is_open c.self.invariant c.make_edits.new.self c.make_edits.new.undo
+    (saved_to_the_end held c.self.inside.marks.items c.self.inside.is_open c.self.invariant c.make_edits.new.self
     c.make_edits.ensures.schema (rows_edited held.store all) c.make_edits.result c.make_edits.ensures.made
-    last c.settle_outside.new.undo c.settle_outside.ensures.open)
+    last c.settle_outside.ensures.open)
 
 pub returns-clause-count : goal.returns-clause-count
 returns-clause-count c = λ mutation is.
@@ -180,7 +179,7 @@ returns-clause-count c = λ mutation is.
     let held = c.self.inside.contents in
     let own = c.in_ok-edits.edits.own in
     let ok = c.in_ok-edits.ensures.ok mutation here in
-    let saved = saved_rows c.self.inside.is_open c.self.inside.undo held.store c.self.inside.marks.items in
+    let saved = saved_rows c.self.inside.is_open held.store c.self.inside.marks.items in
     let counted : length c.as_slice-count.result.now ≡ length own.edits = ap length c.as_slice-count.ensures in
     counted ∙ (edits_counted held.schema held.store c.is_at_rest.ensures.rest.kept.relations here.distinct mutation
     (placed own) (map placed c.in_ok-edits.edits.cascaded.items) ok

@@ -20,7 +20,7 @@ use Rattle.mm_txn.proofs.database.Db.select_into.Goals as goal
 
 pub copy_rows-outcome-requires : goal.copy_rows-outcome-requires
 copy_rows-outcome-requires c =
-    let seen = ap (λ (h : Holdings). kept_state h c.self.inside.undo c.self.inside.is_open c.self.inside.marks.items) c.contents.view_is ∙ c.self.view_is in
+    let seen = ap (λ (h : Holdings). kept_state h c.self.inside.is_open c.self.inside.marks.items) c.contents.view_is ∙ c.self.view_is in
     let (query, is) = c.requires in
     record {
       bound = subst (λ (t : Tables). (schema : Schema) × (query : Query) × AreOf schema.tables t.tables × IsBoundQuery schema query c.args.bound.now)
@@ -34,7 +34,7 @@ copy_rows-outcome-requires c =
 
 pub returns-clause-due : goal.returns-clause-due
 returns-clause-due c = λ query is.
-    let seen = ap (λ (h : Holdings). kept_state h c.self.inside.undo c.self.inside.is_open c.self.inside.marks.items) c.contents.view_is ∙ c.self.view_is in
+    let seen = ap (λ (h : Holdings). kept_state h c.self.inside.is_open c.self.inside.marks.items) c.contents.view_is ∙ c.self.view_is in
     let catalog = c.contents.inside.catalog in
     let here = subst (λ (s : State). IsBoundQuery s.schema query c.args.bound.now) (sym seen) is in
     subst (λ (s : State). AnswersDue (first_refusal (conditions (Select query) s)) c.copy_rows-outcome.result) seen
@@ -44,7 +44,7 @@ returns-clause-due c = λ query is.
 
 pub returns-clause-rows : goal.returns-clause-rows
 returns-clause-rows c =
-    let seen = ap (λ (h : Holdings). kept_state h c.self.inside.undo c.self.inside.is_open c.self.inside.marks.items) c.contents.view_is ∙ c.self.view_is in
+    let seen = ap (λ (h : Holdings). kept_state h c.self.inside.is_open c.self.inside.marks.items) c.contents.view_is ∙ c.self.view_is in
     let catalog = c.contents.inside.catalog in
     let before = c.args.rows.now in
     let after = c.copy_rows-outcome.new.buffer in
@@ -61,7 +61,7 @@ returns-clause-rows c =
 
 pub returns-clause-reads : goal.returns-clause-reads
 returns-clause-reads c = λ query is.
-    let seen = ap (λ (h : Holdings). kept_state h c.self.inside.undo c.self.inside.is_open c.self.inside.marks.items) c.contents.view_is ∙ c.self.view_is in
+    let seen = ap (λ (h : Holdings). kept_state h c.self.inside.is_open c.self.inside.marks.items) c.contents.view_is ∙ c.self.view_is in
     let held = c.contents.inside in
     let bound = c.args.bound.now in
     let here = subst (λ (s : State). IsBoundQuery s.schema query bound) (sym seen) is in
@@ -74,5 +74,5 @@ returns-clause-reads c = λ query is.
     subst (λ n. ReadsByPlan query c.args.self.now n) (sym c.reads.ensures)
     (subst (λ (s : State). ReadsByPlan query s read) seen
     (reads_by_plan held.catalog held.store (queries_of held.standing.queries)
-    (saved_rows c.self.inside.is_open c.self.inside.undo held.store c.self.inside.marks.items) query bound c.contents.invariant.kept
+    (saved_rows c.self.inside.is_open held.store c.self.inside.marks.items) query bound c.contents.invariant.kept
     c.have_one_key.ensures here read within))

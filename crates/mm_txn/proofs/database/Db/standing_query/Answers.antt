@@ -19,7 +19,7 @@ pub returns-in_err-place : goal.returns-in_err-place
 returns-in_err-place c =
     let name = c.args.name.now in
     let schema = c.contents.inside.catalog in
-    let seen = ap (λ (h : Holdings). kept_state h c.self.inside.undo c.self.inside.is_open c.self.inside.marks.items) c.contents.view_is ∙ c.self.view_is in
+    let seen = ap (λ (h : Holdings). kept_state h c.self.inside.is_open c.self.inside.marks.items) c.contents.view_is ∙ c.self.view_is in
     let nowhere : standing_place name schema ≡ None = sym c.standing_place_of.ensures.place ∙ c.in_err-place.was in
     let none = query_nowhere name schema.standing (queries_of c.contents.inside.standing.queries)
     (find_nowhere (λ (query : StandingDef). same_name name query.name) schema.standing nowhere) in
@@ -36,7 +36,7 @@ returns c =
     let schema = c.contents.inside.catalog in
     let place = c.in_ok-place.place in
     let queries = queries_of c.contents.inside.standing.queries in
-    let seen = ap (λ (h : Holdings). kept_state h c.self.inside.undo c.self.inside.is_open c.self.inside.marks.items) c.contents.view_is ∙ c.self.view_is in
+    let seen = ap (λ (h : Holdings). kept_state h c.self.inside.is_open c.self.inside.marks.items) c.contents.view_is ∙ c.self.view_is in
     let found : standing_place name schema ≡ Some place = sym c.standing_place_of.ensures.place ∙ c.in_ok-place.was in
     let named = λ (query : StandingDef). same_name name query.name in
     let first = place_from_some named schema.standing place found in

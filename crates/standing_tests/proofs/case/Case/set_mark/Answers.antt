@@ -5,6 +5,6 @@ pub invariant_of-self : goal.invariant_of-self
 invariant_of-self c = record {
   case = c.self.invariant.case;
   start = c.self.invariant.start;
-  mark = mark_now c.self.inside.store c.self.inside.undo c.self.inside.standing c.self.invariant.case c.rows_stand.ensures c.mark.result c.mark-2.result
-      c.mark.ensures c.mark-2.ensures;
+  mark = mark_now c.self.inside.store c.self.inside.standing c.self.invariant.case c.mark.result c.mark-2.result c.mark.ensures.is c.mark.ensures.rows
+      c.mark-2.ensures;
 }

@@ -6,5 +6,5 @@ use Rattle.standing_tests.proofs.case.Case.shows.Goals as goal
 pub list-requires-clause-fits : goal.list-requires-clause-fits
 list-requires-clause-fits c = λ standing at. (
   map (before_at c.self.inside.store) standing.tables,
-  list_is_bag c.self.inside.store c.self.inside.undo c.self.inside.standing c.self.invariant.case c.args.place standing at,
+  list_is_bag c.self.inside.store c.self.inside.standing c.self.invariant.case c.args.place standing at,
 )

@@ -1,4 +1,0 @@
-use Rattle.mm_relation.proofs.indexes.hash_entries.put_pair.Goals as goal
-
-pub insert-requires-clause-small : goal.insert-requires-clause-small
-insert-requires-clause-small c = c.are_references_small.ensures c.args.at (c.requires.wide.row, c.requires.wide.live)
