@@ -6,23 +6,19 @@ use Rattle.mm_value.specs.declared.refusal.Refusal.{Refusal}
 use Rattle.mm_value.specs.declared.values.Value.{Value}
 use Rattle.mm_schema.specs.Schema.{Schema}
 use Rattle.mm_query.specs.declared.command.Command.{Command}
-use Rattle.mm_query.specs.declared.command.Command.TheVariants.{Change, Select}
 use Rattle.mm_lang.specs.Reading.{reading}
 use Rattle.mm_lang.specs.Templates.{holes_of, template_of}
 use Rattle.mm_statement.specs.Filling.{IsFilling}
 use Rattle.mm_session.proofs.FormLemmas.{filled_of}
 use Rattle.mm_session.proofs.ReadyStatements.{flags, has_form}
 use Rattle.mm_session.proofs.SlotLemmas.{put_there}
-use Rattle.mm_session.specs.Templates.{IsBoundAt, IsBoundLine}
+use Rattle.mm_session.specs.steps.Templates.{IsBoundAt}
 use Rattle.mm_session.specs.declared.bound_form.BoundForm.{BoundForm}
-use Rattle.mm_session.specs.declared.bound_line.BoundLine.{BoundLine}
-use Rattle.mm_session.specs.declared.bound_line.BoundLine.TheVariants as lent
 use Rattle.mm_session.specs.declared.refilling.Refilled.{Refilled}
 use Rattle.mm_session.specs.declared.statement.Statement.{Statement}
 use Rattle.mm_session.specs.declared.templates.Templates.{Templates}
-use Rattle.mm_session.specs.steps.Filled.{IsFilledAt, IsFilledIn, IsFilledStatement, IsLent, IsToRun, form_in}
+use Rattle.mm_session.specs.steps.Filled.{IsFilledAt, IsFilledIn, IsFilledStatement, IsToRun, form_in}
 use Rattle.mm_session.specs.steps.Forms.{HasForm, IsFormOf, IsReadyStatement}
-use Rattle.mm_session.specs.steps.Readings.{is_definition}
 
 -- What holds of a value that may be there implies more of it.
 pub some_more : {X : Type 0} (P Q : X → Type 0) (o : Option X) → ((x : X) → P x → Q x) → IfSome o P → IfSome o Q
@@ -94,22 +90,3 @@ filled_found schema line template values number filled templates at reads =
       read = reads statement.command (Ok own.filled) statement.read (own.fills, own.within);
       binds = own.binds;
     }
-
--- What is lent of the bound form of a line's command is the bound line, ..
-pub lent_for : (schema : Schema) (line : List ℕ) (command : Command) (bound : BoundLine) → reading line ≡ Ok command → IsLent schema command bound
-    → IsBoundLine schema line bound
-lent_for schema line (Select query) (lent.Query bound) read is = (query, read, is)
-lent_for schema line (Change mutation) (lent.Change change) read is = (mutation, read, is)
-lent_for schema line (Select query) (lent.Change change) read is = absurd is
-lent_for schema line _ _ read is = absurd is
-
--- .. and a bound line is the bound form of the command that the line reads as, which changes no catalog.
-pub record HasCommand (schema : Schema) (line : List ℕ) (bound : BoundLine) : Type 0 where
-  pub command : Command
-  pub read : reading line ≡ Ok command
-  pub other : is_definition command ≡ false
-  pub is : IsLent schema command bound
-
-pub command_of_line : (schema : Schema) (line : List ℕ) (bound : BoundLine) → IsBoundLine schema line bound → HasCommand schema line bound
-command_of_line schema line (lent.Query bound) is = record { command = Select is.0; read = is.1; other = refl; is = is.2 }
-command_of_line schema line (lent.Change change) is = record { command = Change is.0; read = is.1; other = refl; is = is.2 }

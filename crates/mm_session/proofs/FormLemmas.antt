@@ -26,16 +26,15 @@ use Rattle.mm_statement.specs.Holes.{HolePlaces, hole_count, hole_places}
 use Rattle.mm_statement.specs.Refilling.{RefillsChange, RefillsQuery}
 use Rattle.mm_txn.specs.Bound.{IsBoundChange, IsBoundQuery, bound_of}
 use Rattle.mm_txn.specs.declared.bound.ChangeToRun.{ChangeToRun}
-use Rattle.mm_session.proofs.Catalogs.{leads_keep}
 use Rattle.mm_session.proofs.LineReadings.{takes_alike}
 use Rattle.mm_session.specs.Statements.{Runs}
 use Rattle.mm_session.specs.declared.bound_form.BoundForm.{BoundForm}
 use Rattle.mm_session.specs.declared.bound_form.BoundForm.TheVariants as form
-use Rattle.mm_session.specs.declared.bound_line.BoundLine.TheVariants as line
+use Rattle.mm_reply.specs.declared.bound_command.BoundCommand.TheVariants as line
 use Rattle.mm_session.specs.declared.refilling.Refilled.{Refilled}
-use Rattle.mm_session.specs.steps.Filled.{IsLent, IsToRun, RefillsToRun, change_to_run, form_to_run}
+use Rattle.mm_reply.specs.BoundCommands.{IsBoundCommand}
+use Rattle.mm_session.specs.steps.Filled.{IsToRun, RefillsToRun, change_to_run, form_to_run}
 use Rattle.mm_session.specs.steps.Forms.{HasForm, IsBoundForm, IsChangeForm, IsFormOf, IsFormWith, IsQueryForm}
-use Rattle.mm_session.specs.steps.Readings.{is_definition}
 
 -- What differs in literals alone from a SELECT is one, ..
 select_shape : (command : Command) (query : Query) → blank (Select query) ≡ blank command → (template : Query) × (command ≡ Select template)
@@ -154,7 +153,6 @@ pub record HasFilled (schema : Schema) (holes : List Bool) (values : List Value)
   pub filled : Command
   pub fills : Filled holes values command filled
   pub within : first_fault (literals_of filled) ≡ None
-  pub other : is_definition filled ≡ false
   pub binds : IsBoundForm schema filled bound
 
 -- There is one for each bound form of a command with values.
@@ -164,18 +162,16 @@ filled_of schema holes values command (form.Query bound) with_values = record {
   filled = Select with_values.query;
   fills = subst (λ (c : Command). Filled holes values c (Select with_values.query)) (sym with_values.is) with_values.binds.filled;
   within = with_values.binds.within;
-  other = refl;
   binds = bound_query schema holes values command bound with_values;
 }
 filled_of schema holes values command (form.Change bound) with_values = record {
   filled = Change with_values.mutation;
   fills = subst (λ (c : Command). Filled holes values c (Change with_values.mutation)) (sym with_values.is) with_values.binds.filled;
   within = with_values.binds.within;
-  other = refl;
   binds = bound_change schema holes values command bound with_values;
 }
 
--- Running the bound form of a command with values leads to what a statement of the command with these values leads to, ..
+-- Running the bound form of a command with values leads to what a statement of the command with these values leads to.
 module _ (line : List ℕ) (values : List Value) (command : Command) (ran : BoundForm) (before : State) (outcome : Outcome)
     (own : HasFilled before.schema (holes_of line) values command ran) (leads : MayLeadTo (Ok own.filled) before outcome) where
   pub runs_form : template_of line ≡ Ok command → Runs line values before outcome
@@ -190,10 +186,6 @@ module _ (line : List ℕ) (values : List Value) (command : Command) (ran : Boun
         leads;
   }
 
-  -- .. and leaves the catalog as it is.
-  pub form_keeps : outcome.state.schema ≡ before.schema
-  form_keeps = leads_keep own.filled before outcome own.other leads
-
 -- ---- forms to run
 
 -- A form that is run has a bound change that is run, where it is a change of rows, ..
@@ -207,16 +199,16 @@ change_of_run bound filled some = by (change_to_run bound filled) some
 -- .. and is lent as that.
 pub lent_change : (schema : Schema) (command : Command) (bound : BoundChange) (filled : Refilled) (ran : BoundForm) (lent : ChangeToRun)
     → form_to_run (form.Change bound) filled ≡ Some ran → ((own : BoundChange) → change_to_run bound filled ≡ Some own → bound_of lent ≡ own)
-    → IsBoundForm schema command ran → IsLent schema command (line.Change lent)
+    → IsBoundForm schema command ran → IsBoundCommand schema command (line.Change lent)
 lent_change schema command bound filled ran lent is lends binds = by (change_to_run bound filled) refl is
   where
-    of_change : (c : Command) (own : BoundChange) → bound_of lent ≡ own → IsBoundForm schema c (form.Change own) → IsLent schema c (line.Change lent)
+    of_change : (c : Command) (own : BoundChange) → bound_of lent ≡ own → IsBoundForm schema c (form.Change own) → IsBoundCommand schema c (line.Change lent)
     of_change (Change mutation) own same is = subst (IsBoundChange schema mutation) (sym same) is
     of_change (Select query) own same is = absurd is
     of_change _ own same is = absurd is
 
     by : (o : Option BoundChange) → change_to_run bound filled ≡ o → option_map (λ (change : BoundChange). form.Change change) o ≡ Some ran
-        → IsLent schema command (line.Change lent)
+        → IsBoundCommand schema command (line.Change lent)
     by None own is = absurd (cc)
     by (Some change) own is =
         let same : form.Change change ≡ ran = cc in
@@ -224,12 +216,12 @@ lent_change schema command bound filled ran lent is lends binds = by (change_to_
 
 -- A query that is run is lent.
 pub lent_query : (schema : Schema) (command : Command) (bound : Bor Bound) (filled : Refilled) (ran : BoundForm)
-    → form_to_run (form.Query bound.now) filled ≡ Some ran → IsBoundForm schema command ran → IsLent schema command (line.Query bound)
+    → form_to_run (form.Query bound.now) filled ≡ Some ran → IsBoundForm schema command ran → IsBoundCommand schema command (line.Query bound)
 lent_query schema command bound filled ran is binds =
     let same : form.Query bound.now ≡ ran = cc in
     of_query command (subst (IsBoundForm schema command) (sym same) binds)
   where
-    of_query : (c : Command) → IsBoundForm schema c (form.Query bound.now) → IsLent schema c (line.Query bound)
+    of_query : (c : Command) → IsBoundForm schema c (form.Query bound.now) → IsBoundCommand schema c (line.Query bound)
     of_query (Select query) is = is
     of_query (Change mutation) is = absurd is
     of_query _ is = absurd is

@@ -8,7 +8,8 @@ use Rattle.mm_query.specs.declared.command.Mutation.TheVariants.{Insert, Update,
 use Rattle.mm_query.specs.declared.query.Query.{Query}
 use Rattle.mm_lang.specs.Reading.{literals_of}
 use Rattle.mm_session.specs.Kinds.{has_plan, kind_of, query_of}
-use Rattle.mm_session.specs.steps.Readings.{explained, is_definition, is_of_catalog}
+use Rattle.mm_reply.specs.Sinks.{is_definition}
+use Rattle.mm_session.specs.steps.Readings.{explained, is_of_catalog}
 
 -- A kind is of the catalog exactly if its commands are definitions.
 pub kind_defines : (command : Command) → is_of_catalog (kind_of command) ≡ is_definition command

@@ -1,8 +1,6 @@
 mod CallRows
 mod CallStates
-pub mod Catalogs
 mod ColumnTypes
-pub mod DueSteps
 pub mod FilledForms
 pub mod FormLemmas
 mod FoundColumns

@@ -23,7 +23,8 @@ use Rattle.mm_statement.proofs.Fillers.{merged_no_values}
 use Rattle.mm_statement.specs.Filling.{AnswersFilling, IsFilling, blank, merged}
 use Rattle.mm_statement.specs.Holes.{hole_count}
 use Rattle.mm_session.specs.Statements.{Runs}
-use Rattle.mm_session.specs.steps.Readings.{FillsLine, is_definition}
+use Rattle.mm_reply.specs.Sinks.{is_definition}
+use Rattle.mm_session.specs.steps.Readings.{FillsLine}
 
 -- ---- no literal past its limit
 
@@ -191,7 +192,7 @@ module _ (line : List ℕ) (command : Command) (values : List Value) (read : tem
 -- ---- runs
 
 module _ (line : List ℕ) (values : List Value) (before : State) (outcome : Outcome) where
-  -- What a filled command leads to is what the statement leads to, ..
+  -- What a filled command leads to is what the statement leads to.
   pub runs_filled : (filled : Command) → FillsLine line values (Ok filled) → MayLeadTo (Ok filled) before outcome → Runs line values before outcome
   runs_filled filled line_fills leads = record {
     command = line_fills.command;
@@ -208,7 +209,7 @@ module _ (line : List ℕ) (values : List Value) (before : State) (outcome : Out
         line_fills.fills;
   }
 
-  -- .. and so is a refusal.
+  -- A refusal is one of the filling, or want of memory.
   pub runs_refused : (e : Refusal) → FillsLine line values (Err e) → outcome ≡ refused_outcome e before → Runs line values before outcome
   runs_refused e line_fills is = record {
     command = line_fills.command;
@@ -220,3 +221,8 @@ module _ (line : List ℕ) (values : List Value) (before : State) (outcome : Out
         inr (is ∙ ap (λ (r : Refusal). refused_outcome r before) (let clash = h.0 in cc), h.1))
         line_fills.fills;
   }
+
+  -- So is what a reading leads to.
+  pub runs_read : (read : Result Command Refusal) → FillsLine line values read → MayLeadTo read before outcome → Runs line values before outcome
+  runs_read (Ok filled) fills leads = runs_filled filled fills leads
+  runs_read (Err refusal) fills leads = runs_refused refusal fills leads

@@ -1,5 +1,5 @@
 -- Statements whose queries are explained.
-use Rattle.std.proofs.Common.{◌≡◌, ℕ, true, List, Some, Result, Ok, Err, IsTrue, inl, inr, is_some, ⊎_elim, sym, ap, subst, ◌∙◌}
+use Rattle.std.proofs.Common.{◌≡◌, ℕ, true, List, Some, Result, Ok, Err, IsTrue, false, inl, inr, is_some, ⊎_elim, refl, sym, ap, subst, ◌∙◌}
 use Rattle.mm_value.specs.declared.refusal.Refusal.{Refusal}
 use Rattle.mm_value.specs.declared.refusal.Refusal.TheVariants.{Memory}
 use Rattle.mm_value.specs.declared.values.Value.{Value}
@@ -12,7 +12,7 @@ use Rattle.mm_lang.specs.Answering.{MayLeadTo}
 use Rattle.mm_lang.specs.Reading.{command_takes_memory}
 use Rattle.mm_lang.specs.Templates.{Prepares, holes_of, template_of}
 use Rattle.mm_statement.specs.Filling.{AnswersFilling, IsFilling}
-use Rattle.mm_session.proofs.Catalogs.{leads_keep}
+use Rattle.mm_reply.specs.Sinks.{defines}
 use Rattle.mm_session.proofs.KindLemmas.{explained_query, the_query}
 use Rattle.mm_session.proofs.LineReadings.{defines_alike}
 use Rattle.mm_session.specs.Kinds.{query_of}
@@ -53,8 +53,8 @@ module _ (line : List ℕ) (values : List Value) where
   }
 
   module _ (before : State) (outcome : Outcome) where
-    -- What a filled EXPLAIN leads to is what explaining the statement leads to, ..
-    pub explains_filled : (filled : Command) → FillsExplain line values (Ok filled) → MayLeadTo (Ok filled) before outcome
+    -- What a filled EXPLAIN leads to is what explaining the statement leads to.
+    explains_filled : (filled : Command) → FillsExplain line values (Ok filled) → MayLeadTo (Ok filled) before outcome
         → Explains line values before outcome
     explains_filled filled fills leads = record {
       command = fills.command;
@@ -72,18 +72,8 @@ module _ (line : List ℕ) (values : List Value) where
           fills.fills;
     }
 
-    -- .. and leaves the catalog as it is.
-    pub explain_keeps : (filled : Command) → FillsExplain line values (Ok filled) → MayLeadTo (Ok filled) before outcome
-        → outcome.state.schema ≡ before.schema
-    explain_keeps filled fills leads =
-        ⊎_elim
-        (λ (f : IsFilling (holes_of line) values (Explain fills.query) (Ok filled)).
-        leads_keep filled before outcome (defines_alike (Explain fills.query) filled f.0.same) leads)
-        (λ (h : Ok filled ≡ Err Memory). absurd (cc))
-        fills.fills
-
     -- A refusal is one of the filling, or want of memory.
-    pub explains_refused : (e : Refusal) → FillsExplain line values (Err e) → outcome ≡ refused_outcome e before → Explains line values before outcome
+    explains_refused : (e : Refusal) → FillsExplain line values (Err e) → outcome ≡ refused_outcome e before → Explains line values before outcome
     explains_refused e fills is = record {
       command = fills.command;
       query = fills.query;
@@ -95,3 +85,17 @@ module _ (line : List ℕ) (values : List Value) where
           (λ (h : Err e ≡ Err Memory). inr (is ∙ ap (λ (r : Refusal). refused_outcome r before) (let same : e ≡ Memory = cc in same)))
           fills.fills;
     }
+
+    -- So is what a reading leads to.
+    pub explains_read : (read : Result Command Refusal) → FillsExplain line values read → MayLeadTo read before outcome → Explains line values before outcome
+    explains_read (Ok filled) fills leads = explains_filled filled fills leads
+    explains_read (Err refusal) fills leads = explains_refused refusal fills leads
+
+  -- What a statement is explained by is no definition.
+  pub explain_defines : (read : Result Command Refusal) → FillsExplain line values read → defines read ≡ false
+  explain_defines (Ok filled) fills =
+      ⊎_elim
+      (λ (f : IsFilling (holes_of line) values (Explain fills.query) (Ok filled)). defines_alike (Explain fills.query) filled f.0.same)
+      (λ (h : Ok filled ≡ Err Memory). absurd (cc))
+      fills.fills
+  explain_defines (Err refusal) fills = refl

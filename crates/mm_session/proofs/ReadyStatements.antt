@@ -1,6 +1,6 @@
 -- Statements that are ready, and what sessions come to.
 use Rattle.std.proofs.Common.{◌≡◌, ◌++◌, ◌∷◌, ℕ, Bool, true, false, List, [], Option, Some, None, Result, Ok, Err, IsTrue, length, map, get_or, set}
-use Rattle.std.proofs.Common.{inl, inr, ⊎_elim, cond, refl, sym, ap, subst, ◌∙◌}
+use Rattle.std.proofs.Common.{inl, inr, ⊎_elim, refl, sym, ap, subst, ◌∙◌}
 use Rattle.std.specs.List.{All}
 use Rattle.std.specs.Option.{option_map}
 use Rattle.std.specs.Prelude.{IfErr, IfSome, OnErr, OnOk, slice_get}
@@ -12,20 +12,18 @@ use Rattle.mm_value.specs.declared.refusal.Refusal.{Refusal}
 use Rattle.mm_value.specs.declared.refusal.Refusal.TheVariants.{Memory}
 use Rattle.mm_value.specs.declared.values.Value.{Value}
 use Rattle.mm_schema.specs.Schema.{Schema}
-use Rattle.mm_query.specs.Machine.{Outcome, refused_outcome, step}
+use Rattle.mm_query.specs.Machine.{Outcome}
 use Rattle.mm_query.specs.State.{State}
 use Rattle.mm_query.specs.declared.command.Command.{Command}
 use Rattle.mm_query.specs.declared.reply.Reply.{Reply}
-use Rattle.mm_lang.specs.Answering.{MayLeadTo, answer, outcome_of}
-use Rattle.mm_lang.specs.Reading.{Reads, command_takes_memory, reading, reading_takes_memory, takes_memory}
+use Rattle.mm_lang.specs.Reading.{command_takes_memory}
 use Rattle.mm_lang.specs.Templates.{holes_of, template_of}
 use Rattle.mm_statement.specs.Filling.{IsFilling}
 use Rattle.mm_statement.specs.Holes.{HolePlaces, hole_count, hole_places}
-use Rattle.mm_session.proofs.Catalogs.{leads_keep}
 use Rattle.mm_session.proofs.FormLemmas.{forms_with}
 use Rattle.mm_session.proofs.KindLemmas.{kind_defines}
 use Rattle.mm_session.proofs.LineReadings.{defines_alike}
-use Rattle.mm_session.specs.Session.{AnswersLine, Finalizes, SessionState, TakesNumber, changes_after, outcome_in}
+use Rattle.mm_session.specs.Session.{Finalizes, TakesNumber}
 use Rattle.mm_session.specs.Statements.{line_at}
 use Rattle.mm_session.specs.declared.bound_form.BoundForm.{BoundForm}
 use Rattle.mm_session.specs.declared.misuse.Misuse.{Misuse}
@@ -33,7 +31,8 @@ use Rattle.mm_session.specs.declared.misuse.Misuse.TheVariants.{NoSuchStatement}
 use Rattle.mm_session.specs.declared.statement.Statement.{Statement}
 use Rattle.mm_session.specs.steps.Forms.{HasForm, IsBoundForm, IsFormOf, IsReady, IsReadyStatement}
 use Rattle.mm_session.specs.steps.Places.{PutsStatement, forgotten, line_in}
-use Rattle.mm_session.specs.steps.Readings.{FillsLine, is_definition, is_of_catalog}
+use Rattle.mm_reply.specs.Sinks.{Delivers, defines, is_definition}
+use Rattle.mm_session.specs.steps.Readings.{FillsLine, is_of_catalog}
 
 -- What holds of a refusal that may be there implies more of it.
 pub if_err : {X E : Type 0} (P Q : E → Type 0) (result : Result X E) → ((e : E) → P e → Q e) → IfErr result P → IfErr result Q
@@ -70,13 +69,17 @@ module _ (schema : Schema) (statement : Statement) (values : List Value) (filled
         (forms_with after (holes_of statement.line.items) values fills.command filled kept count is_filled.0 is_filled.1 bound);
   }
 
-  -- A run of what is no change of the catalog leaves it as it is.
-  pub run_keeps : (before : State) (outcome : Outcome) → is_of_catalog statement.kind ≡ false → MayLeadTo (Ok filled) before outcome
-      → outcome.state.schema ≡ before.schema
-  run_keeps before outcome other leads =
-      leads_keep filled before outcome
-      (defines_alike fills.command filled is_filled.0.same ∙ (ap is_definition same
-      ∙ (sym (kind_defines ready.command) ∙ (ap is_of_catalog (sym ready.kind) ∙ other)))) leads
+  filled_defines : is_of_catalog statement.kind ≡ false → is_definition filled ≡ false
+  filled_defines other =
+      defines_alike fills.command filled is_filled.0.same ∙ (ap is_definition same
+      ∙ (sym (kind_defines ready.command) ∙ (ap is_of_catalog (sym ready.kind) ∙ other)))
+
+-- What a statement of another kind is filled to is no definition.
+pub run_defines : (schema : Schema) (statement : Statement) (values : List Value) (read : Result Command Refusal) → IsReadyStatement schema statement
+    → length values ≡ hole_count (holes_of statement.line.items) → FillsLine statement.line.items values read → is_of_catalog statement.kind ≡ false
+    → defines read ≡ false
+run_defines schema statement values (Ok filled) ready count fills other = filled_defines schema statement values filled ready count fills other
+run_defines schema statement values (Err refusal) ready count fills other = refl
 
 -- A statement tells where the holes of its line are, ..
 pub flags : (schema : Schema) (statement : Statement) → IsReadyStatement schema statement → statement.holes.are_holes ≡ holes_of statement.line.items
@@ -206,40 +209,11 @@ finalized number state reply changes old new (Err misuse) gone stands misused ke
   misused.1,
 )
 
-refused_memory : (line : List ℕ) (state : State) → IsTrue (takes_memory line) → answer true line state ≡ refused_outcome Memory state
-refused_memory line state takes = ap (λ b. cond b (refused_outcome Memory state) (outcome_of (reading line) state)) takes
-
--- A line is answered by what its command leads to, ..
-pub answers_command : (line : List ℕ) (command : Command) (old new : SessionState) → reading line ≡ Ok command
-    → MayLeadTo (Ok command) old.state (outcome_in new) → new.lines ≡ old.lines → new.changes ≡ changes_after new.reply old.changes
-    → AnswersLine line old new
-answers_command line command old new read leads lines changes =
-    ⊎_elim
-    (λ (is : outcome_in new ≡ step command old.state).
-    record { choice = false; outcome = is ∙ ap (λ r. outcome_of r old.state) (sym read); lines = lines; changes = changes })
-    (λ (h : (outcome_in new ≡ refused_outcome Memory old.state) × IsTrue (command_takes_memory command)).
-    record {
-      choice = true;
-      outcome = h.0 ∙ sym (refused_memory line old.state (ap reading_takes_memory read ∙ h.1));
-      lines = lines;
-      changes = changes;
-    })
-    leads
-
--- .. or by its refusal.
-pub answers_refused : (line : List ℕ) (refusal : Refusal) (old new : SessionState) → Reads line (Err refusal)
-    → outcome_in new ≡ refused_outcome refusal old.state → new.lines ≡ old.lines → new.changes ≡ old.changes → AnswersLine line old new
-answers_refused line refusal old new reads is lines same =
-    let changes : new.changes ≡ changes_after new.reply old.changes =
-    same ∙ sym (ap (λ (o : Outcome). changes_after o.reply old.changes) is) in
-    ⊎_elim
-    (λ (h : reading line ≡ Err refusal).
-    record { choice = false; outcome = is ∙ ap (λ r. outcome_of r old.state) (sym h); lines = lines; changes = changes })
-    (λ (h : (refusal ≡ Memory) × IsTrue (takes_memory line)).
-    record {
-      choice = true;
-      outcome = is ∙ (ap (λ (r : Refusal). refused_outcome r old.state) h.0 ∙ sym (refused_memory line old.state h.1));
-      lines = lines;
-      changes = changes;
-    })
-    reads
+-- What was delivered to the stored reply is the outcome of the call.
+pub stored_outcome : {T : Type 0} {old new : Option Reply} {taken : T} {after : State} {IsOutcome : Outcome → Type 0}
+    → Delivers (λ (_ : Option Reply) (stored : Option Reply) (reply : Option Reply) (_ : T). stored ≡ reply) old new taken after IsOutcome
+    → IsOutcome (record { reply = new; state = after })
+stored_outcome {new = new} {after = after} {IsOutcome = IsOutcome} d =
+    subst IsOutcome
+    (sym (ap (λ (r : Option Reply). record { reply = r; state = after }) d.took
+    ∙ ap (λ (s : State). record { reply = d.outcome.reply; state = s }) d.state)) d.is

@@ -4,5 +4,4 @@ pub mod Kinds
 pub mod Replies
 pub mod Session
 pub mod Statements
-pub mod Templates
 pub mod steps

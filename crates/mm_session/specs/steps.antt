@@ -4,3 +4,4 @@ pub mod Forms
 pub mod Kept
 pub mod Readings
 pub mod Places
+pub mod Templates

@@ -5,17 +5,17 @@
 #![tactic(auto)]
 
 mod bound_form;
-mod bound_line;
 mod calls_law;
 mod columns;
 mod columns_law;
 mod early_form;
+mod lending;
+mod lines;
 mod misuse;
 mod reading;
 mod refilling;
 mod refused_place;
 mod replies;
-mod responding;
 mod session;
 mod slots;
 mod statement;
@@ -25,7 +25,6 @@ mod template_set;
 mod template_slots;
 mod templates;
 
-pub use bound_line::BoundLine;
 pub use calls_law::{
     calls_lead_to_states_of_commands, parameters_are_the_holes_of_a_line,
     rows_of_calls_have_the_types_of_columns, statements_answer_as_their_lines,
@@ -38,4 +37,3 @@ pub use misuse::{ColumnsError, Misuse};
 pub use replies::LastReply;
 pub use session::Session;
 pub use statement_kind::StatementKind;
-pub use templates::{FoundLine, Templates};

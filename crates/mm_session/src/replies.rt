@@ -1,21 +1,47 @@
 //! The reply to the last call.
-ghost use Rattle.std.specs.Prelude.{◌≡◌, List};
-ghost use Rattle.mm_value.specs.declared.values.Value.{Value as AnyValue};
+ghost use Rattle.std.specs.Prelude.{◌≡◌, None, Ok};
+ghost use Rattle.mm_lang.specs.Answering.{MayLeadTo};
+ghost use Rattle.mm_query.specs.declared.command.Command.TheVariants.{Select};
+ghost use Rattle.mm_query.specs.declared.query.Query.{Query as AnyQuery};
 ghost use Rattle.mm_session.specs.Replies.{reply_lent};
 ghost use Rattle.mm_session.specs.Session.{changes_after};
 ghost use Rattle.mm_session.specs.steps.Kept.{reply_kept};
+ghost use Rattle.mm_txn.specs.Bound.{IsBoundQuery};
 
-use mm_query::{Reply, RowBuffer};
+use mm_query::{Bound, Reply, RowBuffer};
+use mm_reply::ReplySink;
+use mm_txn::{Db, Rows};
+use mm_value::Refusal;
+use std::alloc::Global;
+use std::marker::Model;
 
-/// The reply to the last call, as a session stores it.
+/// How the reply to the last call is stored.
 #[derive(Drop)]
-pub(crate) enum Kept {
+enum Kept {
     /// No reply.
     Nothing,
-    /// The rows in the session's buffer.
+    /// The rows in the buffer.
     InBuffer,
     /// Any other reply.
     Other(Reply),
+}
+
+/// The reply to the last call, seen as the reply. A sink that stores each reply in place of the last one.
+#[derive(Drop)]
+pub(crate) struct KeptReply {
+    /// The rows of the reply, if it has any. The buffer's allocations are reused.
+    rows: RowBuffer,
+    kept: Kept,
+}
+
+impl Model for KeptReply {
+    ghost use Rattle.std.specs.Prelude.{Option};
+    ghost use Rattle.mm_query.specs.declared.reply.Reply.{Reply as AnyReply};
+    ghost use Rattle.mm_session.specs.steps.Kept.{reply_kept};
+
+    ghost Value = { Option AnyReply };
+
+    ghost view = { λ k. reply_kept k.rows k.kept };
 }
 
 /// The reply to the last call of a session, borrowed from the session.
@@ -29,29 +55,75 @@ pub enum LastReply<'s> {
     Other(&'s Reply),
 }
 
-/// Borrows the stored reply. Its rows are those of the buffer.
-pub(crate) fn lend<'s>(rows: &'s RowBuffer, reply: &'s Kept) -> LastReply<'s>
-    ensures { reply_lent result ≡ reply_kept rows.now reply.now }
-{
-    match reply {
-        Kept::Nothing => LastReply::Nothing,
-        Kept::InBuffer => LastReply::Rows(rows),
-        Kept::Other(reply) => LastReply::Other(reply),
+impl KeptReply {
+    /// Returns no reply. Allocates nothing.
+    pub(crate) fn new(alloc: Global) -> KeptReply
+        ensures { result ≡ None }
+    {
+        KeptReply {
+            rows: RowBuffer::new(alloc),
+            kept: Kept::Nothing,
+        }
+    }
+
+    /// Borrows the stored reply.
+    pub(crate) fn lend(&self) -> LastReply<'_>
+        ensures { reply_lent result ≡ self.now }
+    {
+        match &self.kept {
+            Kept::Nothing => LastReply::Nothing,
+            Kept::InBuffer => LastReply::Rows(&self.rows),
+            Kept::Other(reply) => LastReply::Other(reply),
+        }
+    }
+
+    /// Adds the rows that the reply counts to a count of changed rows, modulo 2^64.
+    pub(crate) fn count_changes(&self, changes: &mut u64)
+        ensures { changes.new ≡ changes_after self.now changes.old }
+    {
+        if let Kept::Other(Reply::Count(rows)) = &self.kept {
+            *changes = changes.wrapping_add(*rows as u64);
+        }
     }
 }
 
-/// Replaces the stored reply.
-pub(crate) fn keep(kept: &mut Kept, reply: Kept)
-    ensures { kept.new ≡ reply }
-{
-    *kept = reply;
+impl ReplySink for KeptReply {
+    type Taken = ();
+
+    ghost can_take = { λ _. Unit {0} };
+
+    ghost takes = { λ _ new reply _. new ≡ reply };
+
+    fn take(&mut self, reply: Option<Reply>) {
+        self.kept = match reply {
+            Some(reply) => Kept::Other(reply),
+            None => Kept::Nothing,
+        };
+    }
+
+    fn take_rows(&mut self, alloc: Global, rows: &Rows<'_>) {
+        self.rows.clear();
+        self.kept = match rows.copy_into(alloc, &mut self.rows) {
+            Ok(()) => Kept::InBuffer,
+            Err(_) => Kept::Other(Reply::Refused(Refusal::Memory)),
+        };
+    }
+
+    fn take_selected(&mut self, alloc: Global, database: &Db, bound: &Bound) {
+        self.kept = select(alloc, database, bound, &mut self.rows);
+    }
 }
 
-/// Adds the rows that a reply counts to a count of changed rows, modulo 2^64.
-pub(crate) fn count_changes(changes: &mut u64, reply: &Kept)
-    ensures { (rows : List (List AnyValue)) → changes.new ≡ changes_after (reply_kept rows reply.now) changes.old }
+/// Runs a bound query, and returns its reply. Replaces the rows of the buffer.
+fn select(alloc: Global, database: &Db, bound: &Bound, rows: &mut RowBuffer) -> Kept
+    requires { (query : AnyQuery) × IsBoundQuery database.now.schema query bound.now }
+    ensures { (query : AnyQuery) → IsBoundQuery database.now.schema query bound.now
+        → MayLeadTo (Ok (Select query)) database.now (record { reply = reply_kept rows.new result; state = database.now }) }
 {
-    if let Kept::Other(Reply::Count(rows)) = reply {
-        *changes = changes.wrapping_add(*rows as u64);
+    rows.clear();
+    let mut reads = 0;
+    match database.select_into(alloc, bound, rows, &mut reads) {
+        Ok(()) => Kept::InBuffer,
+        Err(refusal) => Kept::Other(Reply::Refused(refusal)),
     }
 }

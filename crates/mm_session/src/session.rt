@@ -1,20 +1,16 @@
 //! Sessions.
 ghost use Rattle.std.specs.Prelude.{◌≡◌, ◌≤◌, ◌⊎◌, [], Err, IfErr, IfOk, None, Ok, is_some, length, map};
 
-use crate::bound_line::run_bound;
 use crate::columns::columns_of_line;
+use crate::lines::execute_line;
 use crate::misuse::{ColumnsError, Misuse};
 use crate::refused_place::place_of_refusal;
-use crate::replies::{Kept, LastReply, count_changes, keep, lend};
-use crate::responding::{is_definition, respond};
-use crate::slots::{
-    add, columns_at, explain_at, forget_bound_forms, kind, parameters, remove, run_at,
-};
+use crate::replies::{KeptReply, LastReply};
+use crate::slots::{add, columns_at, explain_at, kind, parameters, remove, run_at};
 use crate::statement::Statement;
 use crate::statement_kind::StatementKind;
 use crate::templates::Templates;
-use mm_lang::parse;
-use mm_query::{Command, Reply, RowBuffer};
+use mm_reply::ReplySink;
 use mm_schema::{Column, Name};
 use mm_txn::Db;
 use mm_value::{Refusal, Value};
@@ -28,9 +24,7 @@ pub struct Session {
     database: Db,
     /// The statements by number; `None` if one was deleted.
     statements: Vec<Option<Statement>>,
-    /// The rows of the last reply, if it has any. The buffer's allocations are reused.
-    rows: RowBuffer,
-    reply: Kept,
+    last: KeptReply,
     /// The number of rows that all calls changed, modulo 2^64.
     changes: u64,
     /// The templates of lines that came more than once.
@@ -41,17 +35,16 @@ impl Model for Session {
     ghost use Rattle.std.specs.List.{All};
     ghost use Rattle.std.specs.Prelude.{map};
     ghost use Rattle.mm_session.specs.Session.{SessionState};
-    ghost use Rattle.mm_session.specs.Templates.{AreReady};
     ghost use Rattle.mm_session.specs.steps.Forms.{IsReady};
-    ghost use Rattle.mm_session.specs.steps.Kept.{reply_kept};
     ghost use Rattle.mm_session.specs.steps.Places.{line_in};
+    ghost use Rattle.mm_session.specs.steps.Templates.{AreReady};
 
     ghost Value = { SessionState };
 
     ghost view = { λ s. record {
       state = s.database;
       lines = map line_in s.statements.items;
-      reply = reply_kept s.rows s.reply;
+      reply = s.last;
       changes = s.changes;
     } };
 
@@ -59,14 +52,13 @@ impl Model for Session {
 }
 
 impl Session {
-    ghost use Rattle.mm_lang.specs.Answering.{MayLeadTo};
-    ghost use Rattle.mm_query.specs.State.{first_state};
     ghost use Rattle.mm_lang.specs.Templates.{template_of};
+    ghost use Rattle.mm_query.specs.State.{first_state};
+    ghost use Rattle.mm_reply.specs.Sinks.{Delivers, IsAnswerTo};
     ghost use Rattle.mm_session.specs.Columns.{AreColumnsOf};
     ghost use Rattle.mm_session.specs.Replies.{reply_lent};
     ghost use Rattle.mm_value.specs.declared.refusal.Refusal.TheVariants.{Memory};
     ghost use Rattle.mm_session.specs.Session.{AnswersLine, ExplainsStatement, Finalizes, IsPrepared, Releases, RunsStatement};
-    ghost use Rattle.mm_session.specs.Session.{changes_after, outcome_in};
     ghost use Rattle.mm_session.specs.Statements.{AreColumnsFound, IsKindOf, LacksColumns, line_at, parameters_at};
 
     /// Returns a session with an empty database, no statements and no reply. Allocates nothing.
@@ -76,8 +68,7 @@ impl Session {
         Session {
             database: Db::new(alloc),
             statements: Vec::new(alloc),
-            rows: RowBuffer::new(alloc),
-            reply: Kept::Nothing,
+            last: KeptReply::new(alloc),
             changes: 0,
             templates: Templates::new(alloc),
         }
@@ -88,39 +79,32 @@ impl Session {
     pub fn execute(&mut self, alloc: Global, line: &[u8])
         ensures { AnswersLine line.now self.old self.new }
     {
-        match self.templates.find(alloc, &self.database, line) {
-            Some(found) => {
-                let bound = self.templates.bound(found);
-                self.reply = run_bound(alloc, &mut self.database, &mut self.rows, bound);
-                count_changes(&mut self.changes, &self.reply);
-            }
-            None => self.read_and_answer(alloc, line),
-        }
+        execute_line(
+            alloc,
+            &mut self.database,
+            &mut self.statements,
+            &mut self.templates,
+            line,
+            &mut self.last,
+        );
+        self.last.count_changes(&mut self.changes);
     }
 
-    /// Reads a line, and executes it as [`Session::execute`] does.
-    fn read_and_answer(&mut self, alloc: Global, line: &[u8])
-        ensures { AnswersLine line.now self.old self.new }
+    /// Executes a line as [`Session::execute`] does, and passes the reply to a sink. The last reply and the count of changed rows are
+    /// unchanged.
+    pub fn execute_to<S: ReplySink>(&mut self, alloc: Global, line: &[u8], sink: &mut S) -> S::Taken
+        requires { S.can_take sink.old }
+        ensures delivers { Delivers S.takes sink.old sink.new result self.new.state (IsAnswerTo line.now self.old.state) }
+        ensures kept { self.new ≡ record self.old { state = self.new.state } }
     {
-        match parse(alloc, line) {
-            Ok(command) => self.answer(alloc, command),
-            Err(refusal) => keep(&mut self.reply, Kept::Other(Reply::Refused(refusal))),
-        }
-    }
-
-    /// Executes a command and stores its reply. Drops all bound forms if the catalog may have changed.
-    fn answer(&mut self, alloc: Global, command: Command<'_>)
-        ensures leads { MayLeadTo (Ok command.entry) self.old.state (outcome_in self.new) }
-        ensures lines { self.new.lines ≡ self.old.lines }
-        ensures changes { self.new.changes ≡ changes_after self.new.reply self.old.changes }
-    {
-        let is_definition = is_definition(&command);
-        self.reply = respond(alloc, &mut self.database, &mut self.rows, command);
-        count_changes(&mut self.changes, &self.reply);
-        if is_definition {
-            forget_bound_forms(&mut self.statements);
-            self.templates.forget();
-        }
+        execute_line(
+            alloc,
+            &mut self.database,
+            &mut self.statements,
+            &mut self.templates,
+            line,
+            sink,
+        )
     }
 
     /// Prepares a line, as [`mm_lang::prepare`] reads it, and returns the statement's number: the least free one. Fails as
@@ -166,16 +150,16 @@ impl Session {
     pub fn run(&mut self, alloc: Global, statement: usize, values: &[Value]) -> Result<(), Misuse>
         ensures { RunsStatement statement values.now self.old self.new result }
     {
-        self.reply = run_at(
+        run_at(
             alloc,
             &mut self.database,
-            &mut self.rows,
             &mut self.statements,
             &mut self.templates,
             statement,
             values,
+            &mut self.last,
         )?;
-        count_changes(&mut self.changes, &self.reply);
+        self.last.count_changes(&mut self.changes);
         Ok(())
     }
 
@@ -190,13 +174,13 @@ impl Session {
     ) -> Result<(), Misuse>
         ensures { ExplainsStatement statement values.now self.old self.new result }
     {
-        self.reply = explain_at(
+        explain_at(
             alloc,
             &mut self.database,
-            &mut self.rows,
             &self.statements,
             statement,
             values,
+            &mut self.last,
         )?;
         Ok(())
     }
@@ -212,7 +196,7 @@ impl Session {
     pub fn reply(&self) -> LastReply<'_>
         ensures { reply_lent result ≡ self.now.reply }
     {
-        lend(&self.rows, &self.reply)
+        self.last.lend()
     }
 
     /// Returns the number of rows that all calls inserted, updated or deleted: the sum of the counts of their replies, modulo 2^64.

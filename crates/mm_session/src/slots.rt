@@ -2,23 +2,22 @@
 ghost use Rattle.std.specs.List.{All, position};
 ghost use Rattle.std.specs.Option.{IfNone};
 ghost use Rattle.std.specs.Prelude.{◌≡◌, IfErr, IfOk, IfSome, List, None, OnErr, OnOk, Some, false, is_none, length, map, slice_set, ℕ};
+ghost use Rattle.mm_reply.specs.Sinks.{Delivers};
 ghost use Rattle.mm_schema.specs.Schema.{Schema};
 ghost use Rattle.mm_session.specs.Session.{AreTaken};
 ghost use Rattle.mm_session.specs.Statements.{AreColumnsFound, ExplainsFound, IsKindOf, IsMisused, IsUnexplained, LacksColumns, RunsFound};
 ghost use Rattle.mm_session.specs.Statements.{line_at, parameters_at};
-ghost use Rattle.mm_session.specs.Templates.{AreReady};
 ghost use Rattle.mm_session.specs.declared.misuse.Misuse.TheVariants.{NoSuchStatement};
 ghost use Rattle.mm_session.specs.steps.Forms.{IsReady, IsReadyStatement};
-ghost use Rattle.mm_session.specs.steps.Kept.{outcome_kept};
 ghost use Rattle.mm_session.specs.steps.Places.{PutsStatement, forgotten, line_in};
+ghost use Rattle.mm_session.specs.steps.Templates.{AreReady};
 
 use crate::columns::columns_of_line;
 use crate::misuse::{ColumnsError, Misuse};
-use crate::replies::Kept;
 use crate::statement::Statement;
 use crate::statement_kind::StatementKind;
 use crate::templates::Templates;
-use mm_query::RowBuffer;
+use mm_reply::ReplySink;
 use mm_schema::Column;
 use mm_txn::Db;
 use mm_value::Value;
@@ -54,64 +53,67 @@ fn first_free(statements: &[Option<Statement>]) -> Option<usize>
     statements.iter().position(|slot| slot.is_none())
 }
 
-/// Runs the statement with a number, and returns the reply. Drops all bound forms if the catalog may have changed.
-pub(crate) fn run_at(
+/// Runs the statement with a number, and passes the reply to a sink. Drops all bound forms if the catalog may have changed.
+pub(crate) fn run_at<S: ReplySink>(
     alloc: Global,
     database: &mut Db,
-    rows: &mut RowBuffer,
     statements: &mut Vec<Option<Statement>>,
     templates: &mut Templates,
     number: usize,
     values: &[Value],
-) -> Result<Kept, Misuse>
+    sink: &mut S,
+) -> Result<S::Taken, Misuse>
+    requires can { S.can_take sink.old }
     requires statements { All (IsReady database.old.schema) statements.old.items }
     requires templates { AreReady database.old.schema templates.old }
     ensures ready { All (IsReady database.new.schema) statements.new.items }
     ensures templates { AreReady database.new.schema templates.new }
     ensures lines { map line_in statements.new.items ≡ map line_in statements.old.items }
-    ensures ok { IfOk result (λ reply. RunsFound (line_at number (map line_in statements.old.items)) values.now database.old
-        (outcome_kept rows.new reply database.new)) }
+    ensures ok { IfOk result (λ taken. Delivers S.takes sink.old sink.new taken database.new
+        (RunsFound (line_at number (map line_in statements.old.items)) values.now database.old)) }
     ensures err { IfErr result (IsMisused (line_at number (map line_in statements.old.items)) (length values.now)) }
-    ensures kept { OnErr result ((database.new ≡ database.old) × (rows.new ≡ rows.old)) }
+    ensures kept { OnErr result ((database.new ≡ database.old) × (sink.new ≡ sink.old)) }
 {
     if number >= statements.len() {
         return Err(Misuse::NoSuchStatement);
     }
     let slot = &mut statements[number];
     let Ran {
-        reply,
+        taken,
         is_definition,
-    } = run_slot(alloc, database, rows, slot, values)?;
+    } = run_slot(alloc, database, slot, values, sink)?;
     if is_definition {
         forget_bound_forms(statements);
         templates.forget();
     }
-    Ok(reply)
+    Ok(taken)
 }
 
 /// The result of running a statement.
-#[derive(Drop)]
-struct Ran {
-    reply: Kept,
+struct Ran<T> {
+    /// What the sink returned for the reply.
+    taken: T,
     /// Whether the command was a definition, which changes the catalog.
     is_definition: bool,
 }
 
 /// Runs the statement of a slot with values. Fails if the slot is empty or the number of values is wrong.
-fn run_slot(
+fn run_slot<S: ReplySink>(
     alloc: Global,
     database: &mut Db,
-    rows: &mut RowBuffer,
     slot: &mut Option<Statement>,
     values: &[Value],
-) -> Result<Ran, Misuse>
-    requires { IsReady database.old.schema slot.old }
+    sink: &mut S,
+) -> Result<Ran<S::Taken>, Misuse>
+    requires can { S.can_take sink.old }
+    requires ready { IsReady database.old.schema slot.old }
     ensures ready { IsReady database.new.schema slot.new }
     ensures line { line_in slot.new ≡ line_in slot.old }
-    ensures ok { IfOk result (λ ran. RunsFound (line_in slot.old) values.now database.old (outcome_kept rows.new ran.reply database.new)) }
+    ensures ok { IfOk result (λ ran. Delivers S.takes sink.old sink.new ran.taken database.new
+        (RunsFound (line_in slot.old) values.now database.old)) }
     ensures schema { IfOk result (λ ran. ran.is_definition ≡ false → database.new.schema ≡ database.old.schema) }
     ensures err { IfErr result (IsMisused (line_in slot.old) (length values.now)) }
-    ensures kept { OnErr result ((database.new ≡ database.old) × (rows.new ≡ rows.old)) }
+    ensures kept { OnErr result ((database.new ≡ database.old) × (sink.new ≡ sink.old)) }
     ensures unchanged { OnErr result (slot.new ≡ slot.old) }
 {
     let Some(statement) = slot else {
@@ -121,9 +123,9 @@ fn run_slot(
         return Err(Misuse::WrongNumberOfValues);
     }
     let is_definition = statement.kind.is_of_catalog();
-    let reply = statement.run(alloc, database, rows, values);
+    let taken = statement.run(alloc, database, values, sink);
     Ok(Ran {
-        reply,
+        taken,
         is_definition,
     })
 }
@@ -183,22 +185,23 @@ pub(crate) fn columns_at<'c>(
     }
 }
 
-/// Returns the reply to EXPLAIN with the query of the statement with a number and the holes filled. Fails with `NoSuchStatement`, `NoPlan`
-/// or `WrongNumberOfValues`.
-pub(crate) fn explain_at(
+/// Runs EXPLAIN with the query of the statement with a number and the holes filled, and passes the reply to a sink. Fails with
+/// `NoSuchStatement`, `NoPlan` or `WrongNumberOfValues`.
+pub(crate) fn explain_at<S: ReplySink>(
     alloc: Global,
     database: &mut Db,
-    rows: &mut RowBuffer,
     statements: &[Option<Statement>],
     number: usize,
     values: &[Value],
-) -> Result<Kept, Misuse>
-    requires { All (IsReady database.old.schema) statements.now }
-    ensures ok { IfOk result (λ reply. ExplainsFound (line_at number (map line_in statements.now)) values.now database.old
-        (outcome_kept rows.new reply database.new)) }
+    sink: &mut S,
+) -> Result<S::Taken, Misuse>
+    requires can { S.can_take sink.old }
+    requires ready { All (IsReady database.old.schema) statements.now }
+    ensures ok { IfOk result (λ taken. Delivers S.takes sink.old sink.new taken database.new
+        (ExplainsFound (line_at number (map line_in statements.now)) values.now database.old)) }
     ensures schema { database.new.schema ≡ database.old.schema }
     ensures err { IfErr result (IsUnexplained (line_at number (map line_in statements.now)) (length values.now)) }
-    ensures kept { OnErr result ((database.new ≡ database.old) × (rows.new ≡ rows.old)) }
+    ensures kept { OnErr result ((database.new ≡ database.old) × (sink.new ≡ sink.old)) }
 {
     let Some(found) = statement_at(statements, number) else {
         return Err(Misuse::NoSuchStatement);
@@ -209,7 +212,7 @@ pub(crate) fn explain_at(
     if found.holes.count() != values.len() {
         return Err(Misuse::WrongNumberOfValues);
     }
-    Ok(found.explain(alloc, database, rows, values))
+    Ok(found.explain(alloc, database, values, sink))
 }
 
 /// Deletes the statement with a number. Fails with `NoSuchStatement` if there is none.

@@ -3,25 +3,24 @@ ghost use Rattle.std.specs.Option.{IfNone};
 ghost use Rattle.std.specs.Prelude.{◌≡◌, IfErr, IfOk, IfSome, None, false, length, true};
 ghost use Rattle.mm_lang.specs.Templates.{holes_of};
 ghost use Rattle.mm_query.specs.Machine.{refused_outcome};
+ghost use Rattle.mm_reply.specs.Sinks.{Delivers};
 ghost use Rattle.mm_schema.specs.Schema.{Schema};
 ghost use Rattle.mm_statement.specs.Holes.{hole_count};
 ghost use Rattle.mm_session.specs.Statements.{Explains, Runs};
 ghost use Rattle.mm_session.specs.steps.Filled.{IsFilledStatement};
 ghost use Rattle.mm_session.specs.steps.Forms.{IsReadyStatement, ReadsStatement};
-ghost use Rattle.mm_session.specs.steps.Kept.{outcome_kept};
 ghost use Rattle.mm_session.specs.Kinds.{has_plan};
 ghost use Rattle.mm_session.specs.steps.Readings.{is_of_catalog};
 
 use crate::bound_form::{BoundForm, bind_into};
-use crate::bound_line::{lend, run_bound};
 use crate::early_form::bind_template;
+use crate::lending::lend;
 use crate::reading::{read_explain, read_filled};
 use crate::refilling::{Refilled, refill};
-use crate::replies::Kept;
-use crate::responding::respond;
 use crate::statement_kind::StatementKind;
 use mm_lang::{Template, prepare, templates_read_as_lines};
-use mm_query::{Reply, RowBuffer};
+use mm_query::Reply;
+use mm_reply::{ReplySink, respond, run_bound};
 use mm_statement::Holes;
 use mm_txn::Db;
 use mm_value::{Refusal, Value};
@@ -60,65 +59,66 @@ impl Statement {
         })
     }
 
-    /// Runs the statement with a value for each hole, and returns the reply. Runs its bound form if it has one, and reads its line
+    /// Runs the statement with a value for each hole, and passes the reply to a sink. Runs its bound form if it has one, and reads its line
     /// otherwise.
-    pub(crate) fn run(
+    pub(crate) fn run<S: ReplySink>(
         &mut self,
         alloc: Global,
         database: &mut Db,
-        rows: &mut RowBuffer,
         values: &[Value],
-    ) -> Kept
+        sink: &mut S,
+    ) -> S::Taken
+        requires can { S.can_take sink.old }
         requires ready { IsReadyStatement database.old.schema self.old }
         requires values { length values.now ≡ hole_count (holes_of self.old.line.items) }
-        ensures runs { Runs self.old.line.items values.now database.old (outcome_kept rows.new result database.new) }
+        ensures runs { Delivers S.takes sink.old sink.new result database.new (Runs self.old.line.items values.now database.old) }
         ensures ready { IsReadyStatement database.new.schema self.new }
         ensures line { self.new.line ≡ self.old.line }
         ensures schema { is_of_catalog self.old.kind ≡ false → database.new.schema ≡ database.old.schema }
     {
         match self.fill(alloc, database, values) {
-            Ok(Some(filled)) => self.run_filled(alloc, database, rows, values, filled),
-            Ok(None) => self.run_line(alloc, database, rows, values),
-            Err(refusal) => Kept::Other(Reply::Refused(refusal)),
+            Ok(Some(filled)) => self.run_filled(alloc, database, values, filled, sink),
+            Ok(None) => self.run_line(alloc, database, values, sink),
+            Err(refusal) => sink.take(Some(Reply::Refused(refusal))),
         }
     }
 
-    /// Runs the bound form, which has the values, and returns the reply.
-    fn run_filled(
+    /// Runs the bound form, which has the values, and passes the reply to a sink.
+    fn run_filled<S: ReplySink>(
         &self,
         alloc: Global,
         database: &mut Db,
-        rows: &mut RowBuffer,
         values: &[Value],
         filled: Refilled,
-    ) -> Kept
-        requires { IsFilledStatement database.old.schema self.now.line.items values.now self.now filled }
-        ensures runs { Runs self.now.line.items values.now database.old (outcome_kept rows.new result database.new) }
+        sink: &mut S,
+    ) -> S::Taken
+        requires can { S.can_take sink.old }
+        requires filled { IsFilledStatement database.old.schema self.now.line.items values.now self.now filled }
+        ensures runs { Delivers S.takes sink.old sink.new result database.new (Runs self.now.line.items values.now database.old) }
         ensures schema { database.new.schema ≡ database.old.schema }
     {
         match &self.bound {
-            Some(form) => run_bound(alloc, database, rows, lend(form, filled)),
+            Some(form) => run_bound(alloc, database, lend(form, filled), sink),
             None => unreachable!(),
         }
     }
 
     /// Reads the line again and runs its command. Drops no bound form.
-    fn run_line(
+    fn run_line<S: ReplySink>(
         &self,
         alloc: Global,
         database: &mut Db,
-        rows: &mut RowBuffer,
         values: &[Value],
-    ) -> Kept
+        sink: &mut S,
+    ) -> S::Taken
+        requires can { S.can_take sink.old }
         requires ready { IsReadyStatement database.old.schema self.now }
         requires values { length values.now ≡ hole_count (holes_of self.now.line.items) }
-        ensures runs { Runs self.now.line.items values.now database.old (outcome_kept rows.new result database.new) }
+        ensures runs { Delivers S.takes sink.old sink.new result database.new (Runs self.now.line.items values.now database.old) }
         ensures schema { is_of_catalog self.now.kind ≡ false → database.new.schema ≡ database.old.schema }
     {
-        match read_filled(alloc, self.line.as_slice(), self.holes.count(), values) {
-            Ok(command) => respond(alloc, database, rows, command),
-            Err(refusal) => Kept::Other(Reply::Refused(refusal)),
-        }
+        let read = read_filled(alloc, self.line.as_slice(), self.holes.count(), values);
+        respond(alloc, database, read, sink)
     }
 
     /// Writes values into the holes of the bound form, and tells where they are. Reads and binds the line if there is no form. Returns
@@ -185,24 +185,23 @@ impl Statement {
         }
     }
 
-    /// Returns the reply to EXPLAIN with the statement's query and the holes filled. Reads the line again.
-    pub(crate) fn explain(
+    /// Runs EXPLAIN with the statement's query and the holes filled, and passes the reply to a sink. Reads the line again.
+    pub(crate) fn explain<S: ReplySink>(
         &self,
         alloc: Global,
         database: &mut Db,
-        rows: &mut RowBuffer,
         values: &[Value],
-    ) -> Kept
+        sink: &mut S,
+    ) -> S::Taken
+        requires can { S.can_take sink.old }
         requires ready { IsReadyStatement database.old.schema self.now }
         requires plan { has_plan self.now.kind ≡ true }
         requires values { length values.now ≡ hole_count (holes_of self.now.line.items) }
-        ensures explains { Explains self.now.line.items values.now database.old (outcome_kept rows.new result database.new) }
+        ensures explains { Delivers S.takes sink.old sink.new result database.new (Explains self.now.line.items values.now database.old) }
         ensures schema { database.new.schema ≡ database.old.schema }
     {
-        match read_explain(alloc, self.line.as_slice(), values) {
-            Ok(command) => respond(alloc, database, rows, command),
-            Err(refusal) => Kept::Other(Reply::Refused(refusal)),
-        }
+        let read = read_explain(alloc, self.line.as_slice(), values);
+        respond(alloc, database, read, sink)
     }
 }
 

@@ -1,26 +1,28 @@
 //! Templates of lines that came more than once.
 ghost use Rattle.std.specs.Prelude.{◌≡◌, ℕ, IfSome, List, Some, length, map};
 ghost use Rattle.mm_lang.specs.Templates.{holes_of};
+ghost use Rattle.mm_reply.specs.BoundCommands.{IsBoundCommand};
 ghost use Rattle.mm_schema.specs.Schema.{Schema};
 ghost use Rattle.mm_session.specs.Statements.{line_at};
-ghost use Rattle.mm_session.specs.Templates.{AreReady, IsBoundAt, IsBoundLine};
 ghost use Rattle.mm_session.specs.steps.Places.{line_in};
+ghost use Rattle.mm_session.specs.steps.Templates.{AreReady, IsBoundAt};
 ghost use Rattle.mm_statement.specs.Holes.{hole_count};
 
-use crate::bound_line::{BoundLine, lend};
+use crate::lending::lend;
 use crate::refilling::Refilled;
 use crate::slots::forget_bound_forms;
 use crate::statement::Statement;
 use crate::template_hash::template_hash;
 use crate::template_set::{SETS, TemplateSet};
 use crate::template_slots::{fill_at, form_at, place_of, put};
+use mm_reply::BoundCommand;
 use mm_template::{Cutter, cut_lines_read_as_fillings};
 use mm_txn::Db;
 use std::alloc::Global;
 
 /// A line whose template is kept.
 #[derive(Drop)]
-pub struct FoundLine {
+pub(crate) struct FoundLine {
     /// The number of the template's slot.
     number: usize,
     /// Where the line's values are.
@@ -29,7 +31,7 @@ pub struct FoundLine {
 
 /// Templates of lines that came more than once, with their bound forms: at most 64 templates of at most 512 bytes each.
 #[derive(Drop)]
-pub struct Templates {
+pub(crate) struct Templates {
     cutter: Cutter,
     /// The statements of the templates, two slots for each set. No slots until the first template is kept.
     slots: Vec<Option<Statement>>,
@@ -38,7 +40,7 @@ pub struct Templates {
 
 impl Templates {
     /// Returns an empty table. Allocates nothing.
-    pub fn new(alloc: Global) -> Templates
+    pub(crate) fn new(alloc: Global) -> Templates
         ensures { (schema : Schema) → AreReady schema result }
     {
         Templates {
@@ -51,7 +53,7 @@ impl Templates {
     /// Finds the template of a line, and writes the line's values into its bound form. Returns `None` if the line has to be read: if
     /// [`Cutter::cut`] does not cut it, if its template comes for the first time, if a value has another type than its column, if the
     /// catalog refuses the line, or if an allocation fails.
-    pub fn find(&mut self, alloc: Global, database: &Db, line: &[u8]) -> Option<FoundLine>
+    pub(crate) fn find(&mut self, alloc: Global, database: &Db, line: &[u8]) -> Option<FoundLine>
         requires { AreReady database.now.schema self.old }
         ensures ready { AreReady database.now.schema self.new }
         ensures found { IfSome result (λ found. IsBoundAt found database.now.schema line.now self.new) }
@@ -97,9 +99,9 @@ impl Templates {
     }
 
     /// Returns the bound form that [`Templates::find`] filled.
-    pub fn bound(&self, found: FoundLine) -> BoundLine<'_>
+    pub(crate) fn bound(&self, found: FoundLine) -> BoundCommand<'_>
         requires { (schema : Schema) × (line : List ℕ) × IsBoundAt found schema line self.now }
-        ensures { (schema : Schema) (line : List ℕ) → IsBoundAt found schema line self.now → IsBoundLine schema line result }
+        ensures { (schema : Schema) (line : List ℕ) (at : IsBoundAt found schema line self.now) → IsBoundCommand schema at.command result }
     {
         let FoundLine { number, filled } = found;
         match form_at(&self.slots, number) {
@@ -109,7 +111,7 @@ impl Templates {
     }
 
     /// Drops all bound forms: the catalog may have changed.
-    pub fn forget(&mut self)
+    pub(crate) fn forget(&mut self)
         requires { (schema : Schema) × AreReady schema self.old }
         ensures { (schema : Schema) → AreReady schema self.new }
     {

@@ -18,11 +18,7 @@ use Rattle.mm_query.specs.declared.reply.Reply.TheVariants.{Done, Refused}
 use Rattle.mm_query.proofs.Due.{step-done, step-refused}
 use Rattle.mm_lang.specs.Answering.{answer, outcome_of}
 
--- memory refused to a line that takes it
-pub refused_memory : (line : List ℕ) (state : State) → takes_memory line ≡ true → answer true line state ≡ refused_outcome Memory state
-refused_memory line state takes = ap (λ b. cond b (refused_outcome Memory state) (outcome_of (reading line) state)) takes
-
--- and to one that takes none
+-- memory refused to a line that takes none, or not
 not_refused : (line : List ℕ) (state : State) (choice : Bool) → takes_memory line ≡ false → answer choice line state ≡ outcome_of (reading line) state
 not_refused line state true none = ap (λ b. cond b (refused_outcome Memory state) (outcome_of (reading line) state)) none
 not_refused line state false none = refl

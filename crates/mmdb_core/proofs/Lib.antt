@@ -1,8 +1,6 @@
 pub mod Answering
-pub mod BoundLines
 pub mod FeedLemmas
 pub mod Inputs
 pub mod LawLemmas
 pub mod LongLines
 pub mod Runs
-pub mod Walks

@@ -17,13 +17,14 @@ use Rattle.mm_query.specs.State.{State, first_state}
 use Rattle.mmdb_core.specs.steps.Input.{Advances, IsLine, KnowsEnd, StopsInLine, bytes_to_come}
 use Rattle.mmdb_core.specs.steps.Respond.{GoesOn, PassesReplied, WritesNothing}
 use Rattle.mm_lang.specs.Answering.{answer}
-use Rattle.mmdb_core.specs.Run.{Answers, AnswersFront, AnswersLines, BrokeOff, ReachedEnd, TakesWithin, Transcript, is_error, transcript}
+use Rattle.mmdb_core.specs.Run.{Answers, AnswersFront, AnswersLines, BrokeOff, ReachedEnd, TakesWithin, Transcript, transcript}
 use Rattle.mm_lang.specs.ReplyText.{text_of}
+use Rattle.mm_reply.specs.Writing.{is_error}
 use Rattle.mmdb_core.specs.declared.run_error.RunError.{RunError}
 use Rattle.mmdb_core.specs.declared.run_error.RunError.TheVariants.{Read, Write, TooLong}
 use Rattle.mmdb_core.specs.declared.input.Input.{Input}
 use Rattle.mmdb_core.specs.declared.limits.Totals.{Totals}
-use Rattle.mmdb_core.proofs.Answering.{appends_keeps}
+use Rattle.mm_reply.proofs.Flushed.{appends_keeps}
 use Rattle.mmdb_core.proofs.FeedLemmas.{is_false}
 use Rattle.mmdb_core.proofs.Inputs.{Advances-nearer, take-append}
 
@@ -283,7 +284,7 @@ module _ {R W : Type 0} {remaining : R → Option (List ℕ)} {contents : W → 
             (AppendsPrefix-first (contents (inner_of writer)) (contents (inner_of more)) (so_far.text ++ text_of outcome.reply)
             (transcript [] outcome.state others).text
             (AppendsPrefix-second (contents (inner_of writer)) (contents (inner_of written)) (contents (inner_of more)) so_far.text
-            (text_of outcome.reply) so_far.appends h.answers.replies.writes.written)));
+            (text_of outcome.reply) so_far.appends h.answers.reply.writes.written)));
       }
 
   -- a step of a run
@@ -295,7 +296,7 @@ module _ {R W : Type 0} {remaining : R → Option (List ℕ)} {contents : W → 
     running_more byte is_refused is h =
         let line = without_return h.line in
         let outcome = answer h.answers.choice line state in
-        let replies = h.answers.replies in
+        let replies = h.answers.reply in
         let advances = h.passes.advances in
         let one : byte ≡ one_if is_refused = is ∙ one_if_byte is_refused in
         let added : totals.refused + one_if (is_error outcome.reply) ≡ totals.refused + byte = ap (λ n. totals.refused + n)
@@ -316,7 +317,7 @@ module _ {R W : Type 0} {remaining : R → Option (List ℕ)} {contents : W → 
               Appends-trans (contents (inner_of writer)) (contents (inner_of written)) (contents (inner_of more)) so_far.text (text_of outcome.reply)
               so_far.appends replies.writes.written;
           transcribed =
-              subst (λ s. Transcribed (so_far.answered ++ line ∷ []) s (so_far.text ++ text_of outcome.reply) (totals.refused + byte)) (sym replies.state)
+              subst (λ s. Transcribed (so_far.answered ++ line ∷ []) s (so_far.text ++ text_of outcome.reply) (totals.refused + byte)) (sym h.answers.state)
               (subst (Transcribed (so_far.answered ++ line ∷ []) outcome.state (so_far.text ++ text_of outcome.reply)) added
               (transcribed_line so_far.answered line state so_far.text totals.refused h.answers.choice so_far.transcribed));
         }
@@ -358,7 +359,7 @@ module _ {R W : Type 0} {remaining : R → Option (List ℕ)} {contents : W → 
     )
     too_long_iff Write taken h counted = (
       λ e. absurd (let clash : ◌≡◌ {A = RunError} Write TooLong = e in cc),
-      λ over. absurd (let clash : true ≡ false = sym h.answers.replies.writes.failed ∙ over.1 in cc),
+      λ over. absurd (let clash : true ≡ false = sym h.answers.reply.writes.failed ∙ over.1 in cc),
     )
     too_long_iff TooLong taken h counted = (λ e. (omega (arith, h.0.why.1, counted), h.1.unfailed), λ over. refl)
 
@@ -430,7 +431,7 @@ module _ {R W : Type 0} {remaining : R → Option (List ℕ)} {contents : W → 
       λ e. absurd (let clash : ◌≡◌ {A = Result Totals RunError} (Err Read) (Err Write) = sym is ∙ e in cc),
       λ f. absurd (let clash : true ≡ false = sym f ∙ h.1.unfailed in cc),
     )
-    write_at_fault result Write is h = (λ e. h.answers.replies.writes.failed, λ f. is)
+    write_at_fault result Write is h = (λ e. h.answers.reply.writes.failed, λ f. is)
     write_at_fault result TooLong is h = (
       λ e. absurd (let clash : ◌≡◌ {A = Result Totals RunError} (Err TooLong) (Err Write) = sym is ∙ e in cc),
       λ f. absurd (let clash : true ≡ false = sym f ∙ h.1.unfailed in cc),

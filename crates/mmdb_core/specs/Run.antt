@@ -1,5 +1,5 @@
 -- A run of the machine of row lists over the lines of an input.
-use Rattle.std.specs.Prelude.{◌≡◌, ◌↔◌, ℕ, ◌+◌, ◌<◌, ◌≤◌, Bool, true, false, if◌then◌else◌, List, [], ◌∷◌, ◌++◌, length, take, Option, Some, None}
+use Rattle.std.specs.Prelude.{◌≡◌, ◌↔◌, ℕ, ◌+◌, ◌<◌, ◌≤◌, Bool, false, if◌then◌else◌, List, [], ◌∷◌, ◌++◌, length, take, Option, Some, None}
 use Rattle.std.specs.Io.KnownBytes.{Appends, Consumes, IsAtEnd}
 use Rattle.mm_lang.specs.Answering.{answer}
 use Rattle.mm_lang.specs.Lines.{lines_of, whole_lines_of}
@@ -9,20 +9,10 @@ use Rattle.mm_value.specs.Watched.{inner_of}
 use Rattle.mm_value.specs.declared.device.Watched.{Watched}
 use Rattle.mm_query.specs.State.{State, first_state}
 use Rattle.mm_query.specs.declared.reply.Reply.{Reply}
-use Rattle.mm_query.specs.declared.reply.Reply.TheVariants.{Done, Count, Rows, Steps, Listing, Refused}
+use Rattle.mm_reply.specs.Writing.{is_error}
 use Rattle.mmdb_core.specs.declared.run_error.RunError.{RunError}
 use Rattle.mmdb_core.specs.declared.run_error.RunError.TheVariants.{Read, Write, TooLong}
 use Rattle.mmdb_core.specs.declared.limits.Totals.{Totals}
-
--- The reply is an `error`.
-abbrev pub is_error : Option Reply → Bool
-is_error None = false
-is_error (Some Done) = false
-is_error (Some (Count n)) = false
-is_error (Some (Rows rows)) = false
-is_error (Some (Steps lines)) = false
-is_error (Some (Listing told)) = false
-is_error (Some (Refused refusal)) = true
 
 -- What a run writes, and how many of its replies are an `error`.
 pub record Transcript : Type 0 where

@@ -1,13 +1,11 @@
 //! The command language before the database: a script is read line by line, and each line gets its reply.
 #![tactic(auto)]
 
-mod answer;
 mod input;
 mod laws;
 mod limits;
 mod run_error;
 mod run_script;
-mod templated_db;
 mod window;
 
 pub use laws::{

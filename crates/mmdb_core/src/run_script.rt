@@ -1,16 +1,17 @@
 //! A run of the database over an input.
 ghost use Rattle.std.specs.Prelude.{◌≡◌, ◌↔◌, false, true, IfOk, IfErr, IsErrOf};
+ghost use Rattle.mm_lang.specs.Lines.{without_return};
 ghost use Rattle.mm_value.specs.Watched.{inner_of, has_failed};
-ghost use Rattle.mmdb_core.specs.steps.Respond.{GoesOn};
+ghost use Rattle.mmdb_core.specs.steps.Respond.{GoesOn, goes_on_of};
 ghost use Rattle.mmdb_core.specs.Run.{BrokeOff, ReachedEnd, TakesWithin};
 
-use crate::answer::{answer_line, send, without_return};
 use crate::input::{Input, Next};
 use crate::limits::{Limits, Totals};
 use crate::run_error::RunError;
-use crate::templated_db::TemplatedDb;
-use mm_lang::Reply;
-use mm_value::{Refusal, Watched};
+use mm_query::Reply;
+use mm_reply::ReplySink;
+use mm_session::Session;
+use mm_value::{Refusal, Watched, WriteError};
 use std::alloc::Global;
 use std::io::{Read, Write};
 
@@ -52,13 +53,13 @@ pub fn run<R: Read, W: Write>(
     ensures broke_off { IfErr result (BrokeOff R.remaining reader.old reader.new limits
         (W.contents (inner_of writer.old)) (W.contents (inner_of writer.new))) }
 {
-    let mut database = TemplatedDb::new(alloc);
+    let mut session = Session::new(alloc);
     let mut input = Input::new(limits);
     let mut totals = Totals {
         lines: 0,
         refused: 0,
     };
-    while let Some(is_refused) = answer_next(alloc, &mut input, reader, &mut database, writer)? {
+    while let Some(is_refused) = answer_next(alloc, &mut input, reader, &mut session, writer)? {
         totals.lines += 1;
         totals.refused += u64::from(is_refused);
     }
@@ -70,24 +71,41 @@ fn answer_next<R: Read, W: Write>(
     alloc: Global,
     input: &mut Input,
     reader: &mut Watched<R>,
-    database: &mut TemplatedDb,
+    session: &mut Session,
     writer: &mut Watched<W>,
 ) -> Result<Option<bool>, RunError>
     requires { has_failed writer.old ≡ false }
-    ensures { GoesOn R.remaining W.contents reader.old reader.new input.old input.new database.old database.new writer.old writer.new result }
+    ensures { GoesOn R.remaining W.contents reader.old reader.new input.old input.new session.old.state session.new.state
+        writer.old writer.new result }
 {
-    let answered = match input.next(reader)? {
-        Next::End => return Ok(None),
-        Next::Long => send(&Reply::Refused(Refusal::LineTooLong), writer),
+    match input.next(reader)? {
+        Next::End => Ok(None),
+        Next::Long => going_on(writer.take(Some(Reply::Refused(Refusal::LineTooLong)))),
         Next::Line { len, step } => {
             let line = without_return(&input.taken()[..len]);
-            let answered = answer_line(alloc, database, line, writer);
+            let answered = session.execute_to(alloc, line, writer);
             input.skip(step);
-            answered
+            going_on(answered)
         }
-    };
+    }
+}
+
+/// How a run goes on after a line was answered.
+fn going_on(answered: Result<bool, WriteError>) -> Result<Option<bool>, RunError>
+    ensures { result ≡ goes_on_of answered }
+{
     match answered {
         Ok(is_refused) => Ok(Some(is_refused)),
         Err(_) => Err(RunError::Write),
     }
+}
+
+/// A line without the carriage return at its end.
+fn without_return(line: &[u8]) -> &[u8]
+    ensures { result.now ≡ without_return line.now }
+{
+    let Some((last, front)) = line.split_last() else {
+        return line;
+    };
+    if *last == b'\r' { front } else { line }
 }

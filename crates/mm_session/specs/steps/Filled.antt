@@ -1,4 +1,4 @@
--- Bound forms with values in their holes, and how they are lent.
+-- Bound forms with values in their holes.
 use Rattle.std.specs.Prelude.{◌≡◌, ◌⊎◌, ℕ, Bool, List, Option, None, Some, Ok, slice_get}
 use Rattle.std.specs.Option.{option_and_then, option_map}
 use Rattle.mm_value.specs.declared.values.Value.{Value}
@@ -6,15 +6,11 @@ use Rattle.mm_schema.specs.Schema.{Schema}
 use Rattle.mm_query.specs.declared.bind.BoundChange.{BoundChange}
 use Rattle.mm_query.specs.declared.bind.BoundChange.TheVariants as bound
 use Rattle.mm_query.specs.declared.command.Command.{Command}
-use Rattle.mm_query.specs.declared.command.Command.TheVariants.{Change, Select}
 use Rattle.mm_lang.specs.Templates.{holes_of, template_of}
 use Rattle.mm_statement.specs.Holes.{HolePlaces}
 use Rattle.mm_statement.specs.Refilling.{RefillsChange}
-use Rattle.mm_txn.specs.Bound.{IsBoundChange, IsBoundQuery, bound_of}
 use Rattle.mm_session.specs.declared.bound_form.BoundForm.{BoundForm}
 use Rattle.mm_session.specs.declared.bound_form.BoundForm.TheVariants as form
-use Rattle.mm_session.specs.declared.bound_line.BoundLine.{BoundLine}
-use Rattle.mm_session.specs.declared.bound_line.BoundLine.TheVariants as lent
 use Rattle.mm_session.specs.declared.refilling.Refilled.{Refilled}
 use Rattle.mm_session.specs.declared.refilling.Refilled.TheVariants as values
 use Rattle.mm_session.specs.declared.statement.Statement.{Statement}
@@ -43,12 +39,6 @@ pub record RefillsToRun (holes : HolePlaces) (values : List Value) (old new : Bo
   pub is : change_to_run new filled ≡ Some ran
   pub refills : RefillsChange holes values old ran
   pub kept : (new ≡ old) ⊎ (new ≡ ran)
-
--- What is lent is the bound form of a command in a catalog.
-abbrev pub IsLent : Schema → Command → BoundLine → Type 0
-IsLent schema (Select query) (lent.Query bound) = IsBoundQuery schema query bound.now
-IsLent schema (Change mutation) (lent.Change change) = IsBoundChange schema mutation (bound_of change)
-IsLent schema command other = ⊥
 
 -- The statement of this line has a bound form to run, in a catalog, of its command with these values in its holes.
 pub record IsFilledStatement (schema : Schema) (line : List ℕ) (values : List Value) (statement : Statement) (filled : Refilled) : Type 0 where

@@ -1,8 +1,6 @@
 -- The reply as a session stores it, with its rows in the buffer.
 use Rattle.std.specs.Prelude.{List, Option, Some, None}
 use Rattle.mm_value.specs.declared.values.Value.{Value}
-use Rattle.mm_query.specs.Machine.{Outcome}
-use Rattle.mm_query.specs.State.{State}
 use Rattle.mm_query.specs.declared.reply.Reply.{Reply}
 use Rattle.mm_query.specs.declared.reply.Reply.TheVariants as reply
 use Rattle.mm_session.specs.declared.replies.Kept.{Kept}
@@ -13,7 +11,3 @@ abbrev pub reply_kept : List (List Value) → Kept → Option Reply
 reply_kept rows kept.Nothing = None
 reply_kept rows kept.InBuffer = Some (reply.Rows rows)
 reply_kept rows (kept.Other reply) = Some reply
-
--- The outcome of a call that stored this reply and left this state.
-abbrev pub outcome_kept : List (List Value) → Kept → State → Outcome
-outcome_kept rows reply state = record { reply = reply_kept rows reply; state = state }

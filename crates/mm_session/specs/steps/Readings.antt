@@ -4,7 +4,7 @@ use Rattle.mm_value.specs.declared.refusal.Refusal.{Refusal}
 use Rattle.mm_value.specs.declared.refusal.Refusal.TheVariants.{Memory}
 use Rattle.mm_value.specs.declared.values.Value.{Value}
 use Rattle.mm_query.specs.declared.command.Command.{Command}
-use Rattle.mm_query.specs.declared.command.Command.TheVariants.{Define, Explain, Select}
+use Rattle.mm_query.specs.declared.command.Command.TheVariants.{Explain, Select}
 use Rattle.mm_query.specs.declared.query.Query.{Query}
 use Rattle.mm_lang.specs.Reading.{command_takes_memory}
 use Rattle.mm_lang.specs.Templates.{holes_of, template_of}
@@ -12,11 +12,6 @@ use Rattle.mm_statement.specs.Filling.{IsFilling}
 use Rattle.mm_session.specs.Kinds.{query_of}
 use Rattle.mm_session.specs.declared.statement_kind.StatementKind.{StatementKind}
 use Rattle.mm_session.specs.declared.statement_kind.StatementKind.TheVariants as kind
-
--- Whether the command is a definition, which changes the catalog.
-abbrev pub is_definition : Command → Bool
-is_definition (Define definition) = true
-is_definition command = false
 
 -- Whether commands of this kind are definitions.
 abbrev pub is_of_catalog : StatementKind → Bool

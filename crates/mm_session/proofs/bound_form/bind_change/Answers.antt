@@ -1,4 +1,4 @@
-use Rattle.mm_session.proofs.DueSteps.{change_refused}
+use Rattle.mm_reply.proofs.DueSteps.{change_refused}
 use Rattle.mm_session.proofs.bound_form.bind_change.Goals as goal
 
 pub returns-in-Err-clause-refused : goal.returns-in-Err-clause-refused

@@ -1,4 +1,4 @@
-use Rattle.mm_session.proofs.DueSteps.{query_refused}
+use Rattle.mm_reply.proofs.DueSteps.{query_refused}
 use Rattle.mm_session.proofs.bound_form.bind_query.Goals as goal
 
 pub returns-in-Err-clause-refused : goal.returns-in-Err-clause-refused

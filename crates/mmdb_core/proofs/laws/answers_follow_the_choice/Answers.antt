@@ -1,4 +1,5 @@
-use Rattle.mmdb_core.proofs.LawLemmas.{refused_memory, same_answer}
+use Rattle.mm_reply.proofs.Delivered.{refused_memory}
+use Rattle.mmdb_core.proofs.LawLemmas.{same_answer}
 use Rattle.mmdb_core.proofs.laws.answers_follow_the_choice.Goals as goal
 
 pub returns-clause-refused : goal.returns-clause-refused

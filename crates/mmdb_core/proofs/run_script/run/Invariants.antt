@@ -2,8 +2,9 @@ use Rattle.mmdb_core.specs.steps.Input.{bytes_to_come}
 use Rattle.mmdb_core.proofs.Runs.{Running}
 use Rattle.mmdb_core.proofs.run_script.run.Given as goal
 
-abbrev pub invariant-loop-database : goal.invariant-loop-database
-invariant-loop-database g l = Running g.R.Read.remaining g.W.Write.contents l.fn.limits l.fn.reader l.reader l.fn.writer l.writer l.input l.database l.totals
+abbrev pub invariant-loop-session : goal.invariant-loop-session
+invariant-loop-session g l =
+    Running g.R.Read.remaining g.W.Write.contents l.fn.limits l.fn.reader l.reader l.fn.writer l.writer l.input l.session.state l.totals
 
-abbrev pub decreases-loop-database : goal.decreases-loop-database
-decreases-loop-database g l = bytes_to_come l.input
+abbrev pub decreases-loop-session : goal.decreases-loop-session
+decreases-loop-session g l = bytes_to_come l.input

@@ -1,0 +1,6 @@
+pub mod BoundForms
+pub mod Catalogs
+pub mod Delivered
+pub mod DueSteps
+pub mod Flushed
+pub mod Walks

@@ -1,0 +1,3 @@
+pub mod BoundCommands
+pub mod Sinks
+pub mod Writing
