@@ -26,7 +26,7 @@ sys.path.append(os.path.join(TOP, "bench"))
 import tables  # noqa: E402
 
 LONGEST_LINE = 160
-MOST_LONG_LINES = {".antt": 0, ".edit": 11, ".py": 0, ".rt": 38}
+MOST_LONG_LINES = {".antt": 0, ".edit": 9, ".py": 0, ".rt": 36}
 DOCUMENT, BEGINS, ENDS = "docs/ARCHITECTURE.md", "<!-- crates.txt -->", "<!-- end -->"
 FLOOR = re.compile(r"# ([A-Z][a-z]+(?: [a-z]+)*): ")
 
