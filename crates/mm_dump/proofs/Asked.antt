@@ -46,6 +46,7 @@ use Rattle.mm_query.specs.declared.command.Mutation.{Mutation}
 use Rattle.mm_query.specs.declared.query.FromItem.{FromItem}
 use Rattle.mm_query.specs.declared.query.Query.{Query}
 use Rattle.mm_query.proofs.PlacedQueries.{none_hold}
+use Rattle.mm_lang.specs.QueryText.{named_query}
 use Rattle.mm_laws.proofs.KeyOrder.{IsKept, kept_at_first, kept_by_change, kept_by_definition, none_due_by_rows}
 use Rattle.mm_laws.proofs.NamedRows.{no_rows_behind, rows_behind, rows_kept, rows_left}
 use Rattle.mm_laws.proofs.StandingQueries.{IsThere, Stays, all_read_on, each_left, items_stay, none_of_query, none_out, stays_behind, stays_kept}
@@ -54,6 +55,7 @@ use Rattle.mm_laws.proofs.StandingQueries.{watched_at_first, watched_by_step}
 use Rattle.mm_laws.proofs.StillFound.{no_rows_lacking}
 use Rattle.mm_laws.proofs.Throughout.{HoldsThroughout, closed_or_of_index, each_held, gone_back, held_before, held_by_all, held_further, kept_by_step}
 use Rattle.mm_laws.proofs.Throughout.{none_saved, restored}
+use Rattle.mm_dump.proofs.Named.{query_named_back}
 use Rattle.mm_dump.proofs.Restorable.{state_of}
 use Rattle.mm_dump.proofs.Creatable.{length-filter_le}
 
@@ -156,6 +158,18 @@ module _ (old new : List Table) where
           due = due_same asked.query there asked.due ∙ asked.due;
           bound_is = asked.bound_is ∙ sym (bound_same asked.query there asked.due);
         }
+
+    -- A query that reads none of the tables that go gets the same names.
+    pub named_still : (bound : BoundQuery) → list_any out (tables_read bound) ≡ false → IsAsked old bound
+        → named_query (schema_of new) bound ≡ named_query (schema_of old) bound
+    named_still bound unread asked =
+        let unread_query : list_any out (map (λ (item : FromItem). item.table) asked.query.from) ≡ false =
+        ap (λ (b : BoundQuery). list_any out (tables_read b)) (sym asked.bound_is) ∙ unread in
+        let there = items_stay (schema_of old) (schema_of new) out stays asked.query.from
+        (none_hold (query_conditions asked.query (schema_of old)) asked.due).0 unread_query in
+        ap (named_query (schema_of new)) (asked.bound_is ∙ sym (bound_same asked.query there asked.due))
+        ∙ query_named_back (schema_of new) asked.query (due_same asked.query there asked.due ∙ asked.due)
+        ∙ sym (ap (named_query (schema_of old)) asked.bound_is ∙ query_named_back (schema_of old) asked.query asked.due)
 
     all_asked : (queries : List BoundQuery) → AllByRecursion (λ query. list_any out (tables_read query) ≡ false) queries
         → AllByRecursion (IsAsked old) queries → AllByRecursion (IsAsked new) queries
@@ -361,17 +375,36 @@ kept_by_command (RollbackTo name) state due beside has is = record {
 
 -- ---- every state
 
-kept_after : (commands : List Command) (state : State) → HoldsThroughout IsKept state → HasQueries state → AreBound state → AreKept state
-    → HasQueries (after_all commands state) × AreKept (after_all commands state)
-kept_after [] state kept has bound is = (has, is)
-kept_after (c ∷ cs) state kept has bound is =
-    let watched = watched_by_step c state has bound in
-    kept_after cs (step c state).state (held_by_all IsKept kept_by_definition kept_by_change (c ∷ []) state kept) watched.0 watched.1
-    (kept_by_step AreKept c state
-    (λ due. kept_by_command c state due (beside_from_order state.schema.tables state.rows kept.rows.order) has is) is)
+-- What each step keeps of a state: its rows in key order, and its standing queries.
+pub record IsSound (state : State) : Type 0 where
+  pub rows : HoldsThroughout IsKept state
+  pub has : HasQueries state
+  pub bound : AreBound state
+  pub kept : AreKept state
+
+pub sound_at_first : IsSound first_state
+sound_at_first = record {
+  rows = record { rows = kept_at_first; saved = tt };
+  has = watched_at_first.0;
+  bound = watched_at_first.1;
+  kept = record { asked = tt; names = none_distinct; few = omega arith; fit = tt; saved = tt };
+}
+
+sound_by_step : (command : Command) (state : State) → IsSound state → IsSound (step command state).state
+sound_by_step command state is =
+    let watched = watched_by_step command state is.has is.bound in
+    record {
+      rows = held_by_all IsKept kept_by_definition kept_by_change (command ∷ []) state is.rows;
+      has = watched.0;
+      bound = watched.1;
+      kept = kept_by_step AreKept command state
+          (λ due. kept_by_command command state due (beside_from_order state.schema.tables state.rows is.rows.rows.order) is.has is.kept) is.kept;
+    }
+
+pub sound_after : (commands : List Command) (state : State) → IsSound state → IsSound (after_all commands state)
+sound_after [] state is = is
+sound_after (c ∷ cs) state is = sound_after cs (step c state).state (sound_by_step c state is)
 
 -- Each standing query of a state that commands lead to has its query beside it, which can be asked anew.
 pub reached_asked : (commands : List Command) → HasQueries (after_all commands first_state) × AreKept (after_all commands first_state)
-reached_asked commands =
-    kept_after commands first_state (record { rows = kept_at_first; saved = tt }) watched_at_first.0 watched_at_first.1
-    (record { asked = tt; names = none_distinct; few = omega arith; fit = tt; saved = tt })
+reached_asked commands = let is = sound_after commands first_state sound_at_first in (is.has, is.kept)

@@ -108,7 +108,7 @@ minus_front : (bs : List ℕ) → tokens (45 ∷ bs) ≡ onto_minus (begins_word
 unfolding lexed
 minus_front bs = refl
 
-signed_lexed : (ds : List ℕ) → IsNumeral ds → IsLexed (45 ∷ ds) (Signed ds ∷ [])
+pub signed_lexed : (ds : List ℕ) → IsNumeral ds → IsLexed (45 ∷ ds) (Signed ds ∷ [])
 signed_lexed [] numeral = absurd (false≢true numeral)
 signed_lexed (b ∷ bs) numeral =
     let all = digits_of_word (b ∷ bs) (and_parts _ (list_all is_ascii_digit (b ∷ bs)) numeral).1 in
@@ -135,13 +135,14 @@ body_front (b ∷ bs) rest one_line end = by (eqb b 39) refl (body_front bs rest
         ap (λ c. lexed Inside ((cond c (39 ∷ 39 ∷ []) (b ∷ []) ++ doubled bs) ++ 39 ∷ rest)) is
         ∙ text_byte b (doubled bs ++ 39 ∷ rest) one_line.0 (λ e. false≢true (sym is ∙ eq-eqb b 39 e)) ∙ ap (onto_text b) more
 
-text_lexed : (said : List ℕ) → All (λ b. b ≢ 10) said → IsLexed (quoted said) (Quoted said ∷ [])
-text_lexed said one_line = record {
-  front = λ rest end.
-      ap tokens (ap (λ l. 39 ∷ l) (append_assoc (doubled said) (39 ∷ []) rest)) ∙ tokens_quote (doubled said ++ 39 ∷ rest)
-      ∙ body_front said rest (recursion_from_All (λ b. b ≢ 10) said one_line) (no_quote rest end);
-  free = refl;
-}
+-- A text in quotes ends before bytes that begin with no quote.
+pub text_front : (said rest : List ℕ) → All (λ b. b ≢ 10) said → get_or rest 0 0 ≢ 39 → tokens (quoted said ++ rest) ≡ Quoted said ∷ tokens rest
+text_front said rest one_line end =
+    ap tokens (ap (λ l. 39 ∷ l) (append_assoc (doubled said) (39 ∷ []) rest)) ∙ tokens_quote (doubled said ++ 39 ∷ rest)
+    ∙ body_front said rest (recursion_from_All (λ b. b ≢ 10) said one_line) end
+
+pub text_lexed : (said : List ℕ) → All (λ b. b ≢ 10) said → IsLexed (quoted said) (Quoted said ∷ [])
+text_lexed said one_line = record { front = λ rest end. text_front said rest one_line (no_quote rest end); free = refl }
 
 -- Bytes that spell a value are a literal of that value.
 pub literal_reads : (bytes : List ℕ) (v : Value) → Spells bytes v → Reads (SpellsOne SpellsLiteral) bytes v
@@ -174,5 +175,10 @@ comma_front : (bs : List ℕ) → tokens (44 ∷ bs) ≡ Mark Comma ∷ tokens b
 unfolding lexed
 comma_front bs = refl
 
+-- A comma, ..
+pub bare_comma : IsSeparator (codes ",") (Mark Comma)
+bare_comma = record { front = comma_front; ends = λ rest. refl; free = refl }
+
+-- .. and one with a space after it.
 pub comma : IsSeparator (codes ", ") (Mark Comma)
 comma = record { front = λ rest. comma_front (32 ∷ rest) ∙ ap (λ l. Mark Comma ∷ l) (blank_front rest); ends = λ rest. refl; free = refl }

@@ -1,13 +1,14 @@
 -- Rows that are put one after another are the INSERT lines of groups of rows.
-use Rattle.std.proofs.Common.{◌≡◌, ◌≢◌, ◌≤◌, ◌<◌, ◌+◌, ℕ, Bool, true, false, cond, leb, ltb, List, [], ◌∷◌, ◌++◌, codes, length, refl}
-use Rattle.std.proofs.Common.{sym, ap, ◌∙◌, subst}
+use Rattle.std.proofs.Common.{◌≡◌, ◌≢◌, ◌≤◌, ◌<◌, ◌+◌, ℕ, Bool, true, false, cond, leb, ltb, List, [], ◌∷◌, ◌++◌, codes, length, min, refl}
+use Rattle.std.proofs.Common.{sym, ap, ◌∙◌}
 use Rattle.std.proofs.Common.{append_assoc, append-nil, length-append, arith}
 use Rattle.std.specs.List.{AllByRecursion, flat_map}
 use Rattle.std.proofs.lemmas.Bool.{and_parts, cond-true, leb-true, lt-ltb}
 use Rattle.mm_value.specs.Written.{row_text}
+use Rattle.mm_schema.proofs.StrictOrder.{AllByRecursion-append_right}
 use Rattle.mm_value.specs.declared.values.Value.{Value}
-use Rattle.mm_dump.specs.Dumps.{Groups}
-use Rattle.mm_dump.specs.Inserts.{has_room, line_end, put_texts}
+use Rattle.mm_dump.specs.Dumps.{FitsIfMany, Groups}
+use Rattle.mm_dump.specs.Inserts.{has_room, line_end, put_texts, rows_put, used_after_rows}
 use Rattle.mm_dump.specs.Texts.{comma_separated, insert_text}
 
 abbrev Row : Type 0
@@ -32,17 +33,18 @@ module _ (table : List ℕ) where
   abbrev line : List Row → List ℕ
   line group = insert_text table group ++ 10 ∷ []
 
-  -- Rows divided into groups of lines of at most 4,096 bytes, and these lines.
+  -- Rows divided into groups of lines, of which those of more than one row have at most 4,096 bytes, and these lines.
   pub record AreLines (rows : List Row) (text : List ℕ) : Type 0 where
     pub groups : Groups
     pub whole : flat_map (λ (group : List Row). group) groups ≡ rows
     pub some : AllByRecursion (λ (group : List Row). group ≢ []) groups
-    pub short : AllByRecursion (λ (group : List Row). length (insert_text table group) ≤ 4096) groups
+    pub short : AllByRecursion (FitsIfMany table) groups
     pub text_is : text ≡ flat_map (λ (group : List Row). insert_text table group ++ 10 ∷ []) groups
 
-  -- Each row alone fits a line.
-  abbrev pub RowsFit : List Row → Type 0
-  RowsFit rows = AllByRecursion (λ (row : Row). length (insert_text table (row ∷ [])) ≤ 4096) rows
+  fits_if_many : (group : List Row) → length (insert_text table group) ≤ 4096 → FitsIfMany table group
+  fits_if_many [] short = tt
+  fits_if_many (r ∷ []) short = tt
+  fits_if_many (r ∷ s ∷ rs) short = short
 
   some_pushed : (group : List Row) (row : Row) → group ++ row ∷ [] ≢ []
   some_pushed [] row e = cc
@@ -54,60 +56,94 @@ module _ (table : List ℕ) where
   line_ends : (used : ℕ) → 0 < used → line_end used ≡ 10 ∷ []
   line_ends used begun = cond-true (ltb 0 used) (10 ∷ []) [] (lt-ltb 0 used begun)
 
+  -- What is written of rows, to the end of the last line, where the open line has some bytes.
+  abbrev ended : ℕ → List Row → List ℕ
+  ended used rows = rows_put table used rows ++ line_end (used_after_rows table used rows)
+
+  -- The open line has the bytes of a group.
+  abbrev IsUsed : ℕ → List Row → Type 0
+  IsUsed used group = used ≡ min (length (insert_text table group)) 4097
+
   -- After the open line of a group.
-  open_lines : (group : List Row) (used : ℕ) (rows : List Row) → group ≢ [] → used ≡ length (insert_text table group) → used ≤ 4096 → RowsFit rows
-      → AreLines (group ++ rows) (insert_text table group ++ put_texts table used rows)
-  open_lines group used [] some size room fit =
+  open_lines : (group : List Row) (used : ℕ) (rows : List Row) → group ≢ [] → IsUsed used group → FitsIfMany table group
+      → AreLines (group ++ rows) (insert_text table group ++ ended used rows)
+  open_lines group used [] some size short =
       let begun : 0 < used = let bytes = some_bytes group in omega (arith, bytes, size) in
       record {
         groups = group ∷ [];
         whole = refl;
         some = (some, tt);
-        short = (subst (λ n. n ≤ 4096) size room, tt);
+        short = (short, tt);
         text_is = ap (λ l. insert_text table group ++ l) (line_ends used begun) ∙ sym (append-nil (line group));
       }
-  open_lines group used (row ∷ rows) some size room fit =
+  open_lines group used (row ∷ rows) some size short =
       by (has_room used row) refl (open_lines (group ++ row ∷ []) (used + length (row_text row) + 2) rows (some_pushed group row))
-      (open_lines (row ∷ []) (length (insert_text table (row ∷ []))) rows (λ e. cc) refl fit.0 fit.1)
+      (open_lines (row ∷ []) (min (length (insert_text table (row ∷ []))) 4097) rows (λ e. cc) refl tt)
     where
       by : (b : Bool) → has_room used row ≡ b
-          → (used + length (row_text row) + 2 ≡ length (insert_text table (group ++ row ∷ [])) → used + length (row_text row) + 2 ≤ 4096 → RowsFit rows
-          → AreLines ((group ++ row ∷ []) ++ rows)
-          (insert_text table (group ++ row ∷ []) ++ put_texts table (used + length (row_text row) + 2) rows))
-          → AreLines (row ∷ rows) (insert_text table (row ∷ []) ++ put_texts table (length (insert_text table (row ∷ []))) rows)
+          → (IsUsed (used + length (row_text row) + 2) (group ++ row ∷ []) → FitsIfMany table (group ++ row ∷ [])
+          → AreLines ((group ++ row ∷ []) ++ rows) (insert_text table (group ++ row ∷ []) ++ ended (used + length (row_text row) + 2) rows))
+          → AreLines (row ∷ rows) (insert_text table (row ∷ []) ++ ended (min (length (insert_text table (row ∷ []))) 4097) rows)
           → AreLines (group ++ row ∷ rows)
-          (insert_text table group ++ (cond b (codes ", " ++ row_text row) (line_end used ++ insert_text table (row ∷ []))
-          ++ put_texts table (cond b (used + length (row_text row) + 2) (length (insert_text table (row ∷ [])))) rows))
+          (insert_text table group ++ ((cond b (codes ", " ++ row_text row) (line_end used ++ insert_text table (row ∷ []))
+          ++ rows_put table (cond b (used + length (row_text row) + 2) (min (length (insert_text table (row ∷ []))) 4097)) rows)
+          ++ line_end (used_after_rows table (cond b (used + length (row_text row) + 2) (min (length (insert_text table (row ∷ []))) 4097)) rows)))
       by true is joined begun =
           let more = used + length (row_text row) + 2 in
+          let room = leb-true more 4096 (and_parts (ltb 0 used) (leb more 4096) is).1 in
           let text : insert_text table (group ++ row ∷ []) ≡ insert_text table group ++ (codes ", " ++ row_text row) = insert_push group row some in
-          let longer : more ≡ length (insert_text table (group ++ row ∷ [])) =
           let sum = length-append (insert_text table group) (codes ", " ++ row_text row) in
           let both = length-append (codes ", ") (row_text row) in
-          omega (arith, size, sum, both, ap length text) in
-          let lines = joined longer (leb-true more 4096 (and_parts (ltb 0 used) (leb more 4096) is).1) fit.1 in
+          let whole : length (insert_text table (group ++ row ∷ [])) ≡ more = omega (arith, size, room, sum, both, ap length text) in
+          let lines = joined (omega (arith, whole, room)) (fits_if_many (group ++ row ∷ []) (omega (arith, whole, room))) in
           record {
             groups = lines.groups;
             whole = lines.whole ∙ append_assoc group (row ∷ []) rows;
             some = lines.some;
             short = lines.short;
-            text_is = sym (append_assoc (insert_text table group) (codes ", " ++ row_text row) (put_texts table more rows))
-                ∙ ap (λ l. l ++ put_texts table more rows) (sym text) ∙ lines.text_is;
+            text_is = ap (λ l. insert_text table group ++ l) (append_assoc (codes ", " ++ row_text row) (rows_put table more rows)
+                (line_end (used_after_rows table more rows)))
+                ∙ sym (append_assoc (insert_text table group) (codes ", " ++ row_text row) (ended more rows))
+                ∙ ap (λ l. l ++ ended more rows) (sym text) ∙ lines.text_is;
           }
       by false is joined lines =
           let begun : 0 < used = let bytes = some_bytes group in omega (arith, bytes, size) in
           let next = insert_text table (row ∷ []) in
-          let behind = put_texts table (length (insert_text table (row ∷ []))) rows in
+          let anew = min (length (insert_text table (row ∷ []))) 4097 in
           record {
             groups = group ∷ lines.groups;
             whole = ap (λ l. group ++ l) lines.whole;
             some = (some, lines.some);
-            short = (subst (λ n. n ≤ 4096) size room, lines.short);
-            text_is = ap (λ l. insert_text table group ++ ((l ++ next) ++ behind)) (line_ends used begun)
-                ∙ sym (append_assoc (insert_text table group) (10 ∷ []) (next ++ behind)) ∙ ap (λ l. line group ++ l) lines.text_is;
+            short = (short, lines.short);
+            text_is = ap (λ l. insert_text table group ++ (((l ++ next) ++ rows_put table anew rows) ++ line_end (used_after_rows table anew rows)))
+                (line_ends used begun)
+                ∙ ap (λ l. insert_text table group ++ 10 ∷ l) (append_assoc next (rows_put table anew rows) (line_end (used_after_rows table anew rows)))
+                ∙ sym (append_assoc (insert_text table group) (10 ∷ []) (next ++ ended anew rows)) ∙ ap (λ l. line group ++ l) lines.text_is;
           }
 
-  -- Rows that each fit a line are put in lines.
-  pub rows_in_lines : (rows : List Row) → RowsFit rows → AreLines rows (put_texts table 0 rows)
-  rows_in_lines [] fit = record { groups = []; whole = refl; some = tt; short = tt; text_is = refl }
-  rows_in_lines (row ∷ rows) fit = open_lines (row ∷ []) (length (insert_text table (row ∷ []))) rows (λ e. cc) refl fit.0 fit.1
+  -- Rows that are put one after another are put in lines.
+  pub rows_in_lines : (rows : List Row) → AreLines rows (put_texts table rows)
+  rows_in_lines [] = record { groups = []; whole = refl; some = tt; short = tt; text_is = refl }
+  rows_in_lines (row ∷ rows) =
+      let first = insert_text table (row ∷ []) in
+      let used = min (length (insert_text table (row ∷ []))) 4097 in
+      let lines = open_lines (row ∷ []) used rows (λ e. cc) refl tt in
+      record {
+        groups = lines.groups;
+        whole = lines.whole;
+        some = lines.some;
+        short = lines.short;
+        text_is = append_assoc first (rows_put table used rows) (line_end (used_after_rows table used rows)) ∙ lines.text_is;
+      }
+
+  -- Groups fit lines, where each row alone does.
+  pub groups_fit : (groups : Groups) → AllByRecursion (FitsIfMany table) groups
+      → AllByRecursion (λ (row : Row). length (insert_text table (row ∷ [])) ≤ 4096) (flat_map (λ (group : List Row). group) groups)
+      → AllByRecursion (λ (group : List Row). group ≢ []) groups → AllByRecursion (λ (group : List Row). length (insert_text table group) ≤ 4096) groups
+  groups_fit [] short fit some = tt
+  groups_fit ([] ∷ gs) short fit some = absurd (some.0 refl)
+  groups_fit ((r ∷ []) ∷ gs) short fit some = (fit.0, groups_fit gs short.1 fit.1 some.1)
+  groups_fit ((r ∷ s ∷ rs) ∷ gs) short fit some =
+      let others = flat_map (λ (group : List Row). group) gs in
+      let behind = AllByRecursion-append_right (λ (row : Row). length (insert_text table (row ∷ [])) ≤ 4096) (r ∷ s ∷ rs) others fit in
+      (short.0, groups_fit gs short.1 behind some.1)

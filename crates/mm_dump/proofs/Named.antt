@@ -24,8 +24,7 @@ use Rattle.mm_query.specs.declared.query.FromItem.{FromItem}
 use Rattle.mm_query.specs.declared.query.Query.{Query}
 use Rattle.mm_query.proofs.FoundTargets.{found_among, none_among}
 use Rattle.mm_query.proofs.PlacedQueries.{none_hold}
-use Rattle.mm_laws.specs.Typing.{column_at}
-use Rattle.mm_dump.specs.Dumps.{named_field, named_query}
+use Rattle.mm_lang.specs.QueryText.{column_at, named_field, named_query}
 
 -- An element at a place that is found.
 record IsFound {X : Type 0} (p : X → Bool) (xs : List X) : Type 0 where

@@ -3,10 +3,10 @@ use Rattle.std.proofs.Common.{◌≡◌, ℕ, Bool, true, false, not, ◌||◌, 
 use Rattle.std.specs.List.{AllByRecursion}
 use Rattle.std.proofs.lemmas.Bool.{or_from}
 use Rattle.std.proofs.lemmas.List.Folds.{list_any-append}
+use Rattle.mm_lang.specs.QueryText.{separated}
 use Rattle.mm_lang.specs.Spelling.{SpellsList}
 use Rattle.mm_lang.specs.Tokens.{Token, has_hole, is_hole, is_word_byte, tokens}
 use Rattle.mm_lang.proofs.Lexing.{tokens_none}
-use Rattle.mm_dump.specs.Texts.{separated}
 
 -- Bytes end a token that stands before them: they begin with no byte of a word and with no quote.
 abbrev pub ends_token : List ℕ → Bool

@@ -37,6 +37,8 @@ use Rattle.mm_query.specs.declared.atom.Operand.TheVariants as operand
 use Rattle.mm_query.specs.declared.query.FromItem.{FromItem}
 use Rattle.mm_query.specs.declared.query.Query.{Query}
 use Rattle.mm_lang.specs.Lines.{HasNoFeed, lines_of, without_return}
+use Rattle.mm_lang.specs.QueryText.{distinct_text, field_text, from_text, operand_text, order_text, query_text, separated, space_after, space_after_tests}
+use Rattle.mm_lang.specs.QueryText.{test_text, tests_text, where_text}
 use Rattle.mm_lang.specs.ReplyText.{HasIndexNames, HasTableNames, column_text, columns_text, index_listed, on_delete_text, role_text, table_listed}
 use Rattle.mm_lang.specs.Spelling.{comparison_symbol, kind_word, type_word}
 use Rattle.mm_lang.specs.Words.{keyword_text, symbol_text}
@@ -44,8 +46,7 @@ use Rattle.mm_lang.proofs.Pieces.{lines_of-line, lines_of-nil}
 use Rattle.mm_dump.specs.Dumps.{script_of}
 use Rattle.mm_dump.specs.Entries.{Entry, HasFieldNames, IsPrintable, IsPrintableOperand, IsPrintableQuery, IsPrintableRow, IsPrintableTest, entry_text}
 use Rattle.mm_dump.specs.Entries as entry
-use Rattle.mm_dump.specs.Texts.{comma_separated, distinct_text, field_text, from_text, insert_text, operand_text, order_text, query_text, separated, test_text}
-use Rattle.mm_dump.specs.Texts.{where_text}
+use Rattle.mm_dump.specs.Texts.{comma_separated, insert_text}
 use Rattle.mm_dump.proofs.Queries.{numeral_below, numeral_of}
 use Rattle.mm_dump.proofs.Rows.{values_separated}
 
@@ -222,15 +223,15 @@ operand_line : (o : Operand FieldName) → IsPrintableOperand o → IsLine (oper
 operand_line (operand.Literal value) printable = value_line value (recursion_from_All IsStorable (value ∷ []) printable.1).0
 operand_line (operand.Column field) printable = field_line field printable.0
 operand_line (operand.Shifted field (pos n)) printable =
-    line_behind (field_text field) (codes " + " ++ decimal n) (field_line field printable.0).free
-    (line_behind (codes " + ") (decimal n) refl
+    line_behind (field_text field) (43 ∷ decimal n) (field_line field printable.0).free
+    (line_behind (43 ∷ []) (decimal n) refl
     (numeral_line (decimal n) (numeral_of n (recursion_from_All IsStorable (Int (pos n) ∷ []) printable.1).0).0))
 operand_line (operand.Shifted field (negsuc n)) printable =
-    line_behind (field_text field) (codes " - " ++ decimal (suc n)) (field_line field printable.0).free
-    (line_behind (codes " - ") (decimal (suc n)) refl
+    line_behind (field_text field) (45 ∷ decimal (suc n)) (field_line field printable.0).free
+    (line_behind (45 ∷ []) (decimal (suc n)) refl
     (numeral_line (decimal (suc n)) (numeral_below n (recursion_from_All IsStorable (Int (negsuc n) ∷ []) printable.1).0).0))
 
-symbol_free : (c : Comparison) → IsFree (32 ∷ symbol_text (comparison_symbol c))
+symbol_free : (c : Comparison) → IsFree (symbol_text (comparison_symbol c))
 symbol_free compared.Equal = refl
 symbol_free compared.Less = refl
 symbol_free compared.LessOrEqual = refl
@@ -239,10 +240,27 @@ symbol_free compared.GreaterOrEqual = refl
 
 test_line : (t : Atom FieldName) → IsPrintableTest t → IsLine (test_text t)
 test_line t printable =
-    let symbol = 32 ∷ symbol_text (comparison_symbol t.comparison) in
-    line_behind (field_text t.left) (symbol ++ (32 ∷ operand_text t.right)) (field_line t.left printable.0).free
-    (line_behind symbol (32 ∷ operand_text t.right) (symbol_free t.comparison)
-    (line_behind (32 ∷ []) (operand_text t.right) refl (operand_line t.right printable.1)))
+    let symbol = symbol_text (comparison_symbol t.comparison) in
+    line_behind (field_text t.left) (symbol ++ operand_text t.right) (field_line t.left printable.0).free
+    (line_behind symbol (operand_text t.right) (symbol_free t.comparison) (operand_line t.right printable.1))
+
+space_free : (o : Operand FieldName) → IsFree (space_after o)
+space_free (operand.Literal (Int z)) = refl
+space_free (operand.Literal (Text text)) = refl
+space_free (operand.Column field) = refl
+space_free (operand.Shifted field by) = refl
+
+tests_line : (t : Atom FieldName) (ts : List (Atom FieldName)) → AllByRecursion IsPrintableTest (t ∷ ts) → IsLine (tests_text (t ∷ ts))
+tests_line t [] all = test_line t all.0
+tests_line t (u ∷ us) all =
+    line_behind (test_text t) (space_after t.right ++ (codes "AND " ++ tests_text (u ∷ us))) (test_line t all.0).free
+    (line_behind (space_after t.right) (codes "AND " ++ tests_text (u ∷ us)) (space_free t.right)
+    (line_behind (codes "AND ") (tests_text (u ∷ us)) refl (tests_line u us all.1)))
+
+spaces_free : (tests : List (Atom FieldName)) → IsFree (space_after_tests tests)
+spaces_free [] = refl
+spaces_free (t ∷ []) = space_free t.right
+spaces_free (t ∷ u ∷ us) = spaces_free (u ∷ us)
 
 -- Nothing, or a line.
 abbrev IsTail : List ℕ → Type 0
@@ -258,15 +276,15 @@ tail_both xs ys (inr line) tail = inr (tail_behind xs ys line tail)
 
 where_tail : (tests : List (Atom FieldName)) → AllByRecursion IsPrintableTest tests → IsTail (where_text tests)
 where_tail [] printable = inl refl
-where_tail (t ∷ ts) printable =
-    inr (line_behind (codes " WHERE ") (separated (codes " AND ") test_text (t ∷ ts)) refl
-    (list_line (codes " AND ") refl test_text t ts (AllByRecursion-weaker test_line (t ∷ ts) printable)))
+where_tail (t ∷ ts) printable = inr (line_behind (codes " WHERE ") (tests_text (t ∷ ts)) refl (tests_line t ts printable))
 
-order_tail : (positions : List ℕ) → AllByRecursion (λ p. IsStorable (Int (pos p))) positions → IsTail (order_text positions)
-order_tail [] stored = inl refl
-order_tail (p ∷ ps) stored =
-    inr (line_behind (codes " ORDER ") (comma_separated decimal (p ∷ ps)) refl
-    (list_line (codes ", ") refl decimal p ps (AllByRecursion-weaker (λ q fits. numeral_line (decimal q) (numeral_of q fits).0) (p ∷ ps) stored)))
+order_tail : (tests : List (Atom FieldName)) (positions : List ℕ) → AllByRecursion (λ p. IsStorable (Int (pos p))) positions
+    → IsTail (order_text tests positions)
+order_tail tests [] stored = inl refl
+order_tail tests (p ∷ ps) stored =
+    inr (line_behind (space_after_tests tests) (codes "ORDER " ++ separated (codes ",") decimal (p ∷ ps)) (spaces_free tests)
+    (line_behind (codes "ORDER ") (separated (codes ",") decimal (p ∷ ps)) refl
+    (list_line (codes ",") refl decimal p ps (AllByRecursion-weaker (λ q fits. numeral_line (decimal q) (numeral_of q fits).0) (p ∷ ps) stored))))
 
 distinct_free : (b : Bool) → IsFree (distinct_text b)
 distinct_free true = refl
@@ -274,15 +292,16 @@ distinct_free false = refl
 
 query_line : (q : Query) → IsPrintableQuery q → IsLine (query_text q)
 query_line q printable =
-    let fields = comma_separated field_text q.fields in
-    let from = comma_separated from_text q.from in
-    let behind = where_text q.atoms ++ order_text q.order in
-    let fields_are = some_line (codes ", ") refl field_text q.fields printable.some_fields
+    let fields = separated (codes ",") field_text q.fields in
+    let from = separated (codes ",") from_text q.from in
+    let behind = where_text q.atoms ++ order_text q.atoms q.order in
+    let fields_are = some_line (codes ",") refl field_text q.fields printable.some_fields
     (AllByRecursion-weaker field_line q.fields (recursion_from_All HasFieldNames q.fields printable.fields)) in
-    let from_is = some_line (codes ", ") refl from_text q.from printable.some_from
+    let from_is = some_line (codes ",") refl from_text q.from printable.some_from
     (AllByRecursion-weaker from_line q.from (recursion_from_All (λ (i : FromItem). IsName i.table × IsName i.alias) q.from printable.from)) in
-    let tail = tail_both (where_text q.atoms) (order_text q.order) (where_tail q.atoms (recursion_from_All IsPrintableTest q.atoms printable.tests))
-    (order_tail q.order (recursion_from_All (λ p. IsStorable (Int (pos p))) q.order printable.order)) in
+    let tail = tail_both (where_text q.atoms) (order_text q.atoms q.order)
+    (where_tail q.atoms (recursion_from_All IsPrintableTest q.atoms printable.tests))
+    (order_tail q.atoms q.order (recursion_from_All (λ p. IsStorable (Int (pos p))) q.order printable.order)) in
     line_behind (distinct_text q.distinct) (fields ++ (codes " FROM " ++ (from ++ behind))) (distinct_free q.distinct)
     (line_behind fields (codes " FROM " ++ (from ++ behind)) fields_are.free
     (line_behind (codes " FROM ") (from ++ behind) refl (tail_behind from behind from_is tail)))

@@ -23,7 +23,8 @@ use Rattle.mm_query.specs.declared.command.Command.TheVariants as command
 use Rattle.mm_query.specs.declared.command.Definition.TheVariants as define
 use Rattle.mm_query.specs.declared.query.Query.{Query}
 use Rattle.mm_query.proofs.PlacedQueries.{none_hold}
-use Rattle.mm_dump.specs.Dumps.{named_query, watch_entries}
+use Rattle.mm_lang.specs.QueryText.{named_query}
+use Rattle.mm_dump.specs.Dumps.{watch_entries}
 use Rattle.mm_dump.proofs.Restorable.{state_of}
 use Rattle.mm_dump.proofs.Asked.{AllFit, Fits, IsAsked, schema_of}
 use Rattle.mm_dump.proofs.Creating.{commands_of, step_done}

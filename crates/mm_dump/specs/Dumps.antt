@@ -1,25 +1,18 @@
 -- The dump of a state: entries that create its tables, insert their rows, and create its indexes and standing queries.
-use Rattle.std.specs.Prelude.{◌≡◌, ◌≢◌, ◌+◌, ℕ, false, All, List, [], ◌∷◌, ◌++◌, map, slice_get}
+use Rattle.std.specs.Prelude.{◌≡◌, ◌≢◌, ℕ, false, All, List, [], ◌∷◌, ◌++◌, map}
 use Rattle.std.specs.List.{AllZip, flat_map}
-use Rattle.std.specs.Option.{option_map_or}
 use Rattle.mm_value.specs.Storable.{AreStorable}
 use Rattle.mm_value.specs.declared.values.Value.{Value}
 use Rattle.mm_schema.specs.Indexes.{indexes_of}
 use Rattle.mm_schema.specs.Schema.{Schema}
-use Rattle.mm_schema.specs.declared.column.Column.{Column}
 use Rattle.mm_schema.specs.declared.index.IndexDef.{IndexDef}
 use Rattle.mm_schema.specs.declared.standing.StandingDef.{StandingDef}
 use Rattle.mm_schema.specs.declared.table.Table.{Table}
-use Rattle.mm_query.specs.Fields.{FieldName}
-use Rattle.mm_query.specs.Placing.{mapped_atom}
 use Rattle.mm_query.specs.State.{State}
 use Rattle.mm_query.specs.declared.bound_query.BoundQuery.{BoundQuery}
-use Rattle.mm_query.specs.declared.bound_query.FieldPlace.{FieldPlace}
-use Rattle.mm_query.specs.declared.query.FromItem.{FromItem}
-use Rattle.mm_query.specs.declared.query.Query.{Query}
-use Rattle.mm_laws.specs.Typing.{column_at}
 use Rattle.mm_lang.specs.Answering.{answer}
-use Rattle.mm_dump.specs.Entries.{Entry, IsPrintable, entry_text}
+use Rattle.mm_lang.specs.QueryText.{named_query}
+use Rattle.mm_dump.specs.Entries.{Entry, FitsLine, IsPrintable, entry_text}
 use Rattle.mm_dump.specs.Entries as entry
 
 -- Groups of rows, one for each INSERT.
@@ -30,6 +23,12 @@ Groups = List (List (List Value))
 pub record AreGroups (rows : List (List Value)) (groups : Groups) : Type 0 where
   pub whole : flat_map (λ (group : List (List Value)). group) groups ≡ rows
   pub some : All (λ (group : List (List Value)). group ≢ []) groups
+
+-- A group of more than one row fits a line.
+abbrev pub FitsIfMany : List ℕ → List (List Value) → Type 0
+FitsIfMany table [] = Unit {0}
+FitsIfMany table (row ∷ []) = Unit {0}
+FitsIfMany table (row ∷ other ∷ rows) = FitsLine (entry.Rows table (row ∷ other ∷ rows))
 
 -- The entries that create tables, in order.
 abbrev pub table_entries : List Table → List Entry
@@ -44,23 +43,6 @@ rows_entries [] groups = []
 -- The entries that create the indexes of tables, table by table.
 abbrev pub index_entries : List Table → List Entry
 index_entries tables = map (λ (index : IndexDef). entry.Index index) (indexes_of tables)
-
--- The names of a field: the alias of its table, and the name of its column.
-abbrev pub named_field : Schema → List FromItem → FieldPlace → FieldName
-named_field schema from field = record {
-  alias = option_map_or (λ (item : FromItem). item.alias) (slice_get from field.place) [];
-  column = option_map_or (λ (column : Column). column.name) (column_at schema from field) [];
-}
-
--- A bound query with names in place of the places of its fields; positions are counted from 1.
-abbrev pub named_query : Schema → BoundQuery → Query
-named_query schema query = record {
-  distinct = query.distinct;
-  fields = map (named_field schema query.from) query.fields;
-  from = query.from;
-  atoms = map (mapped_atom (named_field schema query.from)) query.atoms;
-  order = map (λ column. column + 1) query.order;
-}
 
 -- The entries that create standing queries, in order.
 abbrev pub watch_entries : Schema → List StandingDef → List BoundQuery → List Entry

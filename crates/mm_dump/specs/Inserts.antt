@@ -1,5 +1,5 @@
 -- How rows are divided into INSERT lines: a row joins the open line, if it has room there, and begins a line otherwise.
-use Rattle.std.specs.Prelude.{ℕ, ◌+◌, ◌&&◌, Bool, if◌then◌else◌, List, [], ◌∷◌, ◌++◌, codes, length, nat_le, nat_lt}
+use Rattle.std.specs.Prelude.{ℕ, ◌+◌, ◌&&◌, Bool, if◌then◌else◌, List, [], ◌∷◌, ◌++◌, codes, length, min, nat_le, nat_lt}
 use Rattle.mm_value.specs.Written.{row_text}
 use Rattle.mm_value.specs.declared.values.Value.{Value}
 use Rattle.mm_dump.specs.Texts.{insert_text}
@@ -9,7 +9,7 @@ use Rattle.mm_dump.specs.declared.insert_lines.InsertLines.{InsertLines}
 abbrev pub table_of : InsertLines → List ℕ
 table_of lines = lines.table
 
--- The number of bytes of the open line, 0 if no line is open.
+-- The number of bytes of the open line, 0 if no line is open and 4,097 if the line is longer than 4,096 bytes.
 abbrev pub used_bytes : InsertLines → ℕ
 used_bytes lines = lines.line
 
@@ -25,11 +25,21 @@ line_end used = if nat_lt 0 used then 10 ∷ [] else []
 abbrev pub put_text : List ℕ → ℕ → List Value → List ℕ
 put_text table used row = if has_room used row then codes ", " ++ row_text row else line_end used ++ insert_text table (row ∷ [])
 
--- How many bytes the open line has then.
+-- How many bytes the open line has then; a line that is longer than 4,096 bytes counts as 4,097.
 abbrev pub used_after : List ℕ → ℕ → List Value → ℕ
-used_after table used row = if has_room used row then used + length (row_text row) + 2 else length (insert_text table (row ∷ []))
+used_after table used row =
+    if has_room used row then used + length (row_text row) + 2 else min (length (insert_text table (row ∷ []))) 4097
 
--- What is written of rows, one after another, to the end of the last line.
-abbrev pub put_texts : List ℕ → ℕ → List (List Value) → List ℕ
-put_texts table used [] = line_end used
-put_texts table used (row ∷ rows) = put_text table used row ++ put_texts table (used_after table used row) rows
+-- What is written of rows, one after another.
+abbrev pub rows_put : List ℕ → ℕ → List (List Value) → List ℕ
+rows_put table used [] = []
+rows_put table used (row ∷ rows) = put_text table used row ++ rows_put table (used_after table used row) rows
+
+-- How many bytes the open line has after rows.
+abbrev pub used_after_rows : List ℕ → ℕ → List (List Value) → ℕ
+used_after_rows table used [] = used
+used_after_rows table used (row ∷ rows) = used_after_rows table (used_after table used row) rows
+
+-- What is written of all rows of a table, to the end of the last line.
+abbrev pub put_texts : List ℕ → List (List Value) → List ℕ
+put_texts table rows = rows_put table 0 rows ++ line_end (used_after_rows table 0 rows)

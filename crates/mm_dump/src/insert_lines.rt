@@ -1,5 +1,5 @@
 //! The lines that insert the rows of a table.
-ghost use Rattle.std.specs.Prelude.{◌≡◌, ◌≤◌, ◌+◌, ◌==◌, ◌++◌, ◌∷◌, [], OnOk, codes, count_by, false, length, map};
+ghost use Rattle.std.specs.Prelude.{◌≡◌, ◌≤◌, ◌+◌, ◌==◌, ◌++◌, ◌∷◌, [], OnOk, codes, count_by, false, length, min};
 ghost use Rattle.mm_value.specs.Device.{Writes};
 ghost use Rattle.mm_value.specs.Literal.{quoted};
 ghost use Rattle.mm_value.specs.Views.{value_of};
@@ -8,13 +8,14 @@ ghost use Rattle.mm_value.specs.Written.{row_text, value_text};
 ghost use Rattle.mm_dump.specs.Inserts.{line_end, put_text, table_of, used_after, used_bytes};
 ghost use Rattle.mm_dump.specs.Texts.{insert_text};
 
-use crate::open_line::OpenLine;
+use crate::open_line::{MAX_COUNTED_BYTES, OpenLine};
 use itoa::Buffer;
+use mm_lang::write_row;
 use mm_schema::{Name, NameRef};
-use mm_value::{ValueRef, Watched, WriteError, put_all, write_row};
+use mm_value::{AsRow, ValueRef, Watched, WriteError, put_all};
 use std::io::Write;
 
-/// The INSERT lines of the rows of one table, each of at most 4,096 bytes. It keeps no row.
+/// The INSERT lines of the rows of one table. Several rows are in one line if it has at most 4,096 bytes. It keeps no row.
 #[derive(Drop)]
 pub struct InsertLines<'t> {
     table: NameRef<'t>,
@@ -33,28 +34,27 @@ impl<'t> InsertLines<'t> {
         }
     }
 
-    /// Writes a row: after a comma in the open line if it has room there, and otherwise in a new line. Takes no memory. After
-    /// `WriteError` the writer has failed, and a front of this was written.
-    pub fn add_row<W: Write>(
+    /// Writes a row: after a comma in the open line if it has room there, and otherwise in a new line. Allocates nothing. After
+    /// `WriteError` the writer has failed, and a prefix of this was written.
+    pub fn add_row<R: AsRow, W: Write>(
         &mut self,
-        values: &[ValueRef<'_>],
+        row: &R,
         writer: &mut Watched<W>,
     ) -> Result<(), WriteError>
-        requires failed { has_failed writer.old ≡ false }
-        requires few { length values.now ≤ 16 }
+        requires { has_failed writer.old ≡ false }
         ensures table { table_of self.new ≡ table_of self.old }
-        ensures used { OnOk result (used_bytes self.new ≡ used_after (table_of self.old) (used_bytes self.old) (map value_of values.now)) }
-        ensures written { Writes W.contents writer.old writer.new result (put_text (table_of self.old) (used_bytes self.old) (map value_of values.now)) }
+        ensures used { OnOk result (used_bytes self.new ≡ used_after (table_of self.old) (used_bytes self.old) (R.AsRow.row row.now)) }
+        ensures written { Writes W.contents writer.old writer.new result (put_text (table_of self.old) (used_bytes self.old) (R.AsRow.row row.now)) }
     {
-        let len = row_len(values);
+        let len = row_len(row);
         if self.line.has_room(len) {
-            self.join_line(values, len, writer)
+            self.join_line(row, len, writer)
         } else {
-            self.begin_line(values, len, writer)
+            self.begin_line(row, len, writer)
         }
     }
 
-    /// Writes the end of the open line, if a line is open. Takes no memory. After `WriteError` the writer has failed.
+    /// Writes the end of the open line, if a line is open. Allocates nothing. After `WriteError` the writer has failed.
     pub fn finish<W: Write>(self, writer: &mut Watched<W>) -> Result<(), WriteError>
         requires { has_failed writer.old ≡ false }
         ensures { Writes W.contents writer.old writer.new result (line_end (used_bytes self.entry)) }
@@ -63,9 +63,9 @@ impl<'t> InsertLines<'t> {
     }
 
     // Writes a row of so many bytes in the open line.
-    fn join_line<W: Write>(
+    fn join_line<R: AsRow, W: Write>(
         &mut self,
-        values: &[ValueRef<'_>],
+        row: &R,
         len: usize,
         writer: &mut Watched<W>,
     ) -> Result<(), WriteError>
@@ -73,30 +73,31 @@ impl<'t> InsertLines<'t> {
         requires room { used_bytes self.old + len + 2 ≤ 4096 }
         ensures table { table_of self.new ≡ table_of self.old }
         ensures used { OnOk result (used_bytes self.new ≡ used_bytes self.old + len + 2) }
-        ensures written { Writes W.contents writer.old writer.new result (codes ", " ++ row_text (map value_of values.now)) }
+        ensures written { Writes W.contents writer.old writer.new result (codes ", " ++ row_text (R.AsRow.row row.now)) }
     {
-        write_next_row(values, writer)?;
+        write_next_row(row, writer)?;
         self.line.count_row(len);
         Ok(())
     }
 
     // Ends the open line, and writes a row of so many bytes in a new one.
-    fn begin_line<W: Write>(
+    fn begin_line<R: AsRow, W: Write>(
         &mut self,
-        values: &[ValueRef<'_>],
+        row: &R,
         len: usize,
         writer: &mut Watched<W>,
     ) -> Result<(), WriteError>
         requires failed { has_failed writer.old ≡ false }
-        requires short { len ≤ 2114 }
+        requires counted { len ≤ 4097 }
         ensures table { table_of self.new ≡ table_of self.old }
-        ensures used { OnOk result (used_bytes self.new ≡ length (table_of self.old) + 8 + len) }
+        ensures used { OnOk result (used_bytes self.new ≡ min (length (table_of self.old) + 8 + len) 4097) }
         ensures written { Writes W.contents writer.old writer.new result
-            (line_end (used_bytes self.old) ++ insert_text (table_of self.old) (map value_of values.now ∷ [])) }
+            (line_end (used_bytes self.old) ++ insert_text (table_of self.old) (R.AsRow.row row.now ∷ [])) }
     {
         write_line_end(&self.line, writer)?;
-        write_insert(self.table.bytes(), values, writer)?;
-        self.line = OpenLine::of(self.table.bytes().len() + 8 + len);
+        write_insert(self.table.bytes(), row, writer)?;
+        let used = self.table.bytes().len() + 8 + len;
+        self.line = OpenLine::of(used.min(MAX_COUNTED_BYTES));
         Ok(())
     }
 }
@@ -111,65 +112,39 @@ fn write_line_end<W: Write>(line: &OpenLine, writer: &mut Watched<W>) -> Result<
 }
 
 // Writes a row after another one.
-fn write_next_row<W: Write>(
-    values: &[ValueRef<'_>],
-    writer: &mut Watched<W>,
-) -> Result<(), WriteError>
+fn write_next_row<R: AsRow, W: Write>(row: &R, writer: &mut Watched<W>) -> Result<(), WriteError>
     requires { has_failed writer.old ≡ false }
-    ensures { Writes W.contents writer.old writer.new result (codes ", " ++ row_text (map value_of values.now)) }
+    ensures { Writes W.contents writer.old writer.new result (codes ", " ++ row_text (R.AsRow.row row.now)) }
 {
     put_all(writer, b", ")?;
-    write_row(values, writer)
+    write_row(row, writer)
 }
 
 // Writes an INSERT of one row.
-fn write_insert<W: Write>(
+fn write_insert<R: AsRow, W: Write>(
     table: &[u8],
-    values: &[ValueRef<'_>],
+    row: &R,
     writer: &mut Watched<W>,
 ) -> Result<(), WriteError>
     requires { has_failed writer.old ≡ false }
-    ensures { Writes W.contents writer.old writer.new result (insert_text table.now (map value_of values.now ∷ [])) }
+    ensures { Writes W.contents writer.old writer.new result (insert_text table.now (R.AsRow.row row.now ∷ [])) }
 {
     put_all(writer, b"INSERT ")?;
-    write_table_row(table, values, writer)
-}
-
-fn write_table_row<W: Write>(
-    table: &[u8],
-    values: &[ValueRef<'_>],
-    writer: &mut Watched<W>,
-) -> Result<(), WriteError>
-    requires { has_failed writer.old ≡ false }
-    ensures { Writes W.contents writer.old writer.new result (table.now ++ 32 ∷ row_text (map value_of values.now)) }
-{
     put_all(writer, table)?;
-    write_spaced_row(values, writer)
-}
-
-fn write_spaced_row<W: Write>(
-    values: &[ValueRef<'_>],
-    writer: &mut Watched<W>,
-) -> Result<(), WriteError>
-    requires { has_failed writer.old ≡ false }
-    ensures { Writes W.contents writer.old writer.new result (32 ∷ row_text (map value_of values.now)) }
-{
     put_all(writer, b" ")?;
-    write_row(values, writer)
+    write_row(row, writer)
 }
 
-// The number of bytes of a row.
-fn row_len(values: &[ValueRef<'_>]) -> usize
-    requires { length values.now ≤ 16 }
-    ensures len { result ≡ length (row_text (map value_of values.now)) }
-    ensures bound { result ≤ 2114 }
+// The number of bytes of a row, or 4,097 if it has more.
+fn row_len<R: AsRow>(row: &R) -> usize
+    ensures { result ≡ min (length (row_text (R.AsRow.row row.now))) 4097 }
 {
-    let Some((first, others)) = values.split_first() else {
+    if row.len() == 0 {
         return 2;
-    };
-    let mut len = value_len(*first) + 2;
-    for value in others {
-        len += value_len(*value) + 2;
+    }
+    let mut len = 0;
+    for i in 0..row.len() {
+        len = MAX_COUNTED_BYTES.min(len + value_len(row.value(i)) + 2);
     }
     len
 }

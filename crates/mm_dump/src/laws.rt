@@ -4,17 +4,22 @@ ghost use Rattle.std.specs.List.{flat_map};
 ghost use Rattle.mm_value.specs.declared.values.Value.{Value as Val};
 ghost use Rattle.mm_schema.specs.declared.index.IndexDef.{IndexDef};
 ghost use Rattle.mm_schema.specs.declared.table.TableDef.{TableDef};
-ghost use Rattle.mm_query.specs.Machine.{after_all};
+ghost use Rattle.mm_query.specs.Machine.{after_all, step};
 ghost use Rattle.mm_query.specs.Resolving.{exceeds_query_limits};
 ghost use Rattle.mm_query.specs.State.{first_state};
 ghost use Rattle.mm_query.specs.declared.command.Command.{Command};
+ghost use Rattle.mm_query.specs.declared.command.Command.TheVariants.{Define};
+ghost use Rattle.mm_query.specs.declared.command.Definition.TheVariants.{Watch as Create};
 ghost use Rattle.mm_query.specs.declared.query.Query.{Query as AnyQuery};
 ghost use Rattle.mm_lang.specs.Lines.{lines_of};
 ghost use Rattle.mm_lang.specs.Reading.{reading};
-ghost use Rattle.mm_dump.specs.Dumps.{AreGroups, Groups, IsDump, IsPrintableState, after_lines, script_of};
+ghost use Rattle.mm_lang.specs.Templates.{template_of};
+ghost use Rattle.mm_dump.specs.DumpText.{dump_text};
+ghost use Rattle.mm_dump.specs.Dumps.{AreGroups, FitsIfMany, Groups, IsDump, IsPrintableState, after_lines, script_of};
 ghost use Rattle.mm_dump.specs.Entries.{Entry, FitsLine, HasShortAliases, Index, IsPrintable, Rows, Table, Watch, entry_command, entry_text};
 ghost use Rattle.mm_dump.specs.Inserts.{put_texts};
-ghost use Rattle.mm_dump.specs.Texts.{insert_text};
+ghost use Rattle.mm_dump.specs.Texts.{insert_text, watch_text};
+ghost use Rattle.mm_dump.specs.Writable.{IsWritable, IsWritableState};
 
 use mm_lang::definitions_are_listed_as_written;
 use mm_laws::rows_keep_their_targets;
@@ -76,10 +81,54 @@ pub fn printable_states_have_printable_dumps()
     rows_keep_their_targets();
 }
 
-/// Rows that are put one after another are the INSERT lines of groups of these rows, each line of at most 4,096 bytes, if each row alone
-/// fits a line.
+/// Rows that are put one after another are the INSERT lines of groups of these rows. Each line of several rows has at most 4,096 bytes,
+/// and so has each line of one row, if each row alone fits a line.
 pub fn rows_are_put_in_lines()
-    ensures { (table : List ℕ) (rows : List (List Val)) → All (λ (row : List Val). FitsLine (Rows table (row ∷ []))) rows
-        → (groups : Groups) × AreGroups rows groups × All (λ (group : List (List Val)). FitsLine (Rows table group)) groups
-        × (put_texts table 0 rows ≡ flat_map (λ (group : List (List Val)). insert_text table group ++ 10 ∷ []) groups) }
+    ensures groups { (table : List ℕ) (rows : List (List Val)) → (groups : Groups) × AreGroups rows groups × All (FitsIfMany table) groups
+        × (put_texts table rows ≡ flat_map (λ (group : List (List Val)). insert_text table group ++ 10 ∷ []) groups) }
+    ensures fit { (table : List ℕ) (rows : List (List Val)) (groups : Groups) → AreGroups rows groups → All (FitsIfMany table) groups
+        → All (λ (row : List Val). FitsLine (Rows table (row ∷ []))) rows → All (λ (group : List (List Val)). FitsLine (Rows table group)) groups }
 {}
+
+/// The WATCH of a dump is shortest: no line that reads as the WATCH of a query has fewer bytes.
+pub fn watch_lines_are_shortest()
+    ensures { (line name : List ℕ) (query : AnyQuery) → reading line ≡ Ok (Define (Create (record { name = name; query = query })))
+        → length (watch_text name query) ≤ length line }
+{}
+
+/// Each line, perhaps with holes, reads as a command that can be written.
+pub fn lines_read_as_writable_commands()
+    ensures lines { (line : List ℕ) (command : Command) → reading line ≡ Ok command → IsWritable command }
+    ensures templates { (line : List ℕ) (command : Command) → template_of line ≡ Ok command → IsWritable command }
+{}
+
+/// Commands that can be written lead to states that can be written. So do they after any other commands, from a state that can be written.
+pub fn writable_commands_lead_to_writable_states()
+    ensures first { IsWritableState first_state }
+    ensures step { (commands : List Command) (command : Command) → let state = after_all commands first_state in
+        IsWritable command → IsWritableState state → IsWritableState (step command state).state }
+    ensures all { (commands : List Command) → All IsWritable commands → IsWritableState (after_all commands first_state) }
+{}
+
+/// The bytes of `write_dump` are those of a dump. All its entries are printable and fit lines, if the state can be written.
+pub fn written_bytes_are_a_dump()
+    ensures { (commands : List Command) → let state = after_all commands first_state in
+        (entries : List Entry) × IsDump state entries × (dump_text state ≡ script_of entries)
+        × (IsWritableState state → All IsPrintable entries × All FitsLine entries) }
+{
+    rows_keep_their_targets();
+}
+
+/// The bytes of `write_dump`, as the input of the empty database where no allocation fails, lead to the dumped state, outside a
+/// transaction, if the state can be written. So they do for each state to which lines lead.
+pub fn written_dumps_restore()
+    ensures state { (commands : List Command) → let state = after_all commands first_state in
+        IsWritableState state → after_lines (lines_of (dump_text state)) first_state ≡ record state { saved = None } }
+    ensures lines { (lines : List (List ℕ)) → let state = after_lines lines first_state in
+        after_lines (lines_of (dump_text state)) first_state ≡ record state { saved = None } }
+{
+    written_bytes_are_a_dump();
+    lines_read_as_writable_commands();
+    writable_commands_lead_to_writable_states();
+    dumped_scripts_restore();
+}

@@ -2,13 +2,17 @@
 #![tactic(auto)]
 
 mod definition_lines;
+mod dump;
 mod insert_lines;
 mod laws;
 mod open_line;
 
-pub use definition_lines::{write_index, write_table};
+pub use definition_lines::{write_index, write_table, write_watch};
+pub use dump::{DumpSource, write_dump};
 pub use insert_lines::InsertLines;
 pub use laws::{
     dumped_lines_restore, dumped_scripts_restore, dumps_restore, entries_fit_lines,
-    entries_read_as_commands, printable_states_have_printable_dumps, rows_are_put_in_lines,
+    entries_read_as_commands, lines_read_as_writable_commands,
+    printable_states_have_printable_dumps, rows_are_put_in_lines, watch_lines_are_shortest,
+    writable_commands_lead_to_writable_states, written_bytes_are_a_dump, written_dumps_restore,
 };

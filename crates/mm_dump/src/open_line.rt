@@ -4,7 +4,10 @@ ghost use Rattle.std.specs.Prelude.{◌≡◌, ◌≤◌, ◌+◌, ◌&&◌, nat
 use mm_lang::MAX_LINE_BYTES;
 use std::marker::Model;
 
-/// The number of bytes of the open line, at most 4,096; 0 if no line is open.
+/// The most bytes that are counted: one more than a line has.
+pub(crate) const MAX_COUNTED_BYTES: usize = MAX_LINE_BYTES + 1;
+
+/// The number of bytes of the open line: 0 if no line is open, and 4,097 if the line is longer than 4,096 bytes.
 #[derive(Drop)]
 pub(crate) struct OpenLine {
     used: usize,
@@ -17,13 +20,13 @@ impl Model for OpenLine {
 
     ghost view = { λ l. l.used };
 
-    ghost invariant = { λ l. l.used ≤ 4096 };
+    ghost invariant = { λ l. l.used ≤ 4097 };
 }
 
 impl OpenLine {
     /// A line of so many bytes.
     pub(crate) fn of(used: usize) -> OpenLine
-        requires { used ≤ 4096 }
+        requires { used ≤ 4097 }
         ensures { result ≡ used }
     {
         OpenLine { used }
@@ -38,7 +41,7 @@ impl OpenLine {
 
     /// Whether a row of so many bytes has room in the line, after a comma and a space.
     pub(crate) fn has_room(&self, len: usize) -> bool
-        requires { len ≤ 2114 }
+        requires { len ≤ 4097 }
         ensures { result ≡ (nat_lt 0 self.now && nat_le (self.now + len + 2) 4096) }
     {
         self.used > 0 && self.used + len + 2 <= MAX_LINE_BYTES

@@ -1,12 +1,19 @@
-use Rattle.std.proofs.Common.{◌≡◌, take, ap, arith}
+use Rattle.std.proofs.Common.{◌<◌, ◌≤◌, length, ap, arith}
 use Rattle.std.specs.List.{sum_by}
 use Rattle.std.proofs.lemmas.List.{take_all}
-use Rattle.mm_dump.proofs.Lengths.{length-row, spaced_len}
+use Rattle.mm_value.specs.Views.{value_of}
+use Rattle.mm_dump.proofs.Lengths.{bytes_more, length-row, spaced_len}
 use Rattle.mm_dump.proofs.insert_lines.row_len.Goals as goal
 
-pub returns-clause-len : goal.returns-clause-len
-returns-clause-len c =
-    let others = c.in-Some.others.now in
-    let whole : take c.loop-value.value-index others ≡ others = take_all c.loop-value.value-index others c.loop-value-test.false in
-    let row = length-row c.args.values.now c.in-Some.first.now others c.in-Some.ensures.cases.0 in
-    omega (arith, row, c.loop-value.invariant.total, ap (sum_by spaced_len) whole, c.value_len-len.ensures.len)
+pub loop-i-preserved : goal.loop-i-preserved
+loop-i-preserved g c =
+    let row = g.R.AsRow.row c.args.row.now in
+    let more = bytes_more row c.loop-i.i (value_of c.value.result) c.value.ensures in
+    omega (arith, more, c.loop-i.invariant, c.value_len.ensures.len)
+
+pub returns : goal.returns
+returns g c =
+    let row = g.R.AsRow.row c.args.row.now in
+    let past : length row ≤ c.loop-i.i = omega (arith, c.loop-i-test.false, c.len-i-end.ensures) in
+    let some : 0 < length row = omega (arith, c.if-len-eq0.false, c.len.ensures) in
+    omega (arith, c.loop-i.invariant, ap (sum_by spaced_len) (take_all c.loop-i.i row past), length-row row some)
