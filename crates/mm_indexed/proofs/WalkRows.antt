@@ -30,7 +30,7 @@ use Rattle.mm_indexed.specs.declared.indexes.index.Index.{Index}
 use Rattle.mm_indexed.specs.declared.indexes.index.Index.TheVariants.{Tree}
 use Rattle.mm_indexed.specs.Twins.{AreApart}
 use Rattle.mm_indexed.proofs.Apart.{KeysApart-refs, strict_rows}
-use Rattle.mm_row_order.proofs.Permuted.{AllPairs-permutation}
+use Rattle.mm_partition.proofs.Permuted.{AllPairs-permutation}
 use Rattle.mm_row_order.proofs.SortedRows.{not_tied}
 use Rattle.mm_value.proofs.Orders.{then_second}
 

@@ -71,7 +71,7 @@ abbrev pub places_of : List Column → List State → ℕ → Places
 places_of columns states room = record { slots = contents_from 0 columns states; room = room; types = types_of columns }
 
 -- what the slot at an index holds
-content_at-is : (columns : List Column) (states : List State) (room : ℕ) (old : Places) (i : ℕ) → places_of columns states room ≡ old
+pub content_at-is : (columns : List Column) (states : List State) (room : ℕ) (old : Places) (i : ℕ) → places_of columns states room ≡ old
     → content_if (slice_get states i) (row_of columns i) ≡ content_at old i
 content_at-is columns states room old i view = sym (get_or-contents i columns states) ∙ ap (λ (p : Places). content_at p i) view
 

@@ -1,11 +1,11 @@
 -- The stack of free slots, after a slot is given out, freed, appended or hidden.
 use Rattle.std.proofs.Common.{◌≡◌, ◌≢◌, ℕ, ◌+◌, ◌-◌, ◌<◌, ◌≤◌, List, [], ◌∷◌, ◌++◌, length, true, false, Some, cond, get_or, set, refl, sym, ap, ◌∙◌}
 use Rattle.std.proofs.Common.{subst, arith, length-append, length-set}
-use Rattle.std.specs.Prelude.{All, slice_get}
+use Rattle.std.specs.Prelude.{All, slice_get, count_by}
 use Rattle.std.proofs.lemmas.List.{get_or_append_left, get_or_push}
 use Rattle.std.proofs.lemmas.List.Elements.{All-push}
 use Rattle.std.proofs.lemmas.List.Quantifiers.{all_pairs_push}
-use Rattle.std.proofs.lemmas.List.Sums.{sum_by-set, sum_by-append}
+use Rattle.std.proofs.lemmas.List.Sums.{sum_by-set, sum_by-append, count_by-le-length}
 use Rattle.std.proofs.lemmas.Option.{slice_get_within, get_or_from_slice_get}
 use Rattle.mm_partition.specs.declared.slots.State.{State}
 use Rattle.mm_partition.specs.declared.slots.State.TheVariants as state
@@ -13,7 +13,7 @@ use Rattle.mm_partition.specs.declared.columns.Column.{Column}
 use Rattle.mm_partition.specs.Cells.{size_of, room_of, cell, Fits}
 use Rattle.mm_partition.proofs.CellLemmas.{Fits-set, row_of-set}
 use Rattle.mm_partition.specs.Stored.{is_taken, IsFreeStack, IsStored}
-use Rattle.mm_partition.proofs.ContentLemmas.{Storable, Storable-same, slice_get-set_same, slice_get-set_other}
+use Rattle.mm_partition.proofs.ContentLemmas.{Storable, Storable-same, slice_get-set_same, slice_get-set_other, slice_get-push_other}
 
 -- how many rows a slot has, as `counted` has it
 taken : State → ℕ
@@ -182,3 +182,34 @@ IsStored-column states free capacity free_capacity spare columns i c new within 
   cells = Fits-set (length states) spare columns i c new within read size room old.cells;
   storable = Storable-same columns (set columns i new) states states refl (λ k. row_of-set columns i k c new read (same k)) old.storable;
 }
+
+-- where a slot is free, not all have rows
+pub some_free : (states : List State) (i : ℕ) → slice_get states i ≡ Some state.Free → count_by is_taken states < length states
+unfolding taken
+some_free states i there =
+    omega (
+      arith,
+      sum_by-set taken states i state.Live state.Free (slice_get_within states i state.Free there),
+      ap taken (get_or_from_slice_get states i state.Free state.Free there),
+      count_by-le-length is_taken (set states i state.Live),
+      length-set states i state.Live,
+    )
+
+-- the last slot is free, and the last one of the stack
+pub without_last : (states : List State) (free : List ℕ) (i : ℕ) → i ≡ length states → IsFreeStack (states ++ state.Free ∷ []) (free ++ i ∷ [])
+    → IsFreeStack states free
+unfolding taken
+without_last states free i place stack =
+    let size : length (free ++ i ∷ []) ≡ length free + 1 = length-append free (i ∷ []) in
+    let away : (k d : ℕ) → k < length free → get_or free k d ≢ length states = λ k d inside same.
+    stack.apart k (length free) d (omega arith) (omega (arith, size))
+    (get_or_append_left free (i ∷ []) d k inside ∙ (same ∙ (sym place ∙ sym (get_or_push free i d (length free) refl)))) in
+    record {
+      each = λ k d inside.
+          sym (slice_get-push_other states (get_or free k d) state.Free (away k d inside))
+          ∙ (ap (slice_get (states ++ state.Free ∷ [])) (sym (get_or_append_left free (i ∷ []) d k inside))
+          ∙ stack.each k d (omega (arith, size, inside)));
+      apart = λ a b d less inside same. stack.apart a b d less (omega (arith, size, inside))
+          (get_or_append_left free (i ∷ []) d a (omega (arith, less, inside)) ∙ (same ∙ sym (get_or_append_left free (i ∷ []) d b inside)));
+      counted = omega (arith, size, stack.counted, length-append states (state.Free ∷ []), sum_by-append taken states (state.Free ∷ []));
+    }

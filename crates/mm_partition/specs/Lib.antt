@@ -2,7 +2,6 @@ pub mod Cells
 pub mod Keys
 pub mod Places
 pub mod Prefixes
-pub mod Reads
 pub mod Stored
 pub mod TextCells
 pub mod Types

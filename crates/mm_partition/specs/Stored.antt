@@ -31,6 +31,20 @@ pub record IsFreeStack (states : List State) (free : List ℕ) : Type 0 where
   pub apart : AllPairs (λ a b. a ≢ b) free
   pub counted : length free + count_by is_taken states ≡ length states
 
+-- The slots from some place on are gone, and each was free.
+pub record IsCut (old new : List State) : Type 0 where
+  pub size : length new ≤ length old
+  pub below : (i : ℕ) → i < length new → slice_get new i ≡ slice_get old i
+  pub above : (i : ℕ) → length new ≤ i → i < length old → slice_get old i ≡ Some state.Free
+
+-- there is a last slot, and it is free
+abbrev pub EndsFree : List State → Type 0
+EndsFree states = (i : ℕ) × (i + 1 ≡ length states) × (slice_get states i ≡ Some state.Free)
+
+-- the last slot, if there is one, has a row
+abbrev pub EndsTaken : List State → Type 0
+EndsTaken states = (i : ℕ) (s : State) → i + 1 ≡ length states → slice_get states i ≡ Some s → is_taken s ≡ true
+
 -- The free slots are stacked, there is room for so many more slots, also to free them all, with which there are fewer than 2^32 of them, and
 -- each row has values that a program can have.
 pub record IsStored (states : List State) (free : List ℕ) (states_capacity free_capacity spare : ℕ) (columns : List Column) : Type 0 where

@@ -4,6 +4,7 @@ ghost use Rattle.mm_value.specs.Types.{type_of};
 ghost use Rattle.mm_value.specs.Views.{value_of};
 
 use crate::text_column::TextColumn;
+use crate::trimming::cut;
 use mm_value::{ColType, Value, ValueRef};
 use std::alloc::{AllocError, Global};
 use std::mem;
@@ -129,6 +130,20 @@ impl Column {
         match self {
             Column::Numbers(_) => {}
             Column::Texts(texts) => texts.clear(index),
+        }
+    }
+
+    /// Drops the cells from a place on, and capacity that is left over.
+    pub fn truncate(&mut self, n: usize)
+        requires { n ≤ size_of self.old }
+        ensures typed { type_in self.new ≡ type_in self.old }
+        ensures size { size_of self.new ≡ n }
+        ensures cells { (i : ℕ) → i < n → cell self.new i ≡ cell self.old i }
+        ensures room { size_of self.new ≤ room_of self.new }
+    {
+        match self {
+            Column::Numbers(numbers) => cut(numbers, n),
+            Column::Texts(texts) => texts.truncate(n),
         }
     }
 

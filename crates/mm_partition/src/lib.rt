@@ -5,15 +5,14 @@
 
 mod columns;
 mod keys;
-mod row_read;
 mod rows;
 mod slots;
 mod sweeps;
 mod text_column;
+mod trimming;
 mod view;
 
 pub use keys::ColumnKeys;
-pub use row_read::RowRead;
 pub use rows::Partitions;
 pub use slots::index_of;
 pub use view::RowView;

@@ -1,9 +1,9 @@
 //! Rows by reference.
-ghost use Rattle.std.specs.Prelude.{◌≡◌, ◌+◌, ◌<◌, ◌≤◌, ◌↔◌, max, List, length, Some, slice_get, IfOk, IsTrue, OnOk};
+ghost use Rattle.std.specs.Prelude.{◌≡◌, ◌+◌, ◌<◌, ◌≤◌, ◌↔◌, max, List, length, Some, slice_get, IfOk, IsTrue, OnOk, count_by};
 ghost use Rattle.mm_value.specs.Views.{value_of};
 ghost use Rattle.mm_value.specs.declared.values.Value.{Value};
 ghost use Rattle.mm_partition.specs.Keys.{AreKeys};
-ghost use Rattle.mm_partition.specs.Places.{Free, Live, Hidden, extent_of, slot_at, content_at, row_in, IsTaken, IsLive, IsHidden};
+ghost use Rattle.mm_partition.specs.Places.{Free, Live, Hidden, extent_of, slot_at, content_at, row_in, holds_row, IsTaken, IsLive, IsHidden};
 ghost use Rattle.mm_partition.specs.Places.{IsUnchanged, ChangesOnly, ChangesTwo, AreRowsStorable, AreReferencesSmall};
 ghost use Rattle.mm_value.specs.Storable.{AreStorable};
 ghost use Rattle.mm_partition.specs.Types.{HasTypes};
@@ -12,7 +12,8 @@ ghost use Rattle.mm_partition.specs.Views.{viewed};
 use crate::columns::Column;
 use crate::keys::ColumnKeys;
 use crate::slots::{SLOTS, State, index_of, reference_to};
-use crate::sweeps::{clear_each, exchange_each, push_each, reserve_each, swap_each};
+use crate::sweeps::{clear_each, exchange_each, push_each, reserve_each, swap_each, truncate_each};
+use crate::trimming::{drop_highest, give_back};
 use crate::view::RowView;
 use mm_value::{ColType, Row, RowRef, Value, ValueRef};
 use std::alloc::{AllocError, Global};
@@ -23,13 +24,13 @@ const MAX_SLOTS: usize = 4_294_967_295;
 
 /// The rows of one table, 64 to a partition (partitions and tuple pointers of Lehman and Carey,
 /// SIGMOD 1986), column by column (the decomposed storage of Copeland and Khoshafian, SIGMOD 1985). A row is
-/// found by its reference, which stays the same while the row lives. Only `new`, `reserve` and `track` take
+/// found by its reference, which stays the same while the row lives. Only `new`, `reserve` and `track` need
 /// memory. Placing, hiding and releasing a row take the same time however many rows there are.
 ///
 /// A reference is the index of its slot among all slots. The *extent* is how many slots have been
-/// in use so far: each reference that was given out is below it. A caller that keeps a
-/// vector beside the rows, an entry for each slot, needs one of that length. Only `place` makes the
-/// extent greater, by at most 1, and nothing makes it less.
+/// in use so far and not been given back: the slot of each row is below it. A caller that keeps a
+/// vector beside the rows, an entry for each slot, needs one of that length. Only `place` and `stage` make the
+/// extent greater, by at most 1, and only `trim` makes it less.
 ///
 /// The values of a row stand in the cells of its slot, one in the vector of each column. The freed slots are a
 /// stack beside the columns, and the last one freed is the first given out. `reserve` gives the stack room for
@@ -87,11 +88,18 @@ impl Partitions {
         })
     }
 
-    /// How many slots have been in use so far.
+    /// How many slots have been in use so far and not been given back.
     pub fn extent(&self) -> usize
         ensures { result ≡ extent_of self.now }
     {
         self.states.as_slice().len()
+    }
+
+    /// How many of the slots below the extent are free.
+    pub fn free_slots(&self) -> usize
+        ensures { result + count_by holds_row self.now.slots ≡ extent_of self.now }
+    {
+        self.free.len()
     }
 
     /// How many columns there are.
@@ -378,5 +386,22 @@ impl Partitions {
         states[index] = State::Free;
         clear_each(&mut self.columns, index);
         self.free.push_reserved(index as u32);
+    }
+
+    /// Gives back the highest slots that are free: afterwards the slot below the extent has a row, or the extent is 0. Frees capacity
+    /// that is left over, and with it the room for rows to come behind the extent. It cannot fail: a column for which a smaller block
+    /// is refused keeps the one that it has.
+    pub fn trim(&mut self)
+        ensures slots { IsUnchanged self.old self.new }
+        ensures extent { extent_of self.new ≤ extent_of self.old }
+        ensures highest { (at : RowRef) → at.slot + 1 ≡ extent_of self.new → IsTaken (slot_at self.new at) }
+        ensures types { self.new.types ≡ self.old.types }
+    {
+        drop_highest(&mut self.states, &mut self.free);
+        let extent = self.states.len();
+        truncate_each(&mut self.columns, extent);
+        self.spare = 0;
+        give_back(&mut self.states, extent);
+        give_back(&mut self.free, extent);
     }
 }

@@ -75,3 +75,15 @@ pub fn clear_each(columns: &mut Vec<Column>, index: usize)
         columns[i].clear(index);
     }
 }
+
+/// Drops the slots from a place on in each column, and capacity that is left over.
+pub fn truncate_each(columns: &mut Vec<Column>, n: usize)
+    requires { All (λ c. n ≤ size_of c) columns.old.items }
+    ensures types { types_of columns.new.items ≡ types_of columns.old.items }
+    ensures rows { (k : ℕ) → k < n → row_of columns.new.items k ≡ row_of columns.old.items k }
+    ensures fits { All (Fits n 0) columns.new.items }
+{
+    for i in 0..columns.len() {
+        columns[i].truncate(n);
+    }
+}

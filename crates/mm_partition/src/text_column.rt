@@ -1,9 +1,10 @@
 //! One column of texts.
-ghost use Rattle.std.specs.Prelude.{◌≡◌, ◌+◌, ◌<◌, ◌≤◌, ◌++◌, ◌∷◌, [], length, map, OnOk, IfOk, slice_get, Some, slice_set, slice_index_or, swap};
+ghost use Rattle.std.specs.Prelude.{◌≡◌, ◌+◌, ◌<◌, ◌≤◌, ◌++◌, ◌∷◌, [], length, map, OnOk, IfOk, slice_get, Some, slice_set, slice_index_or, swap, take};
 ghost use Rattle.std.specs.Option.{ForSome};
 ghost use Rattle.std.specs.Vec.{vec_capacity};
 ghost use Rattle.mm_partition.specs.TextCells.{prefix_of};
 
+use crate::trimming::cut;
 use mm_value::{Text, ValueRef, order_prefix};
 use std::alloc::{AllocError, Global};
 use std::marker::Model;
@@ -104,6 +105,20 @@ impl TextColumn {
     {
         let mut text = Text::empty(*self.texts.allocator());
         self.swap(index, &mut text);
+    }
+
+    /// Drops the texts from a place on, and capacity that is left over.
+    pub fn truncate(&mut self, n: usize)
+        ensures texts { self.new.texts ≡ take n self.old.texts }
+        ensures room { length self.new.texts ≤ self.new.room }
+    {
+        match &mut self.prefixes {
+            None => cut(&mut self.texts, n),
+            Some(prefixes) => {
+                cut(prefixes, n);
+                cut(&mut self.texts, n);
+            }
+        }
     }
 
     /// The text in a cell.

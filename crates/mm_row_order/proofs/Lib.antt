@@ -1,4 +1,3 @@
 pub mod InColumn
-pub mod Permuted
 pub mod Seeks
 pub mod SortedRows

@@ -5,7 +5,7 @@ use Rattle.std.proofs.lemmas.Result.{IfOk-weaker}
 use Rattle.mm_row_order.specs.InOrder.{InOrder}
 use Rattle.mm_row_order.specs.Sorting.{IsOf, ref_of}
 use Rattle.mm_value.specs.declared.row_ref.RowRef.{RowRef}
-use Rattle.mm_row_order.proofs.Permuted.{AllPairs-permutation}
+use Rattle.mm_partition.proofs.Permuted.{AllPairs-permutation}
 use Rattle.mm_row_order.proofs.SortedRows.{InOrder-sorted, apart_turned}
 use Rattle.mm_row_order.proofs.sorting.in_order.Goals as goal
 

@@ -1,0 +1,54 @@
+//! Slots and capacity that are given back.
+ghost use Rattle.std.specs.Prelude.{◌≡◌, ◌≤◌, MatchBool, length, min, take};
+ghost use Rattle.std.specs.Vec.{vec_capacity};
+ghost use Rattle.mm_partition.specs.Stored.{IsFreeStack, IsCut, EndsFree, EndsTaken};
+
+use crate::slots::State;
+
+/// Drops the highest slots that are free, up to the highest one that has a row, and takes them off the stack. The lowest slots are
+/// given out first afterwards, so that more of the highest come to be free.
+pub fn drop_highest(states: &mut Vec<State>, free: &mut Vec<u32>)
+    requires { IsFreeStack states.old.items free.old.items }
+    ensures stack { IsFreeStack states.new.items free.new.items }
+    ensures cut { IsCut states.old.items states.new.items }
+    ensures highest { EndsTaken states.new.items }
+    ensures states_room { vec_capacity states.new ≡ vec_capacity states.old }
+    ensures free_room { vec_capacity free.new ≡ vec_capacity free.old }
+{
+    if !ends_free(states.as_slice()) {
+        return;
+    }
+    free.sort_unstable();
+    while ends_free(states.as_slice()) {
+        states.pop();
+        free.pop();
+    }
+    free.reverse();
+}
+
+/// Whether the last slot is free.
+fn ends_free(states: &[State]) -> bool
+    ensures { MatchBool result (EndsFree states.now) (EndsTaken states.now) }
+{
+    matches!(states.last(), Some(State::Free))
+}
+
+/// Frees capacity of a vector that needs this much, where it has more than an eighth over that. It keeps a sixteenth over it, so that a
+/// few elements more need no other block. Where memory for a smaller block is refused, the vector keeps the block that it has.
+pub fn give_back<T>(items: &mut Vec<T>, needed: usize)
+    ensures items { items.new.items ≡ items.old.items }
+    ensures room { min needed (vec_capacity items.old) ≤ vec_capacity items.new }
+{
+    if items.capacity() > needed.saturating_add(needed / 8) {
+        items.shrink_to(needed.saturating_add(needed / 16));
+    }
+}
+
+/// Drops the elements from a place on, and capacity that is left over.
+pub fn cut<T: Drop>(items: &mut Vec<T>, n: usize)
+    ensures items { items.new.items ≡ take n items.old.items }
+    ensures room { length items.new.items ≤ vec_capacity items.new }
+{
+    items.truncate(n);
+    give_back(items, n);
+}
