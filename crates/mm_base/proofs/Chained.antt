@@ -1,5 +1,5 @@
 -- Links that turn one after another, and again.
-use Rattle.std.proofs.Common.{◌≡◌, ◌<◌, ◌+◌, ℕ, suc, List, [], ◌∷◌, length, get_or, map, refl, sym, ap, ap₂, ◌∙◌, subst, arith}
+use Rattle.std.proofs.Common.{◌≡◌, ◌<◌, ◌≤◌, ◌+◌, ℕ, suc, List, [], ◌∷◌, length, get_or, map, refl, sym, ap, ap₂, ◌∙◌, subst, arith}
 use Rattle.std.specs.List.{All}
 use Rattle.std.specs.Prelude.{Result, Ok, Err, OnOk}
 use Rattle.mm_indexed.specs.Index.{EachTurns}
@@ -57,17 +57,16 @@ references_stay R same (x ∷ xs) (y ∷ ys) turned =
 pub same_references : (old new : List Link) → EachTurns KeepsSize old new → references_of new ≡ references_of old
 same_references old new turned = references_stay KeepsSize (λ x y kept. kept.reference) old new turned
 
--- the capacity of links stays with their sizes and the numbers of used slots
-pub entries_kept : (old new : List LoggedTable) (old_links new_links : List Link) → extents_of new ≡ extents_of old
+-- the capacity of links stays with their sizes, where no more slots are used
+pub entries_kept : (old new : List LoggedTable) (old_links new_links : List Link) → ((t : ℕ) → extent_in new t ≤ extent_in old t)
     → EachTurns KeepsSize old_links new_links → (t n : ℕ) → HaveEntriesFor n t old old_links → HaveEntriesFor n t new new_links
-entries_kept old new old_links new_links extents turned t n have k d within =
+entries_kept old new old_links new_links fewer turned t n have k d within =
     let inside : k < length old_links = omega (arith, within, turned.size) in
     let was : HasGrownTo t (extent_in old t + n) (get_or old_links k d) = have k d inside in
     let kept : KeepsSize (get_or old_links k d) (get_or new_links k d) = turned.each k d inside in
-    let same : extent_in new t ≡ extent_in old t = ap (λ (es : List ℕ). get_or es t 0) extents in
     record {
-      as_source = λ is. omega (arith, was.as_source (sym (ap (λ (r : Reference). r.from) kept.reference) ∙ is), kept.size.referrers, same);
-      as_target = λ is. omega (arith, was.as_target (sym (ap (λ (r : Reference). r.to) kept.reference) ∙ is), kept.size.targets, same);
+      as_source = λ is. omega (arith, was.as_source (sym (ap (λ (r : Reference). r.from) kept.reference) ∙ is), kept.size.referrers, fewer t);
+      as_target = λ is. omega (arith, was.as_target (sym (ap (λ (r : Reference). r.to) kept.reference) ∙ is), kept.size.targets, fewer t);
     }
 
 -- ---- entries and counts are added

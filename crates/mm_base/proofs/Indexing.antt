@@ -12,7 +12,7 @@ use Rattle.mm_tables.specs.declared.logged_table.LoggedTable.{LoggedTable}
 use Rattle.mm_base.specs.Bases.{IsSound}
 use Rattle.mm_base.specs.Joined.{HaveEntriesFor}
 use Rattle.mm_base.proofs.Chained.{KeepsSize-refl, entries_kept, sound_alike}
-use Rattle.mm_base.proofs.Joining.{types_of}
+use Rattle.mm_base.proofs.Joining.{no_more, types_of}
 
 -- ---- one table
 
@@ -70,7 +70,7 @@ module _ (old new : List LoggedTable) (state : state_of new ≡ state_of old)
   extents_stay = all_same (λ (t : LoggedTable). extent_of t.rows.places) old new size (λ t d. ap extent_of (each t d).places)
 
   pub entries_stay : (links : List Link) (t n : ℕ) → HaveEntriesFor n t old links → HaveEntriesFor n t new links
-  entries_stay links = entries_kept old new links links extents_stay (KeepsSize-refl links)
+  entries_stay links = entries_kept old new links links (no_more old new extents_stay) (KeepsSize-refl links)
 
 pub sound_stays : (old new : Stored) (links : List Link) → new ≡ record old { tables = new.tables } → state_of new.tables ≡ state_of old.tables
     → ((t : ℕ) (d : LoggedTable) → SamePlaces (get_or old.tables t d) (get_or new.tables t d)) → IsSound old links → IsSound new links

@@ -67,17 +67,22 @@ types_from_shapes old new same = ap types_in_shapes same
 types_size : (tables : List LoggedTable) → length (types_of tables) ≡ length (map shape_of tables)
 types_size tables = length-map (map shape_of tables) (λ (x : Shape). x.types)
 
+-- ---- tables of which no more slots are used
+
+pub no_more : (old new : List LoggedTable) → extents_of new ≡ extents_of old → (t : ℕ) → extent_in new t ≤ extent_in old t
+no_more old new same t = omega (arith, ap (λ (es : List ℕ). get_or es t 0) same)
+
+pub HasEntries-fewer : (old new : List LoggedTable) (link : Link) → ((t : ℕ) → extent_in new t ≤ extent_in old t) → HasEntries old link → HasEntries new link
+HasEntries-fewer old new link fewer has = record {
+  referrers = omega (arith, fewer link.reference.from, has.referrers);
+  targets = omega (arith, fewer link.reference.to, has.targets);
+}
+
 -- ---- tables of the same keys
 
 module _ (old new : List LoggedTable) (keys : keys_of new ≡ keys_of old) (link : Link) where
   target_key : key_in new link.reference.to ≡ key_in old link.reference.to
   target_key = ap (λ (ks : List ℕ). get_or ks link.reference.to 0) keys
-
-  pub entries_from : extents_of new ≡ extents_of old → HasEntries old link → HasEntries new link
-  entries_from same has = record {
-    referrers = subst (λ (es : List ℕ). get_or es link.reference.from 0 ≤ length link.ties.targets) (sym same) has.referrers;
-    targets = subst (λ (es : List ℕ). get_or es link.reference.to 0 ≤ link.ties.extent) (sym same) has.targets;
-  }
 
   pub follows_from : (state : List Slots) → state_of new ≡ state → FollowsIn link.reference (key_in old link.reference.to) state link.ties
       → FollowsRows new link
@@ -100,7 +105,7 @@ module _ (old new : List LoggedTable) (keys : keys_of new ≡ keys_of old) (link
       column = subst (λ (ts : List (List ColType)). link.reference.column < length (get_or ts link.reference.from [])) (sym types) joined.between.column;
       to = joined.between.to;
     };
-    entries = entries_from extents joined.entries;
+    entries = HasEntries-fewer old new link (no_more old new extents) joined.entries;
     follows = follows_from (state_of old) state joined.follows;
     logged = subst (λ (rs : List LogRecord). LogKeeps new rs link) (sym same) (keeps_from (state_of old) log state joined.logged);
   }
@@ -113,9 +118,6 @@ module _ (old new : List LoggedTable) (shapes : map shape_of new ≡ map shape_o
 
   pub between_to : IsBetween (map shape_of old) r → IsBetween (map shape_of new) r
   between_to = subst (λ ss. IsBetween ss r) (sym shapes)
-
-  pub entries_to : extents_of new ≡ extents_of old → HasEntries old link → HasEntries new link
-  entries_to = entries_from old new (keys_from_shapes old new shapes) link
 
   pub follows_to : (state : List Slots) → state_of new ≡ state → FollowsIn r (key_in old r.to) state link.ties → FollowsRows new link
   follows_to = follows_from old new (keys_from_shapes old new shapes) link
@@ -130,11 +132,11 @@ module _ (old new : List LoggedTable) (shapes : map shape_of new ≡ map shape_o
   joined_same = joined_alike old new (keys_from_shapes old new shapes) link (types_from_shapes old new shapes)
 
   -- each table has the same rows in use, and the log is empty
-  pub joined_settled : (log : List LogRecord) → extents_of new ≡ extents_of old → ((t : ℕ) → SameRows (slots_in old t) (slots_in new t))
+  pub joined_settled : (log : List LogRecord) → ((t : ℕ) → extent_in new t ≤ extent_in old t) → ((t : ℕ) → SameRows (slots_in old t) (slots_in new t))
       → IsJoined old log link → IsJoined new [] link
-  joined_settled log extents same joined = record {
+  joined_settled log fewer same joined = record {
     between = between_to joined.between;
-    entries = entries_to extents joined.entries;
+    entries = HasEntries-fewer old new link fewer joined.entries;
     follows = follows_to (state_of new) refl
         (Follows-same_rows r.column (key_in old r.to) (slots_in old r.from) (slots_in new r.from) (slots_in old r.to) (slots_in new r.to) link.ties
         (same r.from) (same r.to) joined.follows);
@@ -289,7 +291,7 @@ module _ (old new : List LoggedTable) (shapes : map shape_of new ≡ map shape_o
         subst (StandsBack back (KeepsLink r key) log) (sym (ap (before back es) (sym made) ∙ was)) joined.logged in
         record {
           between = between_to joined.between;
-          entries = entries_to extents joined.entries;
+          entries = HasEntries-fewer old new link (no_more old new extents) joined.entries;
           source = behind_source joined.between joined.follows brings;
           others = follows_others joined.follows spares;
           logged = subst (λ (rs : List LogRecord). LogKeeps new rs link) (sym pushed)
@@ -312,7 +314,7 @@ module _ (old new : List LoggedTable) (shapes : map shape_of new ≡ map shape_o
         let follows = FollowsUndo-record r key (apart_in old link joined.between) keys s e link.ties holds keeps joined.follows refl in
         record {
           between = between_to joined.between;
-          entries = entries_to extents joined.entries;
+          entries = HasEntries-fewer old new link (no_more old new extents) joined.entries;
           source = λ same.
               subst (λ (k : ℕ). IsTakenBack r.column k (key_in new r.from) (slots_in new r.from) (slots_in new r.to) e.edit link.ties)
               (sym (key_same old new r.to shapes))

@@ -10,7 +10,6 @@ pub mod Lists
 pub mod OnlyReference
 pub mod Retied
 pub mod OrphanRows
-pub mod Undoing
 pub mod Chained
 pub mod Indexing
 pub mod Moving

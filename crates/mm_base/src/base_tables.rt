@@ -265,7 +265,6 @@ impl BaseTables {
         ensures room { self.old.stored.log_room ≤ self.new.stored.log_room }
         ensures state { state_of self.new.stored.tables ≡ state_of self.old.stored.tables }
         ensures log { self.new.stored.log ≡ self.old.stored.log }
-        ensures undone { self.new.stored.undone ≡ self.old.stored.undone }
         ensures shapes { map shape_of self.new.stored.tables ≡ map shape_of self.old.stored.tables }
         ensures links { references_of self.new.links ≡ references_of self.old.links }
         ensures entries { OnOk result (HaveEntriesFor rows table self.new.stored.tables self.new.links) }
@@ -389,8 +388,8 @@ impl BaseTables {
         undo(&mut self.tables, &mut self.links, mark);
     }
 
-    /// Ends the transaction: the rows in use stay, every other slot becomes free, and the log is empty. Each tree of a table that the log
-    /// names keeps at most 64 spare nodes. Allocates nothing and cannot fail.
+    /// Ends the transaction: the rows in use stay, every other slot becomes free, and the log is empty. Each table that the
+    /// log names gives back free slots, and each of its trees keeps at most 64 spare nodes. Allocates nothing and cannot fail.
     pub fn settle(&mut self)
         ensures rows { rows_now self.new.stored ≡ rows_now self.old.stored }
         ensures log { self.new.stored.log ≡ [] }

@@ -1,17 +1,19 @@
 -- The edits of a command, one after the other.
-use Rattle.std.proofs.Common.{◌≡◌, ◌≢◌, ℕ, ◌⊎◌, ⊎_elim, inl, inr, Some, List, [], ◌∷◌, suc, get_or, refl, sym, ap, ap₂, ◌∙◌, arith}
+use Rattle.std.proofs.Common.{◌≡◌, ◌≢◌, ℕ, ◌⊎◌, ⊎_elim, inl, inr, true, Some, List, [], ◌∷◌, suc, get_or, refl, sym, ap, ap₂, ◌∙◌, subst, arith}
 use Rattle.std.specs.List.{All, AllPairs, Contains}
 use Rattle.std.proofs.lemmas.List.Elements.{All-head, All-tail, All-cons, Contains-append_left, Contains-append_right}
 use Rattle.mm_value.specs.declared.row_ref.RowRef.{RowRef}
+use Rattle.std.specs.declared.cmp.Ordering.TheVariants.{Equal}
+use Rattle.mm_value.specs.declared.values.Value.{Value}
 use Rattle.mm_partition.specs.Places.{Live, Hidden, row_in}
 use Rattle.mm_schema.specs.Rows.{column_cmp}
 use Rattle.mm_row_order.specs.Refs.{Slots, HasRow, HasHidden, row_at}
-use Rattle.mm_indexed.specs.Twins.{AreApart}
-use Rattle.mm_tables.specs.Edits.{put, step, Fits, came_by}
-use Rattle.mm_tables.specs.Commands.{after, FitsForth, LeavesOut, IsApart, IsCommand, CameLive, CameAlone}
+use Rattle.mm_indexed.specs.Twins.{AreApart, HasTwin, keys_by}
+use Rattle.mm_tables.specs.Edits.{put, step, Fits, came_by, has_new_key}
+use Rattle.mm_tables.specs.Commands.{after, FitsForth, LeavesOut, IsApart, IsCommand, CameLive, CameAlone, NewKeyAlone}
 use Rattle.mm_tables.specs.declared.edit.Edit.{Edit}
 use Rattle.mm_tables.specs.declared.edit.Edit.TheVariants.{Stage, Insert, Update, Move, Delete}
-use Rattle.mm_tables.proofs.Slots.{same_or_apart, holds_at, put_other, put_here, equal_turns}
+use Rattle.mm_tables.proofs.Slots.{same_or_apart, holds_at, on_true, put_other, put_here, equal_self, equal_turns, equal_through}
 
 -- an edit leaves a slot alone that it does not name
 pub step_leaves : (e : Edit) (now : Slots) (r : RowRef) → LeavesOut e r → step e now r ≡ now r
@@ -115,24 +117,78 @@ after_came (e ∷ es) now r live =
     (step_came e now r (live.0, sym same ∙ live.1)))
     (after_came es (step e now) r live)
 
--- no two rows have one key, if none had, and no row that came has the key of another
-pub AreApart-after : (key : ℕ) (es : List Edit) (now : Slots) → AreApart key now → All (CameAlone key (after es now)) es → AreApart key (after es now)
-AreApart-after key es now was alone at live (other, other_live, apart, same) =
+-- ---- which rows have a new key
+
+abbrev NewIn : List Edit → RowRef → Type 0
+NewIn es r = (e : Edit) × Contains es e × (came_by e ≡ Some r) × (has_new_key e ≡ true)
+
+-- a row was in use before, with the same key
+abbrev HadKey : ℕ → Slots → Slots → RowRef → Type 0
+HadKey key old new r = HasRow old r × (column_cmp key (row_at new r) (row_at old r) ≡ Equal)
+
+stays_had : (key : ℕ) (old new : Slots) (r : RowRef) → HasRow new r → new r ≡ old r → HadKey key old new r
+stays_had key old new r live same = (
+  (live.0, sym same ∙ live.1),
+  ap (λ c. column_cmp key (row_in c) (row_at old r)) same ∙ equal_self key (row_at old r),
+)
+
+-- a row that an edit brought has a new key, or the key that it had
+came_new : (key : ℕ) (e : Edit) (now : Slots) (r : RowRef) → Fits key now e → came_by e ≡ Some r → (has_new_key e ≡ true) ⊎ HadKey key now (step e now) r
+came_new key (Stage s) now r fits came = let no : ⊥ = cc in absurd no
+came_new key (Insert s) now r fits came = inl refl
+came_new key (Update a b) now r (live, hidden, same) came =
+    let is : a ≡ r = cc in
+    let here : step (Update a b) now r ≡ Live (row_in (now b)) = put_here a r (Live (row_in (now b))) (put b (Hidden (row_in (now a))) now) is in
+    inr (
+      subst (HasRow now) is live,
+      ap (λ c. column_cmp key (row_in c) (row_at now r)) here
+          ∙ subst (λ x. column_cmp key (row_at now b) (row_at now x) ≡ Equal) is (equal_turns key (row_at now a) (row_at now b) same),
+    )
+came_new key (Move a b) now r fits came = inl refl
+came_new key (Delete s) now r fits came = let no : ⊥ = cc in absurd no
+
+after_new : (key : ℕ) (es : List Edit) (now : Slots) (r : RowRef) → FitsForth key es now → HasRow (after es now) r
+    → NewIn es r ⊎ HadKey key now (after es now) r
+after_new key [] now r fits live = inr (live, equal_self key (row_at now r))
+after_new key (e ∷ es) now r (first, rest) live =
     ⊎_elim
-    (λ (came : CameIn es at). holds_at (CameAlone key (after es now)) es came.0 alone came.1 at came.2 (other, other_live, apart, same))
-    (λ (stays : after es now at ≡ now at).
+    (λ (new : NewIn es r). inl (new.0, Contains-append_right (e ∷ []) es new.0 new.1, new.2, new.3))
+    (λ (had : HadKey key (step e now) (after es (step e now)) r).
+    let back : HadKey key now (step e now) r → NewIn (e ∷ es) r ⊎ HadKey key now (after es (step e now)) r =
+    λ (was : HadKey key now (step e now) r).
+    inr (was.0, equal_through key (row_at (after es (step e now)) r) (row_at (step e now) r) (row_at now r) had.1 was.1) in
     ⊎_elim
-    (λ (came : CameIn es other). holds_at (CameAlone key (after es now)) es came.0 alone came.1 other came.2
-    (at, live, λ e. apart (sym e), equal_turns key (row_at (after es now) other) (row_at (after es now) at) same))
-    (λ (other_stays : after es now other ≡ now other).
-    was at (live.0, sym stays ∙ live.1) (
+    (λ (came : came_by e ≡ Some r).
+    ⊎_elim (λ (new : has_new_key e ≡ true). inl (e, Contains-append_left (e ∷ []) es e (0, omega arith, refl), came, new)) back
+    (came_new key e now r first came))
+    (λ (stays : step e now r ≡ now r). back (stays_had key now (step e now) r had.0 stays))
+    (step_came e now r had.0))
+    (after_new key es (step e now) r rest live)
+
+new_alone : (key : ℕ) (es : List Edit) (now : Slots) (r : RowRef) → NewIn es r → All (NewKeyAlone key now) es → HasTwin key now r → ⊥
+new_alone key es now r (e, within, came, new) alone =
+    on_true (CameAlone key now e) (has_new_key e) new (holds_at (NewKeyAlone key now) es e alone within) r came
+
+-- no two rows have one key, if none had, and no row with a new key has the key of another
+pub AreApart-after : (key : ℕ) (es : List Edit) (now : Slots) → AreApart key now → FitsForth key es now → All (NewKeyAlone key (after es now)) es
+    → AreApart key (after es now)
+AreApart-after key es now was fits alone at live (other, other_live, apart, same) =
+    let row : RowRef → List Value = row_at (after es now) in
+    ⊎_elim
+    (λ (new : NewIn es at). new_alone key es (after es now) at new alone (other, other_live, apart, same))
+    (λ (had : HadKey key now (after es now) at).
+    ⊎_elim
+    (λ (new : NewIn es other). new_alone key es (after es now) other new alone (at, live, λ e. apart (sym e), equal_turns key (row other) (row at) same))
+    (λ (other_had : HadKey key now (after es now) other).
+    was at had.0 (
       other,
-      (other_live.0, sym other_stays ∙ other_live.1),
+      other_had.0,
       apart,
-      sym (ap₂ (λ x y. column_cmp key (row_in x) (row_in y)) other_stays stays) ∙ same,
+      equal_through key (row_at now other) (row other) (row_at now at) (equal_turns key (row other) (row_at now other) other_had.1)
+          (equal_through key (row other) (row at) (row_at now at) same had.1),
     ))
-    (after_came es now other other_live))
-    (after_came es now at live)
+    (after_new key es now other fits other_live))
+    (after_new key es now at fits live)
 
 -- ---- the rows that came are in use
 
@@ -179,3 +235,44 @@ CameLive-after (e ∷ es) now apart =
     let live : HasRow (step e now) r = came_live e now r came in
     (live.0, after_leaves es (step e now) r (λ k d within. leaves_came e (get_or es k d) r came (first_apart e es apart k d within)) ∙ live.1))
     (CameLive-after es (step e now) (rest_apart e es apart))
+
+-- ---- a command of a single insert
+
+-- a row has the key that it had while it was hidden
+shown_keys : (key : ℕ) (now : Slots) (at other : RowRef) → other ≢ at → keys_by key (step (Insert at) now) other at ≡ keys_by key now other at
+shown_keys key now at other apart =
+    ap₂ (λ c d. column_cmp key (row_in c) (row_in d)) (step_leaves (Insert at) now other (λ same. apart (sym same)))
+    (put_here at at (Live (row_at now at)) now refl)
+
+module _ (key : ℕ) (edits : List Edit) (now : Slots) (at : RowRef) (lone : edits ≡ Insert at ∷ []) where
+  pub lone_hidden : All (Fits key now) edits → HasHidden now at
+  lone_hidden fits = All-head (Fits key now) (Insert at) [] (subst (All (Fits key now)) lone fits)
+
+  -- another row has its key afterwards if one has it before
+  pub lone_twins : HasTwin key now at → AreApart key (after edits now) → ⊥
+  lone_twins (other, live, differ, same) apart =
+      subst (λ (es : List Edit). AreApart key (after es now)) lone apart at (came_live (Insert at) now at refl) (
+        other,
+        row_stays now (step (Insert at) now) other (step_leaves (Insert at) now other (λ is. differ (sym is))) live,
+        differ,
+        shown_keys key now at other differ ∙ same,
+      )
+
+  -- .. and only then
+  lone_alone : (HasTwin key now at → ⊥) → NewKeyAlone key (step (Insert at) now) (Insert at)
+  lone_alone none r came =
+      let here : at ≡ r = cc in
+      subst (λ (x : RowRef). HasTwin key (step (Insert at) now) x → ⊥) here
+      (λ (other, live, differ, same). none (
+        other,
+        row_stays (step (Insert at) now) now other (sym (step_leaves (Insert at) now other (λ is. differ (sym is)))) live,
+        differ,
+        sym (shown_keys key now at other differ) ∙ same,
+      ))
+
+  pub lone_apart : AreApart key now → HasHidden now at → (HasTwin key now at → ⊥) → AreApart key (after edits now)
+  lone_apart was hidden none =
+      subst (λ (es : List Edit). AreApart key (after es now)) (sym lone)
+      (AreApart-after key (Insert at ∷ []) now was (hidden, tt)
+      (All-cons (NewKeyAlone key (step (Insert at) now)) (Insert at) [] (lone_alone none)
+      (λ k d within. absurd (let no : ⊥ = omega (arith, within) in no))))

@@ -1,5 +1,5 @@
 -- One table of several is changed.
-use Rattle.std.proofs.Common.{◌≡◌, ◌≢◌, ℕ, ◌<◌, ⊎_elim, List, length, map, get_or, set, sym, ap, ◌∙◌, subst, arith, length-set}
+use Rattle.std.proofs.Common.{◌≡◌, ◌≢◌, ℕ, ◌<◌, ◌≤◌, ⊎_elim, List, length, map, get_or, set, sym, ap, ◌∙◌, subst, arith, length-set}
 use Rattle.std.proofs.lemmas.Bool.{cases_eq}
 use Rattle.std.proofs.lemmas.List.{get_or-map, get_or-set_same, get_or-set_other, get_or_default, map-set, length-map, set-get_or, set-set}
 use Rattle.std.proofs.Math.Seq.{map-set_same}
@@ -70,6 +70,14 @@ module _ (tables : List LoggedTable) (i : ℕ) (old new : LoggedTable) (within :
   extent-other t apart =
       ap (λ (ns : List ℕ). get_or ns t 0) (map-set extent_of_table tables i new)
       ∙ get_or-set_other (extents_of tables) i t (extent_of_table new) 0 apart
+
+  pub extents-fewer : extent_of_table new ≤ extent_of_table old → (t : ℕ) → extent_in (set tables i new) t ≤ extent_in tables t
+  extents-fewer fewer t =
+      ⊎_elim
+      (λ (same : t ≡ i).
+      omega (arith, extent-here, extent_read tables i old within read, fewer, ap (extent_in (set tables i new)) same, ap (extent_in tables) same))
+      (λ (apart : t ≢ i). omega (arith, extent-other t apart))
+      (cases_eq t i)
 
   pub slots-here : slots_in (set tables i new) i ≡ slots_of new
   slots-here =

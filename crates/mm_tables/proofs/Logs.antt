@@ -16,36 +16,38 @@ module _ {E S : Type 0} (back : E → S → S) where
       ∙ (ap (λ es. before back es new) (drop-append-le mark log (e ∷ []) within)
       ∙ (before-append (drop mark log) (e ∷ []) new ∙ ap (before back (drop mark log)) was))
 
-  -- changes are being undone: some are left, and the rest is gone
-  pub record Reverting (all : List E) (start : S) (left gone : List E) (now : S) : Type 0 where
+  -- these changes are left, and the rest is undone
+  pub record IsUndoing (all : List E) (start : S) (left : List E) (now : S) : Type 0 where
+    pub gone : List E
     pub split : all ≡ left ++ gone
     pub state : now ≡ before back gone start
 
-  pub Reverting-none : (all : List E) (start : S) → Reverting all start all [] start
-  Reverting-none all start = record { split = sym (append-nil all); state = refl }
+  pub IsUndoing-none : (all : List E) (start : S) → IsUndoing all start all start
+  IsUndoing-none all start = record { gone = []; split = sym (append-nil all); state = refl }
 
-  pub Reverting-more : (all left less gone : List E) (e : E) (start now next : S) → left ≡ less ++ e ∷ [] → next ≡ back e now
-      → Reverting all start left gone now → Reverting all start less (e ∷ gone) next
-  Reverting-more all left less gone e start now next popped was so_far = record {
-    split = so_far.split ∙ (ap (λ es. es ++ gone) popped ∙ append_assoc less (e ∷ []) gone);
+  pub IsUndoing-more : (all left less : List E) (e : E) (start now next : S) → left ≡ less ++ e ∷ [] → next ≡ back e now → IsUndoing all start left now
+      → IsUndoing all start less next
+  IsUndoing-more all left less e start now next popped was so_far = record {
+    gone = e ∷ so_far.gone;
+    split = so_far.split ∙ (ap (λ es. es ++ so_far.gone) popped ∙ append_assoc less (e ∷ []) so_far.gone);
     state = was ∙ ap (back e) so_far.state;
   }
 
-  module _ (all left gone : List E) (start now : S) (mark : ℕ) (size : length left ≡ mark) (done : Reverting all start left gone now) where
-    pub reverted_log : left ≡ take mark all
-    reverted_log = sym (ap (take mark) done.split ∙ (ap (λ n. take n (left ++ gone)) (sym size) ∙ take-append_seam left gone))
+  module _ (all left : List E) (start now : S) (mark : ℕ) (size : length left ≡ mark) (done : IsUndoing all start left now) where
+    pub undone_log : left ≡ take mark all
+    undone_log = sym (ap (take mark) done.split ∙ (ap (λ n. take n (left ++ done.gone)) (sym size) ∙ take-append_seam left done.gone))
 
-    pub reverted_gone : gone ≡ drop mark all
-    reverted_gone = sym (ap (drop mark) done.split ∙ (ap (λ n. drop n (left ++ gone)) (sym size) ∙ drop-append_seam left gone))
+    pub undone_state : now ≡ before back (drop mark all) start
+    undone_state =
+        done.state
+        ∙ ap (λ es. before back es start)
+        (sym (ap (drop mark) done.split ∙ (ap (λ n. drop n (left ++ done.gone)) (sym size) ∙ drop-append_seam left done.gone)))
 
-    pub reverted_state : now ≡ before back (drop mark all) start
-    reverted_state = done.state ∙ ap (λ es. before back es start) reverted_gone
-
-    pub reverted_marks : (earlier : ℕ) → earlier ≤ mark → before back (drop earlier left) now ≡ before back (drop earlier all) start
-    reverted_marks earlier within =
+    pub undone_marks : (earlier : ℕ) → earlier ≤ mark → before back (drop earlier left) now ≡ before back (drop earlier all) start
+    undone_marks earlier within =
         ap (before back (drop earlier left)) done.state
-        ∙ (sym (before-append (drop earlier left) gone start)
-        ∙ (ap (λ es. before back es start) (sym (drop-append-le earlier left gone (omega (arith, size))))
+        ∙ (sym (before-append (drop earlier left) done.gone start)
+        ∙ (ap (λ es. before back es start) (sym (drop-append-le earlier left done.gone (omega (arith, size))))
         ∙ ap (λ es. before back (drop earlier es) start) (sym done.split)))
 
   module _ (Holds : S → E → Type 0) where

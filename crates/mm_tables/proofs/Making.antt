@@ -17,7 +17,7 @@ use Rattle.mm_tables.specs.Commands.{after, FitsForth}
 use Rattle.mm_tables.specs.declared.edit.Edit.{Edit}
 use Rattle.mm_tables.specs.declared.log_record.LogRecord.{LogRecord}
 use Rattle.mm_tables.specs.declared.logged_table.LoggedTable.{LoggedTable}
-use Rattle.mm_tables.proofs.InTables.{slots_read, key_same, state_next, slots_next}
+use Rattle.mm_tables.proofs.InTables.{slots_read, key_read, key_same, state_next, slots_next}
 use Rattle.mm_tables.proofs.Room.{HasRoom-fewer, HasRoomFor-cons}
 
 -- the item that a loop has come to
@@ -74,6 +74,13 @@ slots_made old new i edits table within size made read =
     let here : i < length new = omega (arith, within, size) in
     let there : i < length (state_of old) = omega (arith, within, length-map old slots_of) in
     sym (slots_read new i table here read) ∙ slots_next (state_of old) (state_of new) i (after edits (slots_in old i)) there made
+
+-- what holds of a table that was read
+pub as_read : (tables : List LoggedTable) (i : ℕ) (table : LoggedTable) → i < length tables → table ≡ get_or tables i table → (P : ℕ → Slots → Type 0)
+    → P table.rows.key (slots_of table) → P (key_in tables i) (slots_in tables i)
+as_read tables i table within read P holds =
+    subst (λ (k : ℕ). P k (slots_in tables i)) (sym (key_read tables i table within read))
+    (subst (P table.rows.key) (sym (slots_read tables i table within read)) holds)
 
 -- ---- the records of the log name tables that exist
 

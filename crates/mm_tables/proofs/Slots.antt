@@ -9,6 +9,7 @@ use Rattle.std.specs.Prelude.{slice_get}
 use Rattle.std.specs.Ordering.{ordering_reverse}
 use Rattle.std.specs.declared.cmp.Ordering.TheVariants.{Equal}
 use Rattle.std.proofs.lemmas.Bool.{cases_eq, eq-eqb, eqb-true}
+use Rattle.std.proofs.lemmas.Cmp.{tied_itself}
 use Rattle.mm_value.proofs.Orders.{value_cmp_total}
 use Rattle.mm_value.specs.declared.row_ref.RowRef.{RowRef}
 use Rattle.mm_value.specs.declared.values.Value.{Value}
@@ -115,6 +116,13 @@ column_cmp_total key = on_total (λ (row : List Value). slice_get row key) (opti
 -- rows of one key, the other way round
 pub equal_turns : (key : ℕ) (x y : List Value) → column_cmp key x y ≡ Equal → column_cmp key y x ≡ Equal
 equal_turns key x y same = (column_cmp_total key).antisymm y x ∙ ap ordering_reverse same
+
+-- a row has its own key, and two rows that have the key of a third one have one key
+pub equal_self : (key : ℕ) (x : List Value) → column_cmp key x x ≡ Equal
+equal_self key x = tied_itself (column_cmp_total key) x
+
+pub equal_through : (key : ℕ) (x y z : List Value) → column_cmp key x y ≡ Equal → column_cmp key y z ≡ Equal → column_cmp key x z ≡ Equal
+equal_through key x y z first second = (column_cmp_total key).congr x y z first ∙ second
 
 -- rows of one key that are exchanged still have one key
 pub still_one_key : (key : ℕ) (old new : Slots) (a b : RowRef) (x y : List Value) → old a ≡ Live x → old b ≡ Hidden y → new a ≡ Live y → new b ≡ Hidden x

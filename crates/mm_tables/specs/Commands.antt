@@ -1,9 +1,10 @@
 -- The edits of a command in one table.
 use Rattle.std.specs.Prelude.{◌≡◌, ◌≢◌, ℕ, List, [], ◌∷◌, Some, All, AllPairs}
+use Rattle.std.specs.Bool.{OnTrue}
 use Rattle.mm_value.specs.declared.row_ref.RowRef.{RowRef}
 use Rattle.mm_row_order.specs.Refs.{Slots, HasRow}
 use Rattle.mm_indexed.specs.Twins.{HasTwin}
-use Rattle.mm_tables.specs.Edits.{step, Fits, came_by}
+use Rattle.mm_tables.specs.Edits.{step, Fits, came_by, has_new_key}
 use Rattle.mm_tables.specs.declared.edit.Edit.{Edit}
 use Rattle.mm_tables.specs.declared.edit.Edit.TheVariants.{Stage, Insert, Update, Move, Delete}
 
@@ -45,3 +46,7 @@ CameLive now e = (at : RowRef) → came_by e ≡ Some at → HasRow now at
 -- no other row has its key
 abbrev pub CameAlone : ℕ → Slots → Edit → Type 0
 CameAlone key now e = (at : RowRef) → came_by e ≡ Some at → HasTwin key now at → ⊥
+
+-- .. if its key may be new
+abbrev pub NewKeyAlone : ℕ → Slots → Edit → Type 0
+NewKeyAlone key now e = OnTrue (has_new_key e) (CameAlone key now e)

@@ -1,5 +1,5 @@
 -- Edits of the slots of one table, forwards and back.
-use Rattle.std.specs.Prelude.{◌≡◌, ℕ, ◌+◌, ◌⊎◌, Bool, cond, eqb, Option, Some, None}
+use Rattle.std.specs.Prelude.{◌≡◌, ℕ, ◌+◌, ◌⊎◌, Bool, true, false, cond, eqb, Option, Some, None}
 use Rattle.std.specs.declared.cmp.Ordering.TheVariants.{Equal}
 use Rattle.mm_value.specs.declared.row_ref.RowRef.{RowRef}
 use Rattle.mm_partition.specs.Places.{Content, Free, Live, Hidden}
@@ -113,6 +113,14 @@ came_by (Insert r) = Some r
 came_by (Update a b) = Some a
 came_by (Move a b) = Some a
 came_by (Delete r) = None
+
+-- the row that an edit brings may have a new key: an Update alone keeps the key
+abbrev pub has_new_key : Edit → Bool
+has_new_key (Stage r) = false
+has_new_key (Insert r) = true
+has_new_key (Update a b) = false
+has_new_key (Move a b) = true
+has_new_key (Delete r) = false
 
 -- no slot has a hidden row
 abbrev pub NoneHidden : Slots → Type 0

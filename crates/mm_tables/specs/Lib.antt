@@ -1,5 +1,4 @@
 pub mod Edits
 pub mod Commands
 pub mod Log
-pub mod Records
 pub mod Tables

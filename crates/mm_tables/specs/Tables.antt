@@ -136,11 +136,10 @@ pub record IsLogged (tables : List LoggedTable) (log : List LogRecord) : Type 0 
   pub clean : (t : ℕ) → NoneHidden (slice_index_or (before back log (state_of tables)) t no_slots)
   pub counted : (t : ℕ) → t < length tables → HoldsAt (HasCounted log t) tables t
 
--- What callers see: the tables, the log, the records that were undone last, and how many more records the log takes without growing.
+-- What callers see: the tables, the log, and how many more records the log takes without growing.
 pub record Stored : Type 0 where
   pub tables : List LoggedTable
   pub log : List LogRecord
-  pub undone : List LogRecord
   pub log_room : ℕ
 
 -- the state when the log had so many records
@@ -151,4 +150,3 @@ at_mark s mark = before back (drop mark s.log) (state_of s.tables)
 pub record IsUndone (change : LogRecord) (old new : Stored) : Type 0 where
   pub log : old.log ≡ new.log ++ change ∷ []
   pub state : state_of new.tables ≡ back change (state_of old.tables)
-  pub undone : new.undone ≡ change ∷ old.undone

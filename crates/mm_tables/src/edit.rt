@@ -1,7 +1,7 @@
 //! Edits of slots.
 ghost use Rattle.std.specs.Prelude.{◌≡◌};
 ghost use Rattle.std.specs.List.{sum_by};
-ghost use Rattle.mm_tables.specs.Edits.{came_by, kept_by, key_places, places, key_places_back, places_back};
+ghost use Rattle.mm_tables.specs.Edits.{came_by, has_new_key, kept_by, key_places, places, key_places_back, places_back};
 
 use crate::index_room::IndexRoom;
 use mm_value::RowRef;
@@ -66,6 +66,16 @@ impl Edit {
         match self {
             Edit::Insert(at) | Edit::Update(at, _) | Edit::Move(at, _) => Some(at),
             Edit::Stage(_) | Edit::Delete(_) => None,
+        }
+    }
+
+    /// Whether the row that the edit brings may have a new key: an `Update` alone keeps the key.
+    pub(crate) fn has_new_key(self) -> bool
+        ensures { result ≡ has_new_key self }
+    {
+        match self {
+            Edit::Insert(_) | Edit::Move(..) => true,
+            Edit::Stage(_) | Edit::Update(..) | Edit::Delete(_) => false,
         }
     }
 }

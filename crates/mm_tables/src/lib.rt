@@ -2,7 +2,6 @@
 #![tactic(auto)]
 
 mod edit;
-mod edit_log;
 mod index_room;
 mod log_record;
 mod logged_table;

@@ -16,6 +16,9 @@ use mm_schema::IndexKind;
 use mm_value::{RowRef, Value};
 use std::alloc::{AllocError, Global};
 
+/// A record pays for this many slots to be looked at when slots are given back.
+const SLOTS_TO_A_RECORD: usize = 16;
+
 /// The rows of a table, and the most entries that the undo of all logged edits inserts into its indexes.
 #[derive(Drop)]
 pub struct LoggedTable {
@@ -162,16 +165,30 @@ impl LoggedTable {
         self.rows.drop_index(index);
     }
 
-    /// Frees spare nodes of each tree until it has at most `n`. Requires that no undo is owed.
-    pub(crate) fn trim_spares(&mut self, n: usize)
+    /// Gives back free slots, unless there were few records for the slots of the table: what that costs grows with the slots.
+    fn trim_slots(&mut self, records: usize)
+        ensures slots { slots_of self.new ≡ slots_of self.old }
+        ensures owed { self.new.owed ≡ self.old.owed }
+        ensures extent { extent_of_table self.new ≤ extent_of_table self.old }
+        ensures shape { shape_of self.new ≡ shape_of self.old }
+    {
+        if records >= self.rows.extent() / SLOTS_TO_A_RECORD {
+            self.rows.trim_slots();
+        }
+    }
+
+    /// Gives back free slots after so many records, and frees spare nodes of each tree until it has at most `n`. Requires that no undo is
+    /// owed.
+    pub(crate) fn trim(&mut self, n: usize, records: usize)
         requires key { self.old.owed.key ≡ 0 }
         requires indexes { self.old.owed.indexes ≡ 0 }
         ensures few { HasFewSpares n self.new }
         ensures slots { slots_of self.new ≡ slots_of self.old }
         ensures owed { self.new.owed ≡ self.old.owed }
-        ensures extent { extent_of_table self.new ≡ extent_of_table self.old }
+        ensures extent { extent_of_table self.new ≤ extent_of_table self.old }
         ensures shape { shape_of self.new ≡ shape_of self.old }
     {
+        self.trim_slots(records);
         self.rows.trim_spares(n);
     }
 }

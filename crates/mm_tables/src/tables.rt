@@ -16,38 +16,42 @@ ghost use Rattle.mm_tables.specs.Tables.{HasCapacity, HasRoom, HasRoomFor, HasFe
 ghost use Rattle.mm_tables.specs.declared.edit.Edit.TheVariants as made;
 
 use crate::edit::{Edit, room_for};
-use crate::edit_log::EditLog;
 use crate::index_room::IndexRoom;
 use crate::log_record::LogRecord;
 use crate::logged_table::LoggedTable;
 use crate::trims::{forget_all, trim_all};
-use crate::twins::bring_twins;
+use crate::twins::{bring_twins, brings_key, lone_insert};
 use mm_indexed::IndexedRows;
 use mm_schema::IndexKind;
 use mm_value::{ColType, RowRef, Value};
 use std::alloc::{AllocError, Global};
 use std::marker::Model;
 
+/// The most records for which an empty log keeps capacity.
+const MAX_KEPT: usize = 128;
+
 /// The rows of all tables, and one log of the edits since the transaction began. A savepoint is a number, the length of the log.
 #[derive(Drop)]
 pub struct Tables {
     tables: Vec<LoggedTable>,
-    log: EditLog,
+    /// The records of the edits, the oldest first.
+    log: Vec<LogRecord>,
 }
 
 impl Model for Tables {
+    ghost use Rattle.std.specs.Prelude.{◌-◌};
+    ghost use Rattle.std.specs.Vec.{vec_len, vec_capacity};
     ghost use Rattle.mm_tables.specs.Tables.{Stored, IsLogged};
 
     ghost Value = { Stored };
 
     ghost view = { λ s. record {
       tables = s.tables.items;
-      log = s.log.live;
-      undone = s.log.undone;
-      log_room = s.log.room;
+      log = s.log.items;
+      log_room = vec_capacity s.log - vec_len s.log;
     } };
 
-    ghost invariant = { λ s. IsLogged s.tables.items s.log.live };
+    ghost invariant = { λ s. IsLogged s.tables.items s.log.items };
 }
 
 impl Tables {
@@ -55,11 +59,10 @@ impl Tables {
     pub fn new(alloc: Global) -> Tables
         ensures tables { result.tables ≡ [] }
         ensures log { result.log ≡ [] }
-        ensures undone { result.undone ≡ [] }
     {
         Tables {
             tables: Vec::new(alloc),
-            log: EditLog::new(alloc),
+            log: Vec::new(alloc),
         }
     }
 
@@ -105,10 +108,8 @@ impl Tables {
         requires log { self.old.log ≡ [] }
         ensures tables { self.new.tables ≡ remove self.old.tables table }
         ensures log { self.new.log ≡ [] }
-        ensures undone { self.new.undone ≡ [] }
     {
         self.tables.remove(table);
-        self.log.forget_undone();
     }
 
     /// Appends an index on a column of a table over the rows in use, of which there are at most 1,048,576, with capacity for the undo
@@ -159,14 +160,7 @@ impl Tables {
     pub fn records(&self) -> &[LogRecord]
         ensures { result.now ≡ self.now.log }
     {
-        self.log.records()
-    }
-
-    /// The records that `revert` or a refused `make` has undone, the oldest first, until the next stage or change.
-    pub fn undone(&self) -> &[LogRecord]
-        ensures { result.now ≡ self.now.undone }
-    {
-        self.log.undone()
+        self.log.as_slice()
     }
 
     /// The length of the log: a savepoint.
@@ -192,7 +186,6 @@ impl Tables {
         ensures others { KeepsOthers table self.old.tables self.new.tables }
         ensures state { state_of self.new.tables ≡ state_of self.old.tables }
         ensures log { self.new.log ≡ self.old.log }
-        ensures undone { self.new.undone ≡ self.old.undone }
         ensures log_room { self.new.log_room ≡ self.old.log_room }
         ensures extents { extents_of self.new.tables ≡ extents_of self.old.tables }
         ensures shapes { map shape_of self.new.tables ≡ map shape_of self.old.tables }
@@ -266,7 +259,6 @@ impl Tables {
         ensures staged { state_of self.new.tables
             ≡ slice_set (state_of self.old.tables) table (put result (Hidden values.old) (slots_in self.old.tables table)) }
         ensures log { self.new.log ≡ self.old.log ++ logged table (made.Stage result) ∷ [] }
-        ensures undone { self.new.undone ≡ [] }
         ensures marks { (mark : ℕ) → mark ≤ length self.old.log → at_mark self.new mark ≡ at_mark self.old mark }
         ensures capacity { (n m : ℕ) → HoldsAt (HasCapacity (n + 1) m) self.old.tables table → HoldsAt (HasCapacity n m) self.new.tables table }
         ensures room { (n k m : ℕ) → HoldsAt (HasRoom (n + 1) k m) self.old.tables table → HoldsAt (HasRoom n k m) self.new.tables table }
@@ -277,7 +269,7 @@ impl Tables {
         ensures shapes { map shape_of self.new.tables ≡ map shape_of self.old.tables }
     {
         let at = self.tables[table].stage(values);
-        self.log.push(LogRecord {
+        self.log.push_reserved(LogRecord {
             table: table as u16,
             edit: Edit::Stage(at),
         });
@@ -293,7 +285,6 @@ impl Tables {
         ensures state { state_of self.new.tables
             ≡ slice_set (state_of self.old.tables) table (step edit (slots_in self.old.tables table)) }
         ensures log { self.new.log ≡ self.old.log ++ logged table edit ∷ [] }
-        ensures undone { self.new.undone ≡ [] }
         ensures marks { (mark : ℕ) → mark ≤ length self.old.log → at_mark self.new mark ≡ at_mark self.old mark }
         ensures capacity { (n m : ℕ) → HoldsAt (HasCapacity n (m + 1)) self.old.tables table → HoldsAt (HasCapacity n m) self.new.tables table }
         ensures room { (n k m : ℕ) → HoldsAt (HasRoom n (k + key_places edit) (m + places edit)) self.old.tables table
@@ -303,9 +294,8 @@ impl Tables {
         ensures extents { extents_of self.new.tables ≡ extents_of self.old.tables }
         ensures shapes { map shape_of self.new.tables ≡ map shape_of self.old.tables }
     {
-        let _few = self.log.len();
         self.tables[table].change(edit);
-        self.log.push(LogRecord {
+        self.log.push_reserved(LogRecord {
             table: table as u16,
             edit,
         });
@@ -318,7 +308,9 @@ impl Tables {
         ensures extents { extents_of self.new.tables ≡ extents_of self.old.tables }
         ensures shapes { map shape_of self.new.tables ≡ map shape_of self.old.tables }
     {
-        let newest = self.log.pop();
+        let Some(newest) = self.log.pop() else {
+            unreachable!();
+        };
         self.tables[newest.table as usize].undo(newest.edit);
         newest
     }
@@ -328,12 +320,10 @@ impl Tables {
         requires { mark ≤ length self.old.log }
         ensures state { state_of self.new.tables ≡ at_mark self.old mark }
         ensures log { self.new.log ≡ take mark self.old.log }
-        ensures undone { self.new.undone ≡ drop mark self.old.log }
         ensures marks { (earlier : ℕ) → earlier ≤ mark → at_mark self.new earlier ≡ at_mark self.old earlier }
         ensures extents { extents_of self.new.tables ≡ extents_of self.old.tables }
         ensures shapes { map shape_of self.new.tables ≡ map shape_of self.old.tables }
     {
-        self.log.forget_undone();
         while self.log.len() > mark {
             self.undo_last();
         }
@@ -376,12 +366,19 @@ impl Tables {
         ensures log_room { OnTrue result (self.old.log_room ≤ self.new.log_room + length edits.now) }
         ensures refused { OnFalse result (state_of self.new.tables ≡ at_mark self.old mark) }
         ensures old_log { OnFalse result (self.new.log ≡ take mark self.old.log) }
-        ensures undone { OnFalse result (self.new.undone ≡ drop mark self.old.log ++ map (logged table) edits.now) }
         ensures twins { OnFalse result (AreApart (key_in self.old.tables table) (after edits.now (slots_in self.old.tables table)) → ⊥) }
         ensures marks { (earlier : ℕ) → earlier ≤ mark → at_mark self.new earlier ≡ at_mark self.old earlier }
         ensures extents { extents_of self.new.tables ≡ extents_of self.old.tables }
         ensures shapes { map shape_of self.new.tables ≡ map shape_of self.old.tables }
     {
+        if let Some(at) = lone_insert(edits) {
+            if brings_key(&self.tables[table].rows, at) {
+                self.revert(mark);
+                return false;
+            }
+            self.change_all(table, edits);
+            return true;
+        }
         self.change_all(table, edits);
         if bring_twins(&self.tables[table].rows, edits) {
             self.revert(mark);
@@ -390,21 +387,21 @@ impl Tables {
         true
     }
 
-    /// Ends the transaction: rows in use stay, every other slot becomes free, and the log is empty. Each tree of a table that the log
-    /// names keeps at most 64 spare nodes. Allocates nothing and cannot fail.
+    /// Ends the transaction: rows in use stay, every other slot becomes free, and the log is empty. Each table that the log names
+    /// gives back free slots, and each of its trees keeps at most 64 spare nodes. Allocates nothing and cannot fail.
     pub fn settle(&mut self)
         ensures log { self.new.log ≡ [] }
-        ensures undone { self.new.undone ≡ [] }
         ensures live { (t : ℕ) (at : RowRef) → HasRow (slots_in self.old.tables t) at
             → slots_in self.new.tables t at ≡ slots_in self.old.tables t at }
         ensures rest { (t : ℕ) (at : RowRef) → (HasRow (slots_in self.old.tables t) at → ⊥) → slots_in self.new.tables t at ≡ Free }
-        ensures extents { extents_of self.new.tables ≡ extents_of self.old.tables }
+        ensures extents { (t : ℕ) → extent_in self.new.tables t ≤ extent_in self.old.tables t }
         ensures shapes { map shape_of self.new.tables ≡ map shape_of self.old.tables }
         ensures spares { All (λ r. HoldsAt (HasFewSpares 64) self.new.tables r.table) self.old.log }
     {
-        let records = self.log.records();
+        let records = self.log.as_slice();
         forget_all(&mut self.tables, records);
         trim_all(&mut self.tables, records);
         self.log.clear();
+        self.log.shrink_to(MAX_KEPT);
     }
 }

@@ -1,7 +1,7 @@
-//! The end of a log: hidden rows are dropped, and trees are trimmed.
-ghost use Rattle.std.specs.Prelude.{◌≡◌, ◌<◌, ℕ, [], All, Some, length, map};
+//! The end of a log: hidden rows are dropped, and slots and trees are trimmed.
+ghost use Rattle.std.specs.Prelude.{◌≡◌, ◌<◌, ◌≤◌, ℕ, [], All, Some, length, map};
 ghost use Rattle.mm_tables.specs.Edits.{IsCleared, DropsHidden};
-ghost use Rattle.mm_tables.specs.Tables.{extents_of, shape_of, state_of, slots_in, HasCounted, HasFewSpares, HoldsAt};
+ghost use Rattle.mm_tables.specs.Tables.{extent_in, extents_of, shape_of, state_of, slots_in, HasCounted, HasFewSpares, HoldsAt};
 
 use crate::log_record::LogRecord;
 use crate::logged_table::LoggedTable;
@@ -24,8 +24,8 @@ pub fn forget_all(tables: &mut Vec<LoggedTable>, log: &[LogRecord])
     }
 }
 
-/// Trims the trees of a table, unless it is the table that was trimmed last.
-fn trim_next(tables: &mut Vec<LoggedTable>, last: Option<u16>, table: u16)
+/// Trims the slots and the trees of a table after so many records, unless it is the table that was trimmed last.
+fn trim_next(tables: &mut Vec<LoggedTable>, last: Option<u16>, table: u16, records: usize)
     requires within { table < length tables.old.items }
     requires counted { (t : ℕ) → t < length tables.old.items → HoldsAt (HasCounted [] t) tables.old.items t }
     requires last { (t : ℕ) → last ≡ Some t → HoldsAt (HasFewSpares 64) tables.old.items t }
@@ -33,28 +33,28 @@ fn trim_next(tables: &mut Vec<LoggedTable>, last: Option<u16>, table: u16)
     ensures kept { (t : ℕ) → HoldsAt (HasFewSpares 64) tables.old.items t → HoldsAt (HasFewSpares 64) tables.new.items t }
     ensures state { state_of tables.new.items ≡ state_of tables.old.items }
     ensures counted { (t : ℕ) → t < length tables.new.items → HoldsAt (HasCounted [] t) tables.new.items t }
-    ensures extents { extents_of tables.new.items ≡ extents_of tables.old.items }
+    ensures extents { (t : ℕ) → extent_in tables.new.items t ≤ extent_in tables.old.items t }
     ensures shapes { map shape_of tables.new.items ≡ map shape_of tables.old.items }
 {
     if last == Some(table) {
         return;
     }
-    tables[table as usize].trim_spares(MAX_SPARES);
+    tables[table as usize].trim(MAX_SPARES, records);
 }
 
-/// Trims the trees of each table that a log names.
+/// Trims the slots and the trees of each table that a log names.
 pub fn trim_all(tables: &mut Vec<LoggedTable>, log: &[LogRecord])
     requires within { All (λ r. r.table < length tables.old.items) log.now }
     requires counted { (t : ℕ) → t < length tables.old.items → HoldsAt (HasCounted [] t) tables.old.items t }
     ensures spares { All (λ r. HoldsAt (HasFewSpares 64) tables.new.items r.table) log.now }
     ensures state { state_of tables.new.items ≡ state_of tables.old.items }
     ensures counted { (t : ℕ) → t < length tables.new.items → HoldsAt (HasCounted [] t) tables.new.items t }
-    ensures extents { extents_of tables.new.items ≡ extents_of tables.old.items }
+    ensures extents { (t : ℕ) → extent_in tables.new.items t ≤ extent_in tables.old.items t }
     ensures shapes { map shape_of tables.new.items ≡ map shape_of tables.old.items }
 {
     let mut last = None;
     for entry in log {
-        trim_next(tables, last, entry.table);
+        trim_next(tables, last, entry.table, log.len());
         last = Some(entry.table);
     }
 }

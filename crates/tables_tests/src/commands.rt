@@ -143,7 +143,7 @@ fn raise(
         ..two
     };
     assert_rows(rt, tables, &[one, two]);
-    assert_records(rt, tables, 8, 0);
+    assert_records(rt, tables, 8);
     Ok(())
 }
 
@@ -168,7 +168,7 @@ fn refuse(
     let made = change_keys(rt, tables, [one.at, two.at], 3, 3)?;
     assert_that(rt, !made);
     assert_rows(rt, tables, &[one, two]);
-    assert_records(rt, tables, 4, 4);
+    assert_records(rt, tables, 4);
     Ok(())
 }
 

@@ -57,7 +57,7 @@ fn assert_begun(rt: &impl Abort, begun: &Begun)
     requires { AreSample begun.now.tables }
 {
     assert_rows(rt, &begun.tables, &[begun.row]);
-    assert_records(rt, &begun.tables, 2, 0);
+    assert_records(rt, &begun.tables, 2);
 }
 
 /// Undoes the transaction, after which there are no rows.
@@ -66,7 +66,7 @@ fn undo(rt: &impl Abort, begun: &mut Begun)
 {
     revert(rt, &mut begun.tables, 0);
     assert_rows(rt, &begun.tables, &[]);
-    assert_records(rt, &begun.tables, 0, 2);
+    assert_records(rt, &begun.tables, 0);
 }
 
 /// Makes capacity for 200 rows and edits, again if an allocation fails.

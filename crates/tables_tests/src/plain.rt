@@ -67,9 +67,8 @@ pub fn assert_rows(rt: &impl Abort, tables: &Tables, rows: &[PlainRow])
     }
 }
 
-/// Asserts that the log has so many records, and that so many were undone.
-pub fn assert_records(rt: &impl Abort, tables: &Tables, live: usize, undone: usize) {
-    assert_same(rt, tables.records().len(), live);
-    assert_that(rt, tables.mark() == live);
-    assert_same(rt, tables.undone().len(), undone);
+/// Asserts that the log has so many records.
+pub fn assert_records(rt: &impl Abort, tables: &Tables, count: usize) {
+    assert_same(rt, tables.records().len(), count);
+    assert_that(rt, tables.mark() == count);
 }

@@ -144,7 +144,6 @@ fn change_and_revert(
     change_rows(rt, tables, &mut changed, dice)?;
     revert(rt, tables, mark);
     assert_that(rt, tables.mark() == mark);
-    assert_that(rt, tables.undone().len() > 0);
     assert_rows(rt, tables, rows);
     Ok(())
 }

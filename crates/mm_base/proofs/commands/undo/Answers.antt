@@ -1,8 +1,9 @@
 use Rattle.std.proofs.Common.{◌∙◌, ◌∷◌, [], length, ap, refl, sym, arith}
 use Rattle.std.proofs.lemmas.List.{append-nil, length-append}
+use Rattle.mm_tables.specs.Tables.{back}
+use Rattle.mm_tables.proofs.Logs.{IsUndoing-more, undone_marks}
 use Rattle.mm_base.proofs.Chained.{KeepsSize-both, KeepsSize-follows, KeepsSize-refl, joined-follows}
 use Rattle.mm_base.proofs.Joining.{behind_undone}
-use Rattle.mm_base.proofs.Undoing.{IsUndoing-more, undone_marks}
 use Rattle.mm_base.proofs.commands.undo.Goals as goal
 
 pub loop-tables-init : goal.loop-tables-init
@@ -38,7 +39,7 @@ loop-tables-preserved c =
         ap length undone.undone.log,
         length-append new.log (c.undo_last-undone.result ∷ []),
       );
-      undoing = IsUndoing-more c.args.tables.now.log old.log new.log c.undo_last-undone.result _ _ _ undone.undone.log undone.undone.state inv.undoing;
+      undoing = IsUndoing-more back c.args.tables.now.log old.log new.log c.undo_last-undone.result _ _ _ undone.undone.log undone.undone.state inv.undoing;
       shapes = undone.shapes ∙ inv.shapes;
       extents = undone.extents ∙ inv.extents;
       joined = joined-follows new.tables new.log c.loop-tables.links.items links c.retie_undone_all.ensures;
@@ -48,5 +49,5 @@ loop-tables-preserved c =
 
 pub returns-clause-marks : goal.returns-clause-marks
 returns-clause-marks c =
-    undone_marks c.args.tables.now.log c.loop-tables.tables.log _ _ c.args.mark
+    undone_marks back c.args.tables.now.log c.loop-tables.tables.log _ _ c.args.mark
     (omega (arith, c.loop-tables.invariant.least, c.loop-tables-test.false, c.mark.ensures)) c.loop-tables.invariant.undoing

@@ -1,4 +1,4 @@
-use Rattle.std.proofs.Common.{ℕ, ◌∙◌}
+use Rattle.std.proofs.Common.{ℕ, ◌∙◌, arith}
 use Rattle.std.proofs.lemmas.List.{get_or_default}
 use Rattle.mm_tables.specs.Tables.{HasFewSpares, HoldsAt}
 use Rattle.mm_tables.proofs.Settling.{trim_more, last_is}
@@ -14,6 +14,6 @@ loop-entry-preserved c =
       last = λ t is. last_is _ t (λ (n : ℕ). HoldsAt (HasFewSpares 64) c.trim_next.new.tables.items n) is c.trim_next.ensures.few;
       state = c.trim_next.ensures.state ∙ inv.state;
       counted = c.trim_next.ensures.counted;
-      extents = c.trim_next.ensures.extents ∙ inv.extents;
+      extents = λ t. omega (arith, c.trim_next.ensures.extents t, inv.extents t);
       shapes = c.trim_next.ensures.shapes ∙ inv.shapes;
     }

@@ -11,6 +11,7 @@ use Rattle.mm_base.specs.Joined.{HaveEntriesFor}
 use Rattle.mm_base.specs.Orphans.{BringsTargets, SparesAll, brings_orphan, leaves_orphan}
 use Rattle.mm_base.proofs.Chained.{KeepsSize-follows, entries_kept, same_references}
 use Rattle.mm_base.proofs.InBases.{lawful_from_state, rows_at_mark-kept, rows_from_state}
+use Rattle.mm_base.proofs.Joining.{no_more}
 use Rattle.mm_base.proofs.Making.{behind_all, due_same, joined_refused}
 use Rattle.mm_base.proofs.base_tables.BaseTables.make.Goals as goal
 
@@ -66,7 +67,7 @@ returns-in-Err-clause-links c =
 pub returns-in-Err-clause-entries : goal.returns-in-Err-clause-entries
 returns-in-Err-clause-entries c t n have =
     entries_kept c.self.inside.tables.tables c.undo.new.tables.tables c.self.inside.links.items c.undo.new.links.items
-    (c.undo.ensures.extents ∙ c.change.ensures.extents) c.undo.ensures.links t n
+    (no_more c.self.inside.tables.tables c.undo.new.tables.tables (c.undo.ensures.extents ∙ c.change.ensures.extents)) c.undo.ensures.links t n
     (subst (λ (s : Base). HaveEntriesFor n t s.stored.tables s.links) (sym c.self.view_is) have)
 
 pub retie_all-requires : goal.retie_all-requires

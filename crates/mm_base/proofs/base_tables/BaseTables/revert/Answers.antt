@@ -4,6 +4,7 @@ use Rattle.mm_base.specs.Bases.{AreLawful, Base, rows_at_mark, references_of}
 use Rattle.mm_base.specs.Joined.{HaveEntriesFor}
 use Rattle.mm_base.proofs.Chained.{entries_kept, same_references}
 use Rattle.mm_base.proofs.InBases.{lawful_from_state, rows_at_mark-kept, rows_from_state}
+use Rattle.mm_base.proofs.Joining.{no_more}
 use Rattle.mm_base.proofs.base_tables.BaseTables.revert.Goals as goal
 
 pub invariant_of-self : goal.invariant_of-self
@@ -26,8 +27,9 @@ returns-clause-links c =
 
 pub returns-clause-entries : goal.returns-clause-entries
 returns-clause-entries c t n have =
-    entries_kept c.self.inside.tables.tables c.undo.new.tables.tables c.self.inside.links.items c.undo.new.links.items c.undo.ensures.extents
-    c.undo.ensures.links t n (subst (λ (s : Base). HaveEntriesFor n t s.stored.tables s.links) (sym c.self.view_is) have)
+    entries_kept c.self.inside.tables.tables c.undo.new.tables.tables c.self.inside.links.items c.undo.new.links.items
+    (no_more c.self.inside.tables.tables c.undo.new.tables.tables c.undo.ensures.extents) c.undo.ensures.links t n
+    (subst (λ (s : Base). HaveEntriesFor n t s.stored.tables s.links) (sym c.self.view_is) have)
 
 pub returns-clause-saved : goal.returns-clause-saved
 returns-clause-saved c earlier within =

@@ -1,5 +1,4 @@
 use Rattle.std.proofs.Common.{◌≡◌, ◌<◌, false, length, sym, subst}
-use Rattle.std.specs.List.{All}
 use Rattle.mm_base.specs.Bases.{Base, references_of, rows_made}
 use Rattle.mm_base.specs.Orphans.{has_orphans}
 use Rattle.mm_base.proofs.KeptTargets.{targets_if_deleted}

@@ -24,9 +24,9 @@ invariant_of-self c =
     let within : c.args.table < length c.self.inside.tables.items =
     omega (arith, c.requires.within, ap (λ (s : Stored). length s.tables) c.self.view_is) in
     IsLogged-same c.self.inside.tables.items c.args.table c.index_mut.result.now c.add_index.new.self within c.index_mut.ensures.value
-    c.add_index.ensures.key c.self.inside.log.live c.add_index.ensures.slots c.add_index.ensures.owed
+    c.add_index.ensures.key c.self.inside.log.items c.add_index.ensures.slots c.add_index.ensures.owed
     (c.add_index.ensures.spare
-    (counted_read c.self.inside.tables.items c.self.inside.log.live c.args.table c.index_mut.result.now within c.index_mut.ensures.value
+    (counted_read c.self.inside.tables.items c.self.inside.log.items c.args.table c.index_mut.result.now within c.index_mut.ensures.value
     c.self.invariant).spare)
     c.self.invariant
 
@@ -40,5 +40,5 @@ returns-clause-state c =
 
 pub returns-clause-marks : goal.returns-clause-marks
 returns-clause-marks c mark =
-    ap (before back (drop mark c.self.inside.log.live)) (returns-clause-state c)
+    ap (before back (drop mark c.self.inside.log.items)) (returns-clause-state c)
     ∙ ap (λ (s : Stored). before back (drop mark s.log) (state_of c.args.self.now.tables)) c.self.view_is

@@ -26,9 +26,8 @@ change-requires-clause-few c =
     omega (arith, c.requires.within, ap (λ (s : Stored). length s.tables) c.self.view_is) in
     omega (
       arith,
-      few_owed c.self.inside.tables.items c.self.inside.log.live c.args.table c.index_mut.result.now within c.index_mut.ensures.value c.self.invariant,
-      c.len-few.ensures.len,
-      c.len-few.ensures.few,
+      few_owed c.self.inside.tables.items c.self.inside.log.items c.args.table c.index_mut.result.now within c.index_mut.ensures.value c.self.invariant,
+      c.self.inside.log.ok,
     )
 
 pub change-requires-clause-few_keys : goal.change-requires-clause-few_keys
@@ -37,9 +36,8 @@ change-requires-clause-few_keys c =
     omega (arith, c.requires.within, ap (λ (s : Stored). length s.tables) c.self.view_is) in
     omega (
       arith,
-      few_keys_owed c.self.inside.tables.items c.self.inside.log.live c.args.table c.index_mut.result.now within c.index_mut.ensures.value c.self.invariant,
-      c.len-few.ensures.len,
-      c.len-few.ensures.few,
+      few_keys_owed c.self.inside.tables.items c.self.inside.log.items c.args.table c.index_mut.result.now within c.index_mut.ensures.value c.self.invariant,
+      c.self.inside.log.ok,
     )
 
 pub invariant_of-self : goal.invariant_of-self
@@ -47,7 +45,8 @@ invariant_of-self c =
     let within : c.args.table < length c.self.inside.tables.items =
     omega (arith, c.requires.within, ap (λ (s : Stored). length s.tables) c.self.view_is) in
     IsLogged-push c.self.inside.tables.items c.args.table c.index_mut.result.now c.change.new.self within c.index_mut.ensures.value
-    (ap (λ (x : Shape). x.key) c.change.ensures.shape) c.self.inside.log.live _ c.args.edit c.push.ensures.live c.change.ensures.back c.change.ensures.stands
+    (ap (λ (x : Shape). x.key) c.change.ensures.shape) c.self.inside.log.items _ c.args.edit c.push_reserved.ensures.items c.change.ensures.back
+    c.change.ensures.stands
     c.change.ensures.owed c.change.ensures.spare c.self.invariant
 
 pub returns-clause-state : goal.returns-clause-state
@@ -64,7 +63,7 @@ pub returns-clause-marks : goal.returns-clause-marks
 returns-clause-marks c mark within_log =
     let within : c.args.table < length c.self.inside.tables.items =
     omega (arith, c.requires.within, ap (λ (s : Stored). length s.tables) c.self.view_is) in
-    mark-push back c.self.inside.log.live _ (logged c.args.table c.args.edit) _ _ mark c.push.ensures.live
+    mark-push back c.self.inside.log.items _ (logged c.args.table c.args.edit) _ _ mark c.push_reserved.ensures.items
     (state-back c.self.inside.tables.items c.args.table c.index_mut.result.now c.change.new.self within c.index_mut.ensures.value c.args.edit
     c.change.ensures.back)
     (omega (arith, ap (λ (s : Stored). length s.log) c.self.view_is, within_log))

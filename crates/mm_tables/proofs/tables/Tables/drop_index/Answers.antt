@@ -19,10 +19,10 @@ invariant_of-self c =
     let within : c.args.table < length c.self.inside.tables.items =
     omega (arith, c.requires.within, ap (λ (s : Stored). length s.tables) c.self.view_is) in
     IsLogged-same c.self.inside.tables.items c.args.table c.index_mut.result.now c.drop_index.new.self within c.index_mut.ensures.value
-    (ap (λ (t : LoggedTable). t.rows.key) c.drop_index.ensures.dropped) c.self.inside.log.live
+    (ap (λ (t : LoggedTable). t.rows.key) c.drop_index.ensures.dropped) c.self.inside.log.items
     (ap (λ (t : LoggedTable). slot_at t.rows.places) c.drop_index.ensures.dropped) (ap (λ (t : LoggedTable). t.owed) c.drop_index.ensures.dropped)
     (HasSpare-same c.index_mut.result.now c.drop_index.new.self (ap (λ (t : LoggedTable). t.owed) c.drop_index.ensures.dropped) c.drop_index.ensures.spare
-    (counted_read c.self.inside.tables.items c.self.inside.log.live c.args.table c.index_mut.result.now within c.index_mut.ensures.value
+    (counted_read c.self.inside.tables.items c.self.inside.log.items c.args.table c.index_mut.result.now within c.index_mut.ensures.value
     c.self.invariant).spare)
     c.self.invariant
 
@@ -36,5 +36,5 @@ returns-clause-state c =
 
 pub returns-clause-marks : goal.returns-clause-marks
 returns-clause-marks c mark =
-    ap (before back (drop mark c.self.inside.log.live)) (returns-clause-state c)
+    ap (before back (drop mark c.self.inside.log.items)) (returns-clause-state c)
     ∙ ap (λ (s : Stored). before back (drop mark s.log) (state_of c.args.self.now.tables)) c.self.view_is

@@ -12,10 +12,10 @@ invariant_of-self c =
     let tables = c.self.inside.tables.items in
     let old = c.index_mut.result.now in
     IsLogged-same tables c.args.table old c.reserve.new.self within c.index_mut.ensures.value
-    (ap (λ (x : Shape). x.key) c.reserve.ensures.shape) c.self.inside.log.live
+    (ap (λ (x : Shape). x.key) c.reserve.ensures.shape) c.self.inside.log.items
     c.reserve.ensures.slots c.reserve.ensures.owed
     (HasSpare-same old c.reserve.new.self c.reserve.ensures.owed c.reserve.ensures.spare
-    (counted_read tables c.self.inside.log.live c.args.table old within c.index_mut.ensures.value c.self.invariant).spare)
+    (counted_read tables c.self.inside.log.items c.args.table old within c.index_mut.ensures.value c.self.invariant).spare)
     c.self.invariant
 
 pub returns-clause-kept : goal.returns-clause-kept

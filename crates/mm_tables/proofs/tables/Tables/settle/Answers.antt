@@ -10,23 +10,23 @@ use Rattle.mm_tables.proofs.tables.Tables.settle.Goals as goal
 
 pub forget_all-requires-clause-within : goal.forget_all-requires-clause-within
 forget_all-requires-clause-within c =
-    subst (All (λ (r : LogRecord). r.table < length c.self.inside.tables.items)) (sym c.records-records.ensures)
-    (all_within c.self.inside.tables.items c.self.inside.log.live c.self.invariant)
+    subst (All (λ (r : LogRecord). r.table < length c.self.inside.tables.items)) (sym c.as_slice-records.ensures.value)
+    (all_within c.self.inside.tables.items c.self.inside.log.items c.self.invariant)
 
 pub trim_all-requires-clause-within : goal.trim_all-requires-clause-within
 trim_all-requires-clause-within c =
-    subst (λ (n : ℕ). All (λ (r : LogRecord). r.table < n) c.records-records.result.now)
+    subst (λ (n : ℕ). All (λ (r : LogRecord). r.table < n) c.as_slice-records.result.now)
     (sym (size_from_shapes c.self.inside.tables.items c.forget_all.new.tables.items c.forget_all.ensures.shapes))
-    (subst (All (λ (r : LogRecord). r.table < length c.self.inside.tables.items)) (sym c.records-records.ensures)
-    (all_within c.self.inside.tables.items c.self.inside.log.live c.self.invariant))
+    (subst (All (λ (r : LogRecord). r.table < length c.self.inside.tables.items)) (sym c.as_slice-records.ensures.value)
+    (all_within c.self.inside.tables.items c.self.inside.log.items c.self.invariant))
 
 pub invariant_of-self : goal.invariant_of-self
 invariant_of-self c =
     let old = c.self.inside.tables.items in
     let mid = c.forget_all.new.tables.items in
     let new = c.trim_all.new.tables.items in
-    let log = c.self.inside.log.live in
-    subst (IsLogged new) (sym c.clear.ensures.live) (record {
+    let log = c.self.inside.log.items in
+    subst (IsLogged new) (sym (c.shrink_to.ensures.items ∙ c.clear.ensures.items)) (record {
       few = omega (
         arith,
         c.self.invariant.few,
@@ -35,7 +35,7 @@ invariant_of-self c =
       );
       stands = tt;
       clean = none_hidden old new log c.self.invariant
-          (cleared-same mid new log c.trim_all.ensures.state (subst (All (ClearedIn mid)) c.records-records.ensures c.forget_all.ensures.cleared))
+          (cleared-same mid new log c.trim_all.ensures.state (subst (All (ClearedIn mid)) c.as_slice-records.ensures.value c.forget_all.ensures.cleared))
           (drops-same old mid new c.trim_all.ensures.state c.forget_all.ensures.others);
       counted = c.trim_all.ensures.counted;
     })
@@ -56,12 +56,12 @@ returns-clause-rest c t at no_row =
     let new = c.trim_all.new.tables.items in
     let drops = drops-same old mid new c.trim_all.ensures.state c.forget_all.ensures.others in
     settled_free (slots_in old t) (slots_in new t) (drops t)
-    (none_hidden old new c.self.inside.log.live c.self.invariant
-    (cleared-same mid new c.self.inside.log.live c.trim_all.ensures.state
-    (subst (All (ClearedIn mid)) c.records-records.ensures c.forget_all.ensures.cleared)) drops t)
+    (none_hidden old new c.self.inside.log.items c.self.invariant
+    (cleared-same mid new c.self.inside.log.items c.trim_all.ensures.state
+    (subst (All (ClearedIn mid)) c.as_slice-records.ensures.value c.forget_all.ensures.cleared)) drops t)
     at (λ row. no_row (subst (λ (s : Stored). HasRow (slots_in s.tables t) at) c.self.view_is row))
 
 pub returns-clause-spares : goal.returns-clause-spares
 returns-clause-spares c =
     subst (All (λ (r : LogRecord). HoldsAt (HasFewSpares 64) c.trim_all.new.tables.items r.table))
-    (c.records-records.ensures ∙ ap (λ (s : Stored). s.log) c.self.view_is) c.trim_all.ensures.spares
+    (c.as_slice-records.ensures.value ∙ ap (λ (s : Stored). s.log) c.self.view_is) c.trim_all.ensures.spares

@@ -1,8 +1,8 @@
-use Rattle.std.proofs.Common.{◌≡◌, ◌<◌, ◌+◌, ◌*◌, length, map, sym, ap, ◌∙◌, subst, arith}
+use Rattle.std.proofs.Common.{◌<◌, ◌+◌, ◌*◌, length, map, sym, ap, ◌∙◌, subst, arith}
 use Rattle.std.specs.Prelude.{slice_set}
 use Rattle.mm_partition.specs.Places.{Hidden}
 use Rattle.mm_tables.specs.Edits.{put}
-use Rattle.mm_tables.specs.Tables.{Shape, Stored, HasRoom, HoldsAt, back, at_mark, extent_in, extent_of_table, logged, slots_in, shape_of, state_of}
+use Rattle.mm_tables.specs.Tables.{Shape, Stored, HasRoom, HoldsAt, back, at_mark, extent_in, logged, slots_in, shape_of, state_of}
 use Rattle.mm_tables.specs.declared.edit.Edit.TheVariants.{Stage}
 use Rattle.mm_tables.proofs.InTables.{extent-here, extent-other, extent_read, slots_read, shapes-set, state-set, state-back, HoldsAt-turned}
 use Rattle.mm_tables.proofs.Logs.{mark-push}
@@ -17,10 +17,11 @@ invariant_of-self c =
     let tables = c.self.inside.tables.items in
     let old = c.index_mut.result.now in
     IsLogged-push tables c.args.table old c.stage-at.new.self within c.index_mut.ensures.value
-    (ap (λ (x : Shape). x.key) c.stage-at.ensures.shape) c.self.inside.log.live _ (Stage c.stage-at.result) c.push.ensures.live c.stage-at.ensures.back
+    (ap (λ (x : Shape). x.key) c.stage-at.ensures.shape) c.self.inside.log.items _ (Stage c.stage-at.result) c.push_reserved.ensures.items
+    c.stage-at.ensures.back
     (c.args.values.now, c.stage-at.ensures.hidden) (owes_no_more c.index_mut.result.now c.stage-at.new.self c.stage-at.result c.stage-at.ensures.owed)
     (HasSpare-same old c.stage-at.new.self c.stage-at.ensures.owed c.stage-at.ensures.spare
-    (counted_read tables c.self.inside.log.live c.args.table old within c.index_mut.ensures.value c.self.invariant).spare)
+    (counted_read tables c.self.inside.log.items c.args.table old within c.index_mut.ensures.value c.self.invariant).spare)
     c.self.invariant
 
 pub returns-clause-staged : goal.returns-clause-staged
@@ -40,7 +41,7 @@ pub returns-clause-marks : goal.returns-clause-marks
 returns-clause-marks c mark within_log =
     let within : c.args.table < length c.self.inside.tables.items =
     omega (arith, c.requires.within, ap (λ (s : Stored). length s.tables) c.self.view_is) in
-    mark-push back c.self.inside.log.live _ (logged c.args.table (Stage c.stage-at.result)) _ _ mark c.push.ensures.live
+    mark-push back c.self.inside.log.items _ (logged c.args.table (Stage c.stage-at.result)) _ _ mark c.push_reserved.ensures.items
     (state-back c.self.inside.tables.items c.args.table c.index_mut.result.now c.stage-at.new.self within c.index_mut.ensures.value
     (Stage c.stage-at.result) c.stage-at.ensures.back)
     (omega (arith, ap (λ (s : Stored). length s.log) c.self.view_is, within_log))
