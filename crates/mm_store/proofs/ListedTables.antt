@@ -20,16 +20,13 @@ use Rattle.mm_indexed.specs.declared.indexes.index.Index.{Index}
 use Rattle.mm_partition.specs.Places.{slot_at}
 use Rattle.mm_row_order.specs.Refs.{Slots}
 use Rattle.mm_schema.specs.References.{lacks_target_row, lose_targets}
-use Rattle.mm_schema.specs.Rows.{Pair, changed, table_rows_conditions}
+use Rattle.mm_schema.specs.Rows.{Pair}
 use Rattle.mm_schema.specs.declared.index.IndexKind.{IndexKind}
 use Rattle.mm_schema.specs.declared.reference.Reference.{Reference}
-use Rattle.mm_store.specs.Asked.{conditions_asked, pairs_asked, rows_asked}
 use Rattle.mm_store.specs.Marks.{KeepsMarks}
-use Rattle.mm_store.specs.RowEdits.{edit_pairs}
 use Rattle.mm_store.specs.Spares.{HasFewSpares}
-use Rattle.mm_store.specs.Tables.{HasRows, IsAt, KeepsRows, SameForm, edit_conditions, has_orphans, key_at, makes_orphans, rows_at, rows_with, tables_of}
-use Rattle.mm_store.specs.declared.edit.Edit.{Edit}
-use Rattle.mm_store.proofs.AskedRows.{rows_at-now}
+use Rattle.mm_store.specs.Tables.{HasRows, IsAt, KeepsRows, SameForm, has_orphans, key_at, makes_orphans, rows_at, tables_of}
+use Rattle.mm_store.proofs.RowsAt.{rows_at-now}
 use Rattle.mm_store.proofs.Joining.{some_at}
 use Rattle.mm_tables.specs.Tables.{HoldsAt, KeepsOthers, Shape, at_mark, key_in, keys_of, shape_of, slots_in, slots_of, state_of}
 use Rattle.mm_tables.specs.Tables as tables
@@ -121,7 +118,7 @@ module _ (b : Base) (listed : IsListed b) where
       (λ (r : Reference). (r.from == t) && list_any (lacks_target_row r.column (key_at-place b r.to i) (rows_at-place r.to i)) rows)
       (references_of b.links)
 
-  makes_orphans-place : (t : ℕ) (pairs : List Pair)
+  pub makes_orphans-place : (t : ℕ) (pairs : List Pair)
       → makes_orphans (tables_of b) t (key_in b.stored.tables t) pairs ≡ base.makes_orphans b.stored.tables (references_of b.links) t pairs
   makes_orphans-place t pairs = λ i.
       list_any (λ (r : Reference). (r.to == t) && lose_targets r.column (key_in b.stored.tables t) (rows_at-place r.from i) pairs) (references_of b.links)
@@ -129,18 +126,6 @@ module _ (b : Base) (listed : IsListed b) where
   module _ (t : ℕ) (stored : StoredRows) (at : IsAt (tables_of b) t stored) where
     pub rows_there : rows_of stored ≡ base.rows_at b.stored.tables t
     rows_there = ap (λ (o : Option StoredRows). option_map_or rows_of o []) (sym at) ∙ rows_at-place t
-
-    pub rows_with-asked : (edits : List Edit) → rows_with stored edits ≡ rows_asked b t edits
-    rows_with-asked edits = λ i. changed (key_there b t stored at i) (edit_pairs (slots_at b t stored at i) edits) (rows_there i)
-
-    pub conditions_there : (edits : List Edit) → edit_conditions (tables_of b) t stored edits ≡ conditions_asked b t edits
-    conditions_there edits =
-        let key = key_there b t stored at in
-        let slots = slots_at b t stored at in
-        let lacks = ap (has_orphans (tables_of b) t) (rows_with-asked edits) ∙ has_orphans-place t (rows_asked b t edits) in
-        let leaves =
-        ap₂ (λ (k : ℕ) (s : Slots). makes_orphans (tables_of b) t k (edit_pairs s edits)) key slots ∙ makes_orphans-place t (pairs_asked b t edits) in
-        λ i. table_rows_conditions (key i) (rows_with-asked edits i) (lacks i) (leaves i)
 
 -- ---- a table comes
 

@@ -1,10 +1,9 @@
-pub mod Asked
+pub mod Edits
 pub mod Joined
 pub mod Looked
 pub mod Marks
 pub mod Ordered
-pub mod RowEdits
 pub mod Seen
 pub mod Spares
-pub mod Staged
+pub mod Staging
 pub mod Tables

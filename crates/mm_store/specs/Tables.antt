@@ -1,28 +1,25 @@
 -- A store as its tables, and which of their columns refer to which of them.
-use Rattle.std.specs.Prelude.{◌≡◌, ℕ, ◌==◌, ◌&&◌, Bool, List, [], All, map, slice_get, slice_set, Some}
+use Rattle.std.specs.Prelude.{◌≡◌, ℕ, ◌==◌, ◌&&◌, Bool, List, [], map, slice_get, slice_set, Some}
 use Rattle.std.specs.List.{list_any}
 use Rattle.std.specs.Option.{option_map_or}
-use Rattle.mm_partition.specs.Places.{slot_at}
-use Rattle.mm_partition.specs.Types.{HasTypes}
-use Rattle.mm_store.specs.RowEdits.{Standing, new_rows, edit_pairs}
 use Rattle.mm_indexed.specs.Index.{EachTurns, SameIndex}
 use Rattle.mm_indexed.specs.Kept.{StoredRows}
 use Rattle.mm_indexed.specs.RowLists.{rows_of}
-use Rattle.mm_store.specs.declared.edit.Edit.{Edit}
-use Rattle.mm_schema.specs.Refused.{Condition}
-use Rattle.mm_schema.specs.Rows.{Pair, changed, table_rows_conditions}
+use Rattle.mm_schema.specs.Rows.{Pair}
 use Rattle.mm_value.specs.declared.values.Value.{Value}
 use Rattle.mm_schema.specs.References.{lacks_target_row, lose_targets}
 use Rattle.mm_schema.specs.declared.reference.Reference.{Reference}
 use Rattle.mm_base.specs.Bases.{Base, references_of}
+use Rattle.mm_link.specs.declared.link.Link.{Link}
 use Rattle.mm_tables.specs.Tables.{Stored}
 use Rattle.mm_tables.specs.declared.logged_table.LoggedTable.{LoggedTable}
 
--- The tables and their references, in the order of creation, and the tables with the log of the open transaction.
+-- The tables and their references, in the order of creation, the tables with the log of the open transaction, and the ties of the references.
 pub record Tables : Type 0 where
   pub tables : List StoredRows
   pub links : List Reference
   pub stored : Stored
+  pub ties : List Link
 
 -- What callers see of base tables.
 abbrev pub tables_of : Base → Tables
@@ -30,6 +27,7 @@ tables_of b = record {
   tables = map (λ (table : LoggedTable). table.rows) b.stored.tables;
   links = references_of b.links;
   stored = b.stored;
+  ties = b.links;
 }
 
 -- The table at a place.
@@ -39,10 +37,6 @@ IsAt store place stored = slice_get store.tables place ≡ Some stored
 -- The table at a place is another one, and all others are as they were.
 abbrev pub Turns : Tables → ℕ → StoredRows → Tables → Type 0
 Turns old place stored new = new.tables ≡ slice_set old.tables place stored
-
--- A table's rows with the edits made.
-abbrev pub rows_with : StoredRows → List Edit → List (List Value)
-rows_with stored edits = changed stored.key (edit_pairs (slot_at stored.places) edits) (rows_of stored)
 
 -- The rows of the table at a place, and none where there is no such table.
 abbrev pub rows_at : List StoredRows → ℕ → List (List Value)
@@ -69,17 +63,6 @@ makes_orphan tables table key pairs reference =
 -- The pairs of a change of the table take a row, or its key, to which a row of another table refers.
 abbrev pub makes_orphans : Tables → ℕ → ℕ → List Pair → Bool
 makes_orphans store table key pairs = list_any (makes_orphan store.tables table key pairs) store.links
-
--- What refuses the edits of a table, in the one order.
-abbrev pub edit_conditions : Tables → ℕ → StoredRows → List Edit → List Condition
-edit_conditions store table stored edits =
-    table_rows_conditions stored.key (rows_with stored edits) (has_orphans store table (rows_with stored edits))
-    (makes_orphans store table stored.key (edit_pairs (slot_at stored.places) edits))
-
--- The edits name rows that are there, each once, and bring rows of the types of the table's columns.
-pub record AreFit (stored : StoredRows) (edits : List Edit) : Type 0 where
-  pub standing : Standing (slot_at stored.places) edits
-  pub typed : All (HasTypes stored.places.types) (new_rows edits)
 
 -- A table has the types of columns, the key and the indexes that it had.
 pub record SameForm (old new : StoredRows) : Type 0 where

@@ -11,8 +11,8 @@ ghost use Rattle.mm_store.specs.Joined.{IsTable};
 ghost use Rattle.mm_store.specs.Marks.{IsMark, mark_of, rows_at_mark};
 ghost use Rattle.mm_store.specs.Tables.{IsAt};
 
-mod apply;
 mod changing;
+mod staging;
 
 use mm_base::BaseTables;
 use mm_indexed::IndexedRows;

@@ -3,7 +3,7 @@ ghost use Rattle.std.specs.Prelude.{◌≡◌, ℕ, ◌+◌, ◌<◌, ◌≤◌,
 ghost use Rattle.std.specs.Prelude.{All, IfOk, IfSome, IsOk, IsTrue, MatchOption, OnOk, OnErr};
 ghost use Rattle.std.specs.List.{cons_option};
 ghost use Rattle.std.specs.Option.{option_map};
-ghost use Rattle.mm_partition.specs.Places.{AreReferencesSmall, IsLive, Live, slot_at};
+ghost use Rattle.mm_partition.specs.Places.{AreReferencesSmall, Hidden, IsHidden, IsLive, Live, slot_at};
 ghost use Rattle.mm_partition.specs.Types.{HasTypes};
 ghost use Rattle.mm_partition.specs.Views.{viewed};
 ghost use Rattle.mm_indexed.specs.Kept.{StoredRows};
@@ -101,6 +101,15 @@ impl<'a> View<'a> {
         let View { store, reads } = self;
         *reads = reads.saturating_add(1);
         store.table(table).row(at)
+    }
+
+    /// Returns a staged row of a table, which is hidden, where it lies. No row is counted.
+    pub fn staged_row(&self, table: usize, at: RowRef) -> RowView<'a>
+        requires there { table < length self.now.store.tables }
+        requires hidden { (stored : StoredRows) → IsAt self.now.store table stored → IsHidden stored.places at }
+        ensures { (stored : StoredRows) → IsAt self.now.store table stored → slot_at stored.places at ≡ Hidden (viewed result) }
+    {
+        self.store.table(table).hidden_row(at)
     }
 
     /// Returns the `order_prefix` of what a row in use of a table has in a column, without reading a text, or `None` if the prefixes

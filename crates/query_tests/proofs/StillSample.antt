@@ -5,7 +5,9 @@ use Rattle.mm_indexed.specs.Kept.{StoredRows}
 use Rattle.mm_indexed.specs.Index.{AddsIndex, EachTurns}
 use Rattle.mm_schema.specs.declared.index.IndexKind.{IndexKind}
 use Rattle.store_tests.proofs.PlainStores.{plain_at, plain_formed, plain_indexed}
+use Rattle.store_tests.proofs.StagedRows.{plain_staged, size_staged}
 use Rattle.store_tests.specs.SampleStore.{ArePlain, IsPlain}
+use Rattle.mm_store.specs.Staging.{HasStaged}
 use Rattle.mm_store.specs.Tables.{IsAt, SameForm, Tables, Turns}
 use Rattle.mm_value.specs.declared.col_type.ColType.{ColType}
 use Rattle.query_tests.specs.Sample.{IsSample}
@@ -22,6 +24,12 @@ pub formed : (old new : Tables) → EachTurns SameForm old.tables new.tables →
 formed old new forms sample =
     let size = forms.size in
     still_sample old new sample (omega arith, plain_formed old new forms sample.plain)
+
+-- rows of one are staged
+pub staged : (old new : Tables) (place : ℕ) → place < 2 → IsSample old → HasStaged place old new → IsSample new
+staged old new place within sample kept =
+    let there : place < length old.tables = subst (λ (n : ℕ). place < n) (sym sample.two) within in
+    still_sample old new sample (size_staged place old new there kept, plain_staged place old new there kept sample.plain)
 
 -- one has another index, whose columns are as they were
 pub indexed : (old new : Tables) (place : ℕ) (column : ℕ) (kind : IndexKind) → place < 2 → IsSample old

@@ -12,8 +12,6 @@ mod growths;
 #[cfg(test)]
 mod joins;
 #[cfg(test)]
-mod pair;
-#[cfg(test)]
 mod plan_runs;
 #[cfg(test)]
 mod result_lists;

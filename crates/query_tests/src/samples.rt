@@ -1,15 +1,12 @@
 //! Stores for tests.
-ghost use Rattle.std.specs.Prelude.{◌≡◌, ◌<◌, [], length, All, IfOk};
-ghost use Rattle.mm_partition.specs.Types.{HasTypes};
-ghost use Rattle.mm_store.specs.RowEdits.{new_rows, old_refs};
+ghost use Rattle.std.specs.Prelude.{◌≡◌, ◌<◌, length, IfOk};
 ghost use Rattle.query_tests.specs.Sample.{IsSample};
-ghost use Rattle.store_tests.specs.SampleStore.{plain_types};
 
-use crate::pair::pair;
 use mm_schema::{IndexKind, Reference};
-use mm_store::{Edit, Store};
-use mm_value::{ColType, Few, Refusal};
+use mm_store::Store;
+use mm_value::{ColType, Refusal};
 use std::alloc::{AllocError, Global};
+use store_tests::row_edits::insertions;
 
 /// The types of the two columns of each table.
 const TYPES: &[ColType] = &[ColType::Int, ColType::Int];
@@ -52,12 +49,9 @@ pub fn empty(alloc: Global) -> Result<Store, AllocError>
     }
 }
 
-/// The additions of rows of the keys from 1 to `count` with these values.
-fn additions(alloc: Global, count: u32, values: Values) -> Result<Few<Edit>, AllocError>
-    ensures none { IfOk result (λ edits. old_refs edits ≡ []) }
-    ensures typed { IfOk result (λ edits. All (HasTypes plain_types) (new_rows edits)) }
-{
-    let mut edits = Few::with_capacity(alloc, count as usize)?;
+/// The rows of the keys from 1 to `count` with these values.
+fn rows_of(alloc: Global, count: u32, values: Values) -> Result<Vec<(i64, i64)>, AllocError> {
+    let mut rows = Vec::with_capacity(alloc, count as usize)?;
     for earlier in 0..count {
         let key = i64::from(earlier) + 1;
         let value = match values {
@@ -65,10 +59,24 @@ fn additions(alloc: Global, count: u32, values: Values) -> Result<Few<Edit>, All
             Values::Falling => i64::from(count - earlier),
             Values::Ones => 1,
         };
-        let tuple = pair(alloc, key, value)?;
-        edits.push(alloc, Edit::Add(tuple))?;
+        rows.push((key, value))?;
     }
-    Ok(edits)
+    Ok(rows)
+}
+
+/// Inserts rows of a key and a value in a table. Some of them may stay staged if that is refused.
+fn insert(
+    store: &mut Store,
+    alloc: Global,
+    table: usize,
+    rows: &[(i64, i64)],
+) -> Result<(), Refusal>
+    requires there { table < 2 }
+    requires sample { IsSample store.old }
+    ensures { IsSample store.new }
+{
+    let edits = insertions(store, alloc, table, rows)?;
+    store.make(alloc, table, edits.as_slice())
 }
 
 /// Adds rows of the keys from 1 to `count` with these values to a table, and then an index of this kind on the values.
@@ -84,8 +92,8 @@ fn fill(
     requires sample { IsSample store.old }
     ensures { IsSample store.new }
 {
-    let edits = additions(alloc, count, values)?;
-    store.apply(alloc, table, edits)?;
+    let rows = rows_of(alloc, count, values)?;
+    insert(store, alloc, table, rows.as_slice())?;
     store.add_index(alloc, table, 1, kind)?;
     Ok(())
 }

@@ -1,2 +1,2 @@
 pub mod PlainStores
-pub mod SampleEdits
+pub mod StagedRows

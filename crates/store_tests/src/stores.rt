@@ -3,18 +3,20 @@ ghost use Rattle.std.specs.Prelude.{◌≡◌, ℕ, ◌<◌, ◌≤◌, [], ◌�
 ghost use Rattle.mm_base.specs.Columns.{IsFrom};
 ghost use Rattle.mm_indexed.specs.Kept.{StoredRows};
 ghost use Rattle.mm_store.specs.Marks.{IsMark, mark_of};
-ghost use Rattle.mm_store.specs.RowEdits.{new_rows, old_refs};
-ghost use Rattle.mm_store.specs.Tables.{AreFit, IsAt};
+ghost use Rattle.mm_store.specs.Staging.{HasStaged};
+ghost use Rattle.mm_store.specs.Tables.{IsAt};
 ghost use Rattle.mm_partition.specs.Places.{IsLive};
-ghost use Rattle.mm_partition.specs.Types.{HasTypes};
 ghost use Rattle.mm_schema.specs.declared.reference.Reference.{Reference as Link};
-ghost use Rattle.store_tests.specs.SampleStore.{ArePlain, plain_types};
+ghost use Rattle.store_tests.specs.RowEdits.{AreReadyAt};
+ghost use Rattle.store_tests.specs.SampleStore.{ArePlain};
 
 use crate::assertions::{assert_same, assert_that};
+use crate::row_edits::{insertions, replacement};
 use mm_partition::RowView;
 use mm_schema::{IndexKind, Reference};
-use mm_store::{Edit, IndexRef, Store};
-use mm_value::{ColType, Few, Refusal, Row, RowRef, Tuple, Value, ValueRef};
+use mm_store::{IndexRef, Store};
+use mm_tables::Edit;
+use mm_value::{ColType, Refusal, RowRef, ValueRef};
 use std::alloc::{AllocError, Global};
 use std::marker::Model;
 use std::process::Abort;
@@ -89,44 +91,13 @@ fn sample_again(alloc: Global, references: &[Reference]) -> Result<Store, AllocE
     }
 }
 
-/// The tuple of a key and its last decimal digit.
-fn tuple_of(alloc: Global, key: i64) -> Result<Tuple, AllocError>
-    ensures { IfOk result (HasTypes plain_types) }
-{
-    Tuple::copy_of(alloc, &[Value::Int(key), Value::Int(key % 10)])
-}
-
-/// The row of a key and a value.
-fn row_of(alloc: Global, key: i64, value: i64) -> Result<Row, AllocError>
-    ensures { IfOk result (HasTypes plain_types) }
-{
-    let values = vec![in alloc; Value::Int(key), Value::Int(value)]?;
-    Ok(Row::new(values))
-}
-
-/// The addition of a row for each key.
-fn additions(alloc: Global, keys: &[i64]) -> Result<Few<Edit>, AllocError>
-    ensures none { IfOk result (λ edits. old_refs edits ≡ []) }
-    ensures typed { IfOk result (λ edits. All (HasTypes plain_types) (new_rows edits)) }
-{
-    let mut edits = Few::with_capacity(alloc, keys.len())?;
+/// The rows of keys, each with its last decimal digit as its value.
+fn rows_of(alloc: Global, keys: &[i64]) -> Result<Vec<(i64, i64)>, AllocError> {
+    let mut rows = Vec::with_capacity(alloc, keys.len())?;
     for key in keys {
-        edits.push(alloc, Edit::Add(tuple_of(alloc, *key)?))?;
+        rows.push((*key, *key % 10))?;
     }
-    Ok(edits)
-}
-
-/// Makes the edits of a table.
-fn apply(store: &mut Store, alloc: Global, table: usize, edits: Few<Edit>) -> Result<(), Refusal>
-    requires there { table < length store.old.tables }
-    requires plain { ArePlain store.old }
-    requires fit { (stored : StoredRows) → IsAt store.old table stored → AreFit stored edits }
-    ensures count { length store.new.tables ≡ length store.old.tables }
-    ensures plain { ArePlain store.new }
-    ensures links { store.new.links ≡ store.old.links }
-    ensures marks { (mark : ℕ) → IsMark store.old mark → IsMark store.new mark }
-{
-    store.apply(alloc, table, edits)
+    Ok(rows)
 }
 
 /// The whole number that a row has in a column, if it has one there.
@@ -176,17 +147,39 @@ pub enum Step<'a> {
 /// A step in a table, and whether it is made.
 type Trial<'a> = (usize, Step<'a>, bool);
 
-/// The edits by which the rows of two keys exchange them, none where there are no two such rows.
+/// Stages a row of a key and a value, and returns the edits by which it replaces the row of the key, none where there is no such row.
+fn turn(
+    store: &mut Store,
+    alloc: Global,
+    table: usize,
+    key: i64,
+    value: i64,
+) -> Result<Option<Vec<Edit>>, AllocError>
+    requires there { table < length store.old.tables }
+    requires plain { ArePlain store.old }
+    ensures staged { HasStaged table store.old store.new }
+    ensures ready { IfOk result (λ found. IfSome found (λ edits. AreReadyAt store.new table edits.items)) }
+{
+    let Some(at) = at_key(store, table, key) else {
+        return Ok(None);
+    };
+    store.reserve_rows(alloc, table, 1)?;
+    let edit = replacement(store, table, at, key, value);
+    Ok(Some(vec![in alloc; edit]?))
+}
+
+/// Stages rows, and returns the edits by which the rows of two keys exchange them, none where there are no two such rows.
 fn exchange(
-    store: &Store,
+    store: &mut Store,
     alloc: Global,
     table: usize,
     one: i64,
     other: i64,
-) -> Result<Option<Few<Edit>>, AllocError>
-    requires there { table < length store.now.tables }
-    requires plain { ArePlain store.now }
-    ensures { IfOk result (λ found. IfSome found (λ edits. (stored : StoredRows) → IsAt store.now table stored → AreFit stored edits)) }
+) -> Result<Option<Vec<Edit>>, AllocError>
+    requires there { table < length store.old.tables }
+    requires plain { ArePlain store.old }
+    ensures staged { HasStaged table store.old store.new }
+    ensures ready { IfOk result (λ found. IfSome found (λ edits. AreReadyAt store.new table edits.items)) }
 {
     let (Some(first), Some(second)) = (at_key(store, table, one), at_key(store, table, other))
     else {
@@ -195,42 +188,77 @@ fn exchange(
     if first == second {
         return Ok(None);
     }
-    let of_first = row_of(alloc, other, value_at(store, table, one).unwrap_or(0))?;
-    let of_second = row_of(alloc, one, value_at(store, table, other).unwrap_or(0))?;
-    let edits = vec![in alloc; Edit::Swap(first, of_first), Edit::Swap(second, of_second)]?;
-    Ok(Some(Few::from_vec(edits)))
+    let of_one = value_at(store, table, one).unwrap_or(0);
+    let of_other = value_at(store, table, other).unwrap_or(0);
+    store.reserve_rows(alloc, table, 2)?;
+    let of_first = replacement(store, table, first, other, of_one);
+    let of_second = replacement(store, table, second, one, of_other);
+    Ok(Some(vec![in alloc; of_first, of_second]?))
 }
 
-/// The edits of a step in a table, none where there is no row of the key.
+/// Stages the rows of a step in a table, and returns its edits, none where there is no row of the key.
 fn edits_of(
-    store: &Store,
+    store: &mut Store,
     alloc: Global,
     table: usize,
     step: Step,
-) -> Result<Option<Few<Edit>>, AllocError>
-    requires there { table < length store.now.tables }
-    requires plain { ArePlain store.now }
-    ensures { IfOk result (λ found. IfSome found (λ edits. (stored : StoredRows) → IsAt store.now table stored → AreFit stored edits)) }
+) -> Result<Option<Vec<Edit>>, AllocError>
+    requires there { table < length store.old.tables }
+    requires plain { ArePlain store.old }
+    ensures staged { HasStaged table store.old store.new }
+    ensures ready { IfOk result (λ found. IfSome found (λ edits. AreReadyAt store.new table edits.items)) }
 {
     match step {
         Step::Put(keys) => {
-            let edits = additions(alloc, keys)?;
+            let rows = rows_of(alloc, keys)?;
+            let edits = insertions(store, alloc, table, rows.as_slice())?;
             Ok(Some(edits))
         }
-        Step::Turn(key, value) => {
-            let Some(at) = at_key(store, table, key) else {
-                return Ok(None);
-            };
-            let row = row_of(alloc, key, value)?;
-            Ok(Some(Few::one(Edit::Swap(at, row))))
-        }
+        Step::Turn(key, value) => turn(store, alloc, table, key, value),
         Step::Remove(key) => {
             let Some(at) = at_key(store, table, key) else {
                 return Ok(None);
             };
-            Ok(Some(Few::one(Edit::Gone(at))))
+            Ok(Some(vec![in alloc; Edit::Delete(at)]?))
         }
         Step::Exchange(one, other) => exchange(store, alloc, table, one, other),
+    }
+}
+
+/// Stages the rows of a step in a table and makes its edits, and says that it did, unless there is no row of the key. If the step is
+/// refused, some of the rows may stay staged.
+fn make_edits(store: &mut Store, alloc: Global, table: usize, step: Step) -> Result<bool, Refusal>
+    requires there { table < length store.old.tables }
+    requires plain { ArePlain store.old }
+    ensures count { length store.new.tables ≡ length store.old.tables }
+    ensures plain { ArePlain store.new }
+    ensures links { store.new.links ≡ store.old.links }
+    ensures marks { (mark : ℕ) → IsMark store.old mark → IsMark store.new mark }
+{
+    let Some(edits) = edits_of(store, alloc, table, step)? else {
+        return Ok(false);
+    };
+    store.make(alloc, table, edits.as_slice())?;
+    Ok(true)
+}
+
+/// Makes a step in a table, and says that it did, unless there is no row of the key. If the step is refused, what was staged for it is
+/// undone.
+fn apply(store: &mut Store, alloc: Global, table: usize, step: Step) -> Result<bool, Refusal>
+    requires there { table < length store.old.tables }
+    requires plain { ArePlain store.old }
+    ensures count { length store.new.tables ≡ length store.old.tables }
+    ensures plain { ArePlain store.new }
+    ensures links { store.new.links ≡ store.old.links }
+    ensures marks { (mark : ℕ) → IsMark store.old mark → IsMark store.new mark }
+{
+    let mark = store.mark();
+    match make_edits(store, alloc, table, step) {
+        Err(refusal) => {
+            store.revert(mark);
+            Err(refusal)
+        }
+        done => done,
     }
 }
 
@@ -243,11 +271,8 @@ fn try_step(store: &mut Store, alloc: Global, table: usize, step: Step) -> Resul
     ensures links { store.new.links ≡ store.old.links }
     ensures marks { (mark : ℕ) → IsMark store.old mark → IsMark store.new mark }
 {
-    let Some(edits) = edits_of(store, alloc, table, step)? else {
-        return Ok(false);
-    };
-    match apply(store, alloc, table, edits) {
-        Ok(()) => Ok(true),
+    match apply(store, alloc, table, step) {
+        Ok(made) => Ok(made),
         Err(Refusal::Memory) => Err(AllocError),
         Err(_) => Ok(false),
     }
@@ -549,13 +574,10 @@ impl Case {
         make_step(&mut self.store, alloc, table, step)
     }
 
-    /// Makes a step of the second table by one call. `None` if there is no row of the key, or if an allocation in front of the call
-    /// fails.
-    pub fn apply(&mut self, alloc: Global, step: Step) -> Option<Result<(), Refusal>> {
-        let Ok(Some(edits)) = edits_of(&self.store, alloc, 1, step) else {
-            return None;
-        };
-        Some(apply(&mut self.store, alloc, 1, edits))
+    /// Makes a step of the second table, and says that it did, unless there is no row of the key. If the step is refused, what was staged
+    /// for it is undone.
+    pub fn apply(&mut self, alloc: Global, step: Step) -> Result<bool, Refusal> {
+        apply(&mut self.store, alloc, 1, step)
     }
 
     /// Tries steps one after the other, each in a table, and says whether just those were made that are told to be.

@@ -1,27 +1,21 @@
 //! Changes of a store: of its tables, their indexes and their rows.
-ghost use Rattle.std.specs.Prelude.{◌≡◌, ◌≢◌, List, ℕ, ◌<◌, ◌≤◌, ◌^◌, ◌++◌, [], ◌∷◌, length, map, All, OnOk, OnErr, if◌then◌else◌, Some, None, Bool};
+ghost use Rattle.std.specs.Prelude.{◌≡◌, ◌≢◌, ℕ, ◌<◌, ◌≤◌, ◌^◌, ◌++◌, [], ◌∷◌, length, map, All, OnOk, OnErr};
 ghost use Rattle.std.specs.List.{remove};
 ghost use Rattle.mm_base.specs.Bases.{references_without, rows_now};
 ghost use Rattle.mm_base.specs.Columns.{IsFrom};
 ghost use Rattle.mm_indexed.specs.Index.{AddsIndex, EachTurns};
 ghost use Rattle.mm_indexed.specs.Kept.{StoredRows};
 ghost use Rattle.mm_indexed.specs.RowLists.{rows_of};
-ghost use Rattle.mm_schema.specs.Refused.{AnswersDue, first_refusal};
-ghost use Rattle.mm_schema.specs.Rows.{table_rows_conditions};
 ghost use Rattle.mm_store.specs.Marks.{IsMark, KeepsMarks, mark_of, rows_at_mark};
-ghost use Rattle.mm_store.specs.RowEdits.{new_rows};
 ghost use Rattle.mm_store.specs.Spares.{HasFewSparesAt};
-ghost use Rattle.mm_store.specs.Tables.{AreFit, HasRows, IsAt, KeepsRows, SameForm, Turns, edit_conditions, has_orphans, rows_with, tables_of};
-ghost use Rattle.mm_store.specs.declared.edit.Edit.{Edit as EditOf};
+ghost use Rattle.mm_store.specs.Tables.{IsAt, SameForm, Turns, tables_of};
 ghost use Rattle.mm_schema.specs.declared.reference.Reference.{Reference as Ref};
 ghost use Rattle.mm_tables.specs.declared.log_record.LogRecord.{LogRecord};
-ghost use Rattle.mm_value.specs.declared.refusal.Refusal.TheVariants.{RowIsReferenced};
 
-use super::{Store, apply};
-use crate::edit::Edit;
+use super::Store;
 use mm_base::BaseTables;
 use mm_schema::{IndexKind, Reference};
-use mm_value::{ColType, Few, Refusal};
+use mm_value::ColType;
 use std::alloc::{AllocError, Global};
 
 impl Store {
@@ -96,30 +90,6 @@ impl Store {
         self.base.drop_index(table, index);
     }
 
-    /// Makes the edits of a table. Fails with the first refusal that is due: `DuplicateKey` if two rows would have one key, `NoTargetRow`
-    /// if a row would refer to none, `RowIsReferenced` if a row to which a row of another table refers would be deleted or get another key,
-    /// or `TableFull` if there would be more than 1,048,576 rows; or with `Memory` in the place of any of these and of success. Then all rows
-    /// are as before, and so is the log.
-    pub fn apply(&mut self, alloc: Global, table: usize, edits: Few<Edit>) -> Result<(), Refusal>
-        requires there { table < length self.old.tables }
-        requires fit { (stored : StoredRows) → IsAt self.old table stored → AreFit stored edits }
-        ensures due { (stored : StoredRows) → IsAt self.old table stored
-            → AnswersDue (first_refusal (edit_conditions self.old table stored edits)) result }
-        ensures ok { OnOk result ((stored : StoredRows) → IsAt self.old table stored
-            → (new : StoredRows) × Turns self.old table new self.new × HasRows stored (rows_with stored edits) new) }
-        ensures form { EachTurns SameForm self.old.tables self.new.tables }
-        ensures err { OnErr result (KeepsRows self.old self.new) }
-        ensures links { self.new.links ≡ self.old.links }
-        ensures longer { mark_of self.old ≤ mark_of self.new }
-        ensures kept { OnErr result (self.new.stored.log ≡ self.old.stored.log) }
-        ensures marks { (mark : ℕ) → mark ≤ mark_of self.old → KeepsMarks self.old self.new mark }
-    {
-        rows_are_listed(&self.base);
-        let result = apply::apply(&mut self.base, alloc, table, edits);
-        rows_are_listed(&self.base);
-        result
-    }
-
     /// Undoes all edits that the log has beyond a mark, the newest first. Allocates nothing and cannot fail.
     pub fn revert(&mut self, mark: usize)
         requires mark { IsMark self.old mark }
@@ -146,23 +116,10 @@ impl Store {
         self.base.settle();
         rows_are_listed(&self.base);
     }
-
-    /// Lemma: deletions are refused only if a row of another table refers to a deleted row. The call does nothing.
-    pub fn removals_may_be_made(&self, table: usize)
-        requires { table < length self.now.tables }
-        ensures { (stored : StoredRows) → IsAt self.now table stored → (edits : List EditOf) → AreFit stored edits → new_rows edits ≡ []
-            → (some_is_referred : Bool)
-            → first_refusal (table_rows_conditions stored.key (rows_with stored edits) (has_orphans self.now table (rows_with stored edits)) some_is_referred)
-            ≡ (if some_is_referred then Some RowIsReferenced else None) }
-    {
-        rows_are_listed(&self.base);
-        self.base.deletions_are_made(table);
-        self.base.targets_stay(table);
-    }
 }
 
 /// Lemma: the rows of each table are those of its slots, in the order of its key. The call goes over the tables and does nothing else.
-fn rows_are_listed(base: &BaseTables)
+pub(super) fn rows_are_listed(base: &BaseTables)
     ensures { map rows_of (tables_of base.now).tables ≡ rows_now base.now.stored }
 {
     base.are_lawful();

@@ -1,7 +1,14 @@
-use Rattle.store_tests.proofs.PlainStores.{turns_plain}
+use Rattle.mm_store.proofs.Staging.{HasStaged-none}
 use Rattle.store_tests.proofs.stores.edits_of.Goals as goal
 
-pub returns-in_ok-row-in-Turn : goal.returns-in_ok-row-in-Turn
-returns-in_ok-row-in-Turn c =
-    turns_plain c.args.store.now c.args.table c.requires.plain c.in-Some.at c.in_ok-row-in-Turn.row c.in-Some.ensures
-    c.in_ok-row-in-Turn.ensures c.one.result c.one.ensures
+pub returns-in_err-rows-in-Put-clause-staged : goal.returns-in_err-rows-in-Put-clause-staged
+returns-in_err-rows-in-Put-clause-staged c = HasStaged-none c.args.table c.args.store.now
+
+pub returns-in_default-clause-staged : goal.returns-in_default-clause-staged
+returns-in_default-clause-staged c = HasStaged-none c.args.table c.args.store.now
+
+pub returns-in_err-vec-in-Remove-clause-staged : goal.returns-in_err-vec-in-Remove-clause-staged
+returns-in_err-vec-in-Remove-clause-staged c = HasStaged-none c.args.table c.args.store.now
+
+pub returns-in_ok-vec-in-Remove-clause-staged : goal.returns-in_ok-vec-in-Remove-clause-staged
+returns-in_ok-vec-in-Remove-clause-staged c = HasStaged-none c.args.table c.args.store.now
