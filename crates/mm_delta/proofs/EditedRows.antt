@@ -6,27 +6,28 @@ use Rattle.std.proofs.lemmas.List.{get_or-map, length-map}
 use Rattle.std.proofs.lemmas.List.Elements.{All-map}
 use Rattle.std.proofs.lemmas.List.Sums.{get_or-le-sum_by}
 use Rattle.mm_partition.specs.Places.{slot_at}
-use Rattle.mm_store.specs.RowEdits.{old_refs}
+use Rattle.mm_store.specs.Edits.{rows_after}
 use Rattle.mm_indexed.specs.Kept.{StoredRows}
 use Rattle.mm_row_order.specs.Refs.{row_at}
 use Rattle.mm_indexed.specs.RowLists.{rows_of}
 use Rattle.mm_store.proofs.Shown.{table_seen}
 use Rattle.mm_store.specs.Joined.{IsTable}
 use Rattle.mm_store.specs.Seen.{Seen}
-use Rattle.mm_store.specs.Tables.{IsAt, Tables, rows_with}
+use Rattle.mm_store.specs.Tables.{IsAt, Tables}
 use Rattle.mm_value.specs.declared.row_ref.RowRef.{RowRef}
 use Rattle.mm_value.specs.Equality.{same_row}
 use Rattle.mm_value.specs.EqualityLaws.{same_row_equiv}
 use Rattle.mm_value.proofs.SameRows.{rows_exact}
 use Rattle.mm_multiset.specs.Counts.{count_of}
-use Rattle.mm_delta.specs.Edited.{after_at, before_at, come_at, edits_at, gone_at}
+use Rattle.mm_delta.specs.Edited.{after_at, before_at, come_at, edits_at, gone_at, old_slots}
 use Rattle.mm_delta.specs.Skipping.{IsRowOf}
 use Rattle.mm_delta.specs.Steps.{EachFit}
 use Rattle.mm_delta.specs.declared.edited.TableChange.{TableChange}
 use Rattle.mm_delta.proofs.Found.{Row, Rows}
 use Rattle.mm_delta.proofs.Goes.{after_edits}
 use Rattle.mm_delta.proofs.Reordering.{place_of}
-use Rattle.mm_delta.proofs.Terms.{gone_is}
+use Rattle.mm_delta.proofs.OldSlots.{old_live}
+use Rattle.mm_delta.proofs.Terms.{come_is, gone_is}
 
 -- A row of a list is counted there ..
 counted_there : (rows : Rows) (i : ℕ) (d : Row) → i < length rows → 1 ≤ count_of (get_or rows i d) rows
@@ -55,23 +56,25 @@ module _ (seen : Seen) (changes : List TableChange) (table : ℕ) (stored : Stor
     pub gone_are_rows : All (IsRowOf store changes table) (gone_at store changes table)
     gone_are_rows =
         subst (All (IsRowOf store changes table)) (sym (gone_is store changes table stored at))
-        (All-map (IsRowOf store changes table) (row_at (slot_at stored.places)) (old_refs (edits_at changes table))
+        (All-map (IsRowOf store changes table) (row_at (slot_at stored.places)) (old_slots (edits_at changes table))
         (λ k d within.
-        let gone : RowRef = get_or (old_refs (edits_at changes table)) k d in
+        let gone : RowRef = get_or (old_slots (edits_at changes table)) k d in
         let before_is : before_at store table ≡ rows_of stored = ap (λ o. option_map_or rows_of o []) at in
         inl (subst (λ l. Contains l (row_at (slot_at stored.places) gone)) (sym before_is)
-        (mapped_there (row_at (slot_at stored.places)) stored.refs gone ((is_table.kept.held gone).1 ((fit table stored at).standing.live k d within))))))
+        (mapped_there (row_at (slot_at stored.places)) stored.refs gone ((is_table.kept.held gone).1
+        (old_live stored.key (slot_at stored.places) (edits_at changes table) (fit table stored at).fits k d within))))))
 
     -- A row that comes is one after it.
-    pub come_are_rows : All (IsRowOf store changes table) (come_at changes table)
+    pub come_are_rows : All (IsRowOf store changes table) (come_at store changes table)
     come_are_rows k d within =
-        let row : Row = get_or (come_at changes table) k d in
-        let after_is : after_at store changes table ≡ rows_with stored (edits_at changes table) =
-        ap (λ o. option_map_or (λ (s : StoredRows). rows_with s (edits_at changes table)) o []) at in
+        let row : Row = get_or (come_at store changes table) k d in
+        let after_is : after_at store changes table ≡ rows_after stored (edits_at changes table) =
+        ap (λ o. option_map_or (λ (s : StoredRows). rows_after s (edits_at changes table)) o []) at in
         inr (stands_where_counted (after_at store changes table) row
         (omega (
           arith,
           ap (count_of row) after_is,
           after_edits stored is_table (edits_at changes table) (fit table stored at) (λ r. cond (same_row row r) 1 0),
-          counted_there (come_at changes table) k d within,
+          ap (count_of row) (come_is store changes table stored at),
+          counted_there (come_at store changes table) k d within,
         )))

@@ -1,7 +1,7 @@
 -- The rows that stay and those that come are the rows after the edits.
 use Rattle.std.proofs.Common.{◌≡◌, ◌≢◌, ℕ, ◌+◌, Bool, true, false, not, cond, ◌||◌, List, [], ◌∷◌, ◌++◌, append-nil, get_or, map, inl, inr}
 use Rattle.std.proofs.Common.{refl, sym, ap, ap₂, ◌∙◌, subst, arith}
-use Rattle.std.specs.List.{All, AllPairs, Contains, filter, filter_map, list_any, sum_by}
+use Rattle.std.specs.List.{All, AllPairs, Contains, filter, list_any, sum_by}
 use Rattle.std.specs.List.Sorted.{IsPermutation}
 use Rattle.std.specs.Ordering.{is_eq}
 use Rattle.std.proofs.lemmas.Bool.{cases_Bool, false≢true}
@@ -25,16 +25,16 @@ use Rattle.mm_schema.proofs.Duplicates.{column_cmp_total}
 use Rattle.mm_schema.proofs.InOrder.{IsPermutation-in_order}
 use Rattle.mm_schema.proofs.Orderings.{equal_from_is_eq}
 use Rattle.mm_schema.specs.Rows.{Pair, changed, column_cmp, goes, same_in_column, unsorted}
-use Rattle.mm_store.proofs.RowLists.{come}
 use Rattle.mm_store.specs.Joined.{IsTable}
-use Rattle.mm_store.specs.RowEdits.{edit_pairs, new_rows, old_refs}
-use Rattle.mm_store.specs.Tables.{AreFit, rows_with}
-use Rattle.mm_store.specs.declared.edit.Edit.{Edit}
-use Rattle.mm_store.specs.declared.edit.Edit.TheVariants.{Add, Swap, Gone}
+use Rattle.mm_store.specs.Edits.{AreReady, pairs_of, rows_after, rows_come}
 use Rattle.mm_tables.specs.Edits.{same_ref}
+use Rattle.mm_tables.specs.declared.edit.Edit.{Edit}
+use Rattle.mm_tables.specs.declared.edit.Edit.TheVariants.{Delete, Insert, Move, Stage, Update}
 use Rattle.mm_value.specs.declared.row_ref.RowRef.{RowRef}
 use Rattle.mm_value.specs.declared.values.Value.{Value}
+use Rattle.mm_delta.specs.Edited.{old_slots}
 use Rattle.mm_delta.specs.Steps.{stays, takes}
+use Rattle.mm_delta.proofs.OldSlots.{old_apart, old_live}
 use Rattle.mm_delta.proofs.Product.{filter-map}
 use Rattle.mm_delta.proofs.Sums.{Balance, sum_by-map}
 
@@ -54,11 +54,13 @@ changed_moved key (p ∷ ps) rows = IsPermutation-in_order (column_cmp key) (uns
 
 -- ---- the references that edits take
 
-takes_named : (edits : List Edit) (at : RowRef) → list_any (takes at) edits ≡ list_any (λ (r : RowRef). same_ref r at) (old_refs edits)
+takes_named : (edits : List Edit) (at : RowRef) → list_any (takes at) edits ≡ list_any (λ (r : RowRef). same_ref r at) (old_slots edits)
 takes_named [] at = refl
-takes_named (Add row ∷ edits) at = takes_named edits at
-takes_named (Swap r row ∷ edits) at = ap (λ b. same_ref r at || b) (takes_named edits at)
-takes_named (Gone r ∷ edits) at = ap (λ b. same_ref r at || b) (takes_named edits at)
+takes_named (Stage r ∷ edits) at = takes_named edits at
+takes_named (Insert r ∷ edits) at = takes_named edits at
+takes_named (Update r other ∷ edits) at = ap (λ b. same_ref r at || b) (takes_named edits at)
+takes_named (Move r other ∷ edits) at = ap (λ b. same_ref r at || b) (takes_named edits at)
+takes_named (Delete r ∷ edits) at = ap (λ b. same_ref r at || b) (takes_named edits at)
 
 module _ (stored : StoredRows) (is_table : IsTable stored) where
   abbrev now : Slots
@@ -82,86 +84,91 @@ module _ (stored : StoredRows) (is_table : IsTable stored) where
       ]
 
   -- So it goes where an edit takes it.
-  goes_taken : (at : RowRef) → HasRow now at → (edits : List Edit) → All (HasRow now) (old_refs edits)
-      → list_any (λ (p : Pair). goes stored.key (row_at now at) p.0) (edit_pairs now edits) ≡ list_any (takes at) edits
+  goes_taken : (at : RowRef) → HasRow now at → (edits : List Edit) → All (HasRow now) (old_slots edits)
+      → list_any (λ (p : Pair). goes stored.key (row_at now at) p.0) (pairs_of now edits) ≡ list_any (takes at) edits
   goes_taken at live [] all = refl
-  goes_taken at live (Add row ∷ edits) all = goes_taken at live edits all
-  goes_taken at live (Swap r row ∷ edits) all =
-      ap₂ (λ a b. a || b) (same_test at r live (All-head (HasRow now) r (old_refs edits) all))
-      (goes_taken at live edits (All-tail (HasRow now) r (old_refs edits) all))
-  goes_taken at live (Gone r ∷ edits) all =
-      ap₂ (λ a b. a || b) (same_test at r live (All-head (HasRow now) r (old_refs edits) all))
-      (goes_taken at live edits (All-tail (HasRow now) r (old_refs edits) all))
+  goes_taken at live (Stage r ∷ edits) all = goes_taken at live edits all
+  goes_taken at live (Insert r ∷ edits) all = goes_taken at live edits all
+  goes_taken at live (Update r other ∷ edits) all =
+      ap₂ (λ a b. a || b) (same_test at r live (All-head (HasRow now) r (old_slots edits) all))
+      (goes_taken at live edits (All-tail (HasRow now) r (old_slots edits) all))
+  goes_taken at live (Move r other ∷ edits) all =
+      ap₂ (λ a b. a || b) (same_test at r live (All-head (HasRow now) r (old_slots edits) all))
+      (goes_taken at live edits (All-tail (HasRow now) r (old_slots edits) all))
+  goes_taken at live (Delete r ∷ edits) all =
+      ap₂ (λ a b. a || b) (same_test at r live (All-head (HasRow now) r (old_slots edits) all))
+      (goes_taken at live edits (All-tail (HasRow now) r (old_slots edits) all))
 
-  module _ (edits : List Edit) (fit : AreFit stored edits) where
+  module _ (edits : List Edit) (fit : AreReady stored edits) where
     abbrev kept : List RowRef
     kept = filter (stays edits) stored.refs
 
     -- Before they are sorted, the rows after the edits are those that stay and those that come.
-    unsorted_is : unsorted stored.key (edit_pairs now edits) (rows_of stored) ≡ map (row_at now) kept ++ new_rows edits
+    unsorted_is : unsorted stored.key (pairs_of now edits) (rows_of stored) ≡ map (row_at now) kept ++ rows_come now edits
     unsorted_is =
-        let stays_in : List Value → Bool = λ row. not (list_any (λ (p : Pair). goes stored.key row p.0) (edit_pairs now edits)) in
+        let stays_in : List Value → Bool = λ row. not (list_any (λ (p : Pair). goes stored.key row p.0) (pairs_of now edits)) in
         ap₂ (λ (xs ys : List (List Value)). xs ++ ys)
         (filter-map stays_in (row_at now) stored.refs
         ∙ ap (map (row_at now)) (filter_same (λ at. stays_in (row_at now at)) (stays edits) stored.refs
         (λ k d within.
         let at : RowRef = get_or stored.refs k d in
-        ap not (goes_taken at ((is_table.kept.held at).0 (Contains-get_or stored.refs k d within)) edits fit.standing.live))))
-        (come now edits)
+        ap not (goes_taken at ((is_table.kept.held at).0 (Contains-get_or stored.refs k d within)) edits (old_live stored.key now edits fit.fits)))))
+        refl
 
     -- The rows after the edits are those that come and those that stay.
-    pub after_edits : (f : List Value → ℕ) → sum_by f (rows_with stored edits) ≡ sum_by f (map (row_at now) kept) + sum_by f (new_rows edits)
+    pub after_edits : (f : List Value → ℕ) → sum_by f (rows_after stored edits) ≡ sum_by f (map (row_at now) kept) + sum_by f (rows_come now edits)
     after_edits f =
-        sum_by-IsPermutation f (unsorted stored.key (edit_pairs now edits) (rows_of stored)) (rows_with stored edits)
-        (changed_moved stored.key (edit_pairs now edits) (rows_of stored))
+        sum_by-IsPermutation f (unsorted stored.key (pairs_of now edits) (rows_of stored)) (rows_after stored edits)
+        (changed_moved stored.key (pairs_of now edits) (rows_of stored))
         ∙ ap (sum_by f) unsorted_is
-        ∙ sum_by-append f (map (row_at now) kept) (new_rows edits)
+        ∙ sum_by-append f (map (row_at now) kept) (rows_come now edits)
 
-    gone_taken : (at : RowRef) → Contains (old_refs edits) at → stays edits at ≡ false
+    gone_taken : (at : RowRef) → Contains (old_slots edits) at → stays edits at ≡ false
     gone_taken at (k, within, is) =
         ap not (takes_named edits at
-        ∙ list_any_at (λ (r : RowRef). same_ref r at) (old_refs edits) k at within (test_from_same (get_or (old_refs edits) k at) at is))
+        ∙ list_any_at (λ (r : RowRef). same_ref r at) (old_slots edits) k at within (test_from_same (get_or (old_slots edits) k at) at is))
 
-    stay_apart : (at : RowRef) → Contains (old_refs edits) at → Contains kept at → ⊥
+    stay_apart : (at : RowRef) → Contains (old_slots edits) at → Contains kept at → ⊥
     stay_apart at goes here = false≢true (sym (gone_taken at goes) ∙ (out_of_filter (stays edits) stored.refs at here).1)
 
     -- A reference that no edit takes stays.
-    cases : (at : RowRef) → Contains stored.refs at → Contains (old_refs edits ++ kept) at
+    cases : (at : RowRef) → Contains stored.refs at → Contains (old_slots edits ++ kept) at
     cases at here =
-        elim (cases_Bool (list_any (λ (r : RowRef). same_ref r at) (old_refs edits))) [
+        elim (cases_Bool (list_any (λ (r : RowRef). same_ref r at) (old_slots edits))) [
           | inl met ↦
-              let found = Any-from_list_any (λ (r : RowRef). same_ref r at) (old_refs edits) met in
-              Contains-append_left (old_refs edits) kept at
-              (subst (Contains (old_refs edits)) (same_from_test found.1 at found.4) (found.0, found.2, found.3))
-          | inr unmet ↦ Contains-append_right (old_refs edits) kept at
+              let found = Any-from_list_any (λ (r : RowRef). same_ref r at) (old_slots edits) met in
+              Contains-append_left (old_slots edits) kept at
+              (subst (Contains (old_slots edits)) (same_from_test found.1 at found.4) (found.0, found.2, found.3))
+          | inr unmet ↦ Contains-append_right (old_slots edits) kept at
               (in_filter (stays edits) stored.refs at here (ap not (takes_named edits at ∙ unmet)))
         ]
 
     -- The references of the rows that go and of those that stay are those of all rows.
-    same : IsPermutation stored.refs (old_refs edits ++ kept)
+    same : IsPermutation stored.refs (old_slots edits ++ kept)
     same =
         let all : AllPairs (λ a b. a ≢ b) stored.refs = distinct stored.key now stored.refs is_table.kept.by_key in
-        IsPermutation-same stored.refs (old_refs edits ++ kept) all
-        (AllPairs-append (λ (a b : RowRef). a ≢ b) (old_refs edits) kept fit.standing.apart (AllPairs-filter (λ a b. a ≢ b) (stays edits) stored.refs all)
+        IsPermutation-same stored.refs (old_slots edits ++ kept) all
+        (AllPairs-append (λ (a b : RowRef). a ≢ b) (old_slots edits) kept (old_apart edits fit.apart)
+        (AllPairs-filter (λ a b. a ≢ b) (stays edits) stored.refs all)
         (λ i e below k d within is.
-        stay_apart (get_or (old_refs edits) i e) (Contains-get_or (old_refs edits) i e below)
+        stay_apart (get_or (old_slots edits) i e) (Contains-get_or (old_slots edits) i e below)
         (subst (Contains kept) (sym is) (Contains-get_or kept k d within))))
         cases
         (λ at here.
-        elim (Contains-append_cases (old_refs edits) kept at here) [
-          | inl goes ↦ (is_table.kept.held at).1 (All-contains (HasRow now) (old_refs edits) at fit.standing.live goes)
+        elim (Contains-append_cases (old_slots edits) kept at here) [
+          | inl goes ↦ (is_table.kept.held at).1 (All-contains (HasRow now) (old_slots edits) at (old_live stored.key now edits fit.fits) goes)
           | inr stays_there ↦ (out_of_filter (stays edits) stored.refs at stays_there).0
         ])
 
     -- The rows after the edits and those that go are in sum the rows before them and those that come.
-    pub edits_balance : Balance (rows_with stored edits) (map (row_at now) (old_refs edits)) (rows_of stored) (new_rows edits)
+    pub edits_balance : Balance (rows_after stored edits) (map (row_at now) (old_slots edits)) (rows_of stored) (rows_come now edits)
     edits_balance f =
         omega (
           arith,
           after_edits f,
           sum_by-map f (row_at now) kept,
-          sum_by-map f (row_at now) (old_refs edits),
+          sum_by-map f (row_at now) (old_slots edits),
           sum_by-map f (row_at now) stored.refs,
-          sum_by-IsPermutation (λ at. f (row_at now at)) stored.refs (old_refs edits ++ kept) same,
-          sum_by-append (λ at. f (row_at now at)) (old_refs edits) kept,
+          sum_by-IsPermutation (λ at. f (row_at now at)) stored.refs (old_slots edits ++ kept) same,
+          sum_by-append (λ at. f (row_at now at)) (old_slots edits) kept,
         )

@@ -7,6 +7,8 @@ pub mod Skip
 pub mod Product
 pub mod Seen
 pub mod Indexed
+pub mod ReadAhead
+pub mod OldSlots
 pub mod Goes
 pub mod Refs
 pub mod Terms

@@ -4,21 +4,21 @@ use Rattle.std.proofs.Common.{Some, None, refl, sym, ap, ◌∙◌, arith}
 use Rattle.std.specs.List.{cons_option, filter, filter_map, sum_by}
 use Rattle.std.specs.List.Sorted.{IsPermutation}
 use Rattle.std.specs.Option.{option_map_or}
-use Rattle.std.proofs.lemmas.List.{length-map, take_more}
-use Rattle.std.proofs.lemmas.List.Elements.{filter_map-append}
+use Rattle.std.proofs.lemmas.List.{length-map, map-append, take_more}
+use Rattle.std.proofs.lemmas.List.Elements.{filter-append, filter_map-append}
 use Rattle.std.proofs.lemmas.List.Sums.{sum_by-append}
 use Rattle.std.proofs.lemmas.List.Sorted.{length_permutation, sum_by-IsPermutation}
 use Rattle.mm_partition.specs.Places.{slot_at}
-use Rattle.mm_store.specs.RowEdits.{new_rows}
+use Rattle.mm_store.specs.Edits.{AreReady, rows_after, rows_come}
 use Rattle.mm_indexed.specs.Kept.{StoredRows}
 use Rattle.mm_row_order.specs.Refs.{Slots, row_at}
 use Rattle.mm_indexed.specs.RowLists.{rows_of}
-use Rattle.mm_store.specs.declared.edit.Edit.{Edit}
-use Rattle.mm_store.specs.declared.edit.Edit.TheVariants.{Add, Swap, Gone}
+use Rattle.mm_tables.specs.declared.edit.Edit.{Edit}
+use Rattle.mm_tables.specs.declared.edit.Edit.TheVariants.{Delete, Insert, Move, Stage, Update}
 use Rattle.mm_store.proofs.Shown.{table_seen}
 use Rattle.mm_store.specs.Joined.{IsTable}
 use Rattle.mm_store.specs.Seen.{Seen}
-use Rattle.mm_store.specs.Tables.{AreFit, IsAt, Tables, rows_with}
+use Rattle.mm_store.specs.Tables.{IsAt, Tables}
 use Rattle.mm_value.specs.declared.row_ref.RowRef.{RowRef}
 use Rattle.mm_value.specs.declared.values.Value.{Value}
 use Rattle.mm_delta.specs.Candidates.{Required, having, passes}
@@ -30,58 +30,67 @@ use Rattle.mm_delta.proofs.Goes.{after_edits}
 use Rattle.mm_delta.proofs.Product.{filter-map}
 use Rattle.mm_delta.proofs.Sums.{sum_by-map, sum_by_same}
 
-pub fit_nothing : (stored : StoredRows) → AreFit stored []
+pub fit_nothing : (stored : StoredRows) → AreReady stored []
 fit_nothing stored = record {
-  standing = record { live = λ k d within. absurd (omega arith); apart = λ i j d before within. absurd (omega arith) };
-  typed = λ k d within. absurd (omega arith);
+  fits = λ k d within. absurd (omega arith);
+  apart = λ i j d before within. absurd (omega arith);
 }
 
 -- The edits that count at a place fit.
 pub fit_walked : (store : Tables) (changes : List TableChange) (k j table : ℕ) (stored : StoredRows) → EachFit store changes → IsAt store table stored
-    → AreFit stored (edits_walked changes k j table)
+    → AreReady stored (edits_walked changes k j table)
 fit_walked store changes k j table stored fit at = by (nat_lt j k)
   where
-    by : (b : Bool) → AreFit stored (cond b (edits_at changes table) [])
+    by : (b : Bool) → AreReady stored (cond b (edits_at changes table) [])
     by true = fit table stored at
     by false = fit_nothing stored
 
 -- The rows at a place are those with the edits that count there.
 pub walked_is : (store : Tables) (changes : List TableChange) (tables : List ℕ) (k j : ℕ) (stored : StoredRows) → IsAt store (get_or tables j 0) stored
-    → walked store changes tables k j ≡ rows_with stored (edits_walked changes k j (get_or tables j 0))
+    → walked store changes tables k j ≡ rows_after stored (edits_walked changes k j (get_or tables j 0))
 walked_is store changes tables k j stored at =
-    (λ i. cond (nat_lt j k) (option_map_or (λ s. rows_with s (edits_at changes (get_or tables j 0))) (at i) []) (option_map_or rows_of (at i) []))
+    (λ i. cond (nat_lt j k) (option_map_or (λ s. rows_after s (edits_at changes (get_or tables j 0))) (at i) []) (option_map_or rows_of (at i) []))
     ∙ by (nat_lt j k)
   where
-    by : (b : Bool) → cond b (rows_with stored (edits_at changes (get_or tables j 0))) (rows_of stored)
-        ≡ rows_with stored (cond b (edits_at changes (get_or tables j 0)) [])
+    by : (b : Bool) → cond b (rows_after stored (edits_at changes (get_or tables j 0))) (rows_of stored)
+        ≡ rows_after stored (cond b (edits_at changes (get_or tables j 0)) [])
     by true = refl
     by false = refl
 
+one_coming : (r : Option Required) (now : Slots) (row : List Value) (edits : List Edit) (b : Bool)
+    → filter_map (coming r now) edits ≡ having r (rows_come now edits)
+    → cons_option (cond b (Some row) None) (filter_map (coming r now) edits) ≡ cond b (row ∷ having r (rows_come now edits)) (having r (rows_come now edits))
+one_coming r now row edits true h = ap (λ l. row ∷ l) h
+one_coming r now row edits false h = h
+
 -- What comes and has what is required, edit by edit.
-pub coming_all : (r : Option Required) (edits : List Edit) → filter_map (coming r) edits ≡ having r (new_rows edits)
-coming_all r [] = refl
-coming_all r (Add row ∷ edits) = one (passes r row) row (coming_all r edits)
-  where
-    one : (b : Bool) (row : List Value) → filter_map (coming r) edits ≡ having r (new_rows edits)
-        → cons_option (cond b (Some row) None) (filter_map (coming r) edits) ≡ cond b (row ∷ having r (new_rows edits)) (having r (new_rows edits))
-    one true row h = ap (λ l. row ∷ l) h
-    one false row h = h
-coming_all r (Swap at row ∷ edits) = one (passes r row) row (coming_all r edits)
-  where
-    one : (b : Bool) (row : List Value) → filter_map (coming r) edits ≡ having r (new_rows edits)
-        → cons_option (cond b (Some row) None) (filter_map (coming r) edits) ≡ cond b (row ∷ having r (new_rows edits)) (having r (new_rows edits))
-    one true row h = ap (λ l. row ∷ l) h
-    one false row h = h
-coming_all r (Gone at ∷ edits) = coming_all r edits
+pub coming_all : (r : Option Required) (now : Slots) (edits : List Edit) → filter_map (coming r now) edits ≡ having r (rows_come now edits)
+coming_all r now [] = refl
+coming_all r now (Stage at ∷ edits) = coming_all r now edits
+coming_all r now (Insert at ∷ edits) = one_coming r now (row_at now at) edits (passes r (row_at now at)) (coming_all r now edits)
+coming_all r now (Update at other ∷ edits) = one_coming r now (row_at now other) edits (passes r (row_at now other)) (coming_all r now edits)
+coming_all r now (Move at other ∷ edits) = one_coming r now (row_at now other) edits (passes r (row_at now other)) (coming_all r now edits)
+coming_all r now (Delete at ∷ edits) = coming_all r now edits
 
 -- One edit more.
-pub coming_more : {X : Type 0} (g : Edit → Option X) (edits : List Edit) (i : ℕ) (edit : Edit) (first rows next : List X) → i < length edits
-    → edit ≡ get_or edits i edit → rows ≡ first ++ filter_map g (take i edits) → next ≡ rows ++ cons_option (g edit) []
+pub coming_more : {X : Type 0} (g : Edit → Option X) (edits : List Edit) (i : ℕ) (d : Edit) (first rows next : List X) → i < length edits
+    → rows ≡ first ++ filter_map g (take i edits) → next ≡ rows ++ cons_option (g (get_or edits i d)) []
     → next ≡ first ++ filter_map g (take (i + 1) edits)
-coming_more g edits i edit first rows next inside is so_far last =
+coming_more g edits i d first rows next inside so_far last =
+    let edit : Edit = get_or edits i d in
     last ∙ ap (λ l. l ++ cons_option (g edit) []) so_far ∙ append_assoc first (filter_map g (take i edits)) (cons_option (g edit) [])
     ∙ ap (λ l. first ++ l) (sym (filter_map-append g (take i edits) (edit ∷ [])))
-    ∙ ap (λ l. first ++ filter_map g l) (ap (λ e. take i edits ++ e ∷ []) is ∙ sym (take_more edits i edit inside))
+    ∙ ap (λ l. first ++ filter_map g l) (sym (take_more edits i d inside))
+
+-- One row more.
+pub having_more : {X : Type 0} (read : X → List Value) (r : Option Required) (xs : List X) (i : ℕ) (x : X) (first rows next : List (List Value))
+    → i < length xs → x ≡ get_or xs i x → rows ≡ first ++ having r (map read (take i xs)) → next ≡ rows ++ having r (read x ∷ [])
+    → next ≡ first ++ having r (map read (take (i + 1) xs))
+having_more read r xs i x first rows next inside is so_far last =
+    last ∙ ap (λ l. l ++ having r (read x ∷ [])) so_far ∙ append_assoc first (having r (map read (take i xs))) (having r (read x ∷ []))
+    ∙ ap (λ l. first ++ l) (sym (filter-append (passes r) (map read (take i xs)) (read x ∷ [])))
+    ∙ ap (λ l. first ++ having r l) (sym (map-append read (take i xs) (x ∷ [])))
+    ∙ ap (λ l. first ++ having r (map read l)) (ap (λ e. take i xs ++ e ∷ []) is ∙ sym (take_more xs i x inside))
 
 pub before_is : (store : Tables) (table : ℕ) (stored : StoredRows) → IsAt store table stored → before_at store table ≡ rows_of stored
 before_is store table stored at = ap (λ o. option_map_or rows_of o []) at
@@ -101,16 +110,16 @@ module _ (stored : StoredRows) (is_table : IsTable stored) (r : Option Required)
   test at = passes r (row_at now at)
 
   -- What stays of the references that are found, and what comes and has what is required, is what has it after the edits.
-  pub found_alike : (edits : List Edit) → AreFit stored edits → (rows all : List (List Value))
-      → rows ≡ map (row_at now) (filter (stays edits) refs) → all ≡ rows ++ having r (new_rows edits)
-      → AreAlike all (having r (rows_with stored edits))
+  pub found_alike : (edits : List Edit) → AreReady stored edits → (rows all : List (List Value))
+      → rows ≡ map (row_at now) (filter (stays edits) refs) → all ≡ rows ++ having r (rows_come now edits)
+      → AreAlike all (having r (rows_after stored edits))
   found_alike edits fit rows all is sum f =
       let h : RowRef → ℕ = λ at. cond (stays edits at) (f (row_at now at)) 0 in
       let g : List Value → ℕ = λ x. cond (passes r x) (f x) 0 in
       omega (
         arith,
-        ap (sum_by f) (sum ∙ ap (λ l. l ++ having r (new_rows edits)) is),
-        sum_by-append f (map (row_at now) (filter (stays edits) refs)) (having r (new_rows edits)),
+        ap (sum_by f) (sum ∙ ap (λ l. l ++ having r (rows_come now edits)) is),
+        sum_by-append f (map (row_at now) (filter (stays edits) refs)) (having r (rows_come now edits)),
         sum_by-map f (row_at now) (filter (stays edits) refs),
         sum_by-filter (λ at. f (row_at now at)) (stays edits) refs,
         sum_by-IsPermutation h refs (filter test stored.refs) found,
@@ -120,8 +129,8 @@ module _ (stored : StoredRows) (is_table : IsTable stored) (r : Option Required)
         sum_by-filter (λ at. g (row_at now at)) (stays edits) stored.refs,
         sum_by-map g (row_at now) (filter (stays edits) stored.refs),
         after_edits stored is_table edits fit g,
-        sum_by-filter f (passes r) (rows_with stored edits),
-        sum_by-filter f (passes r) (new_rows edits),
+        sum_by-filter f (passes r) (rows_after stored edits),
+        sum_by-filter f (passes r) (rows_come now edits),
       )
 
   -- As many references are found as rows have what is required.

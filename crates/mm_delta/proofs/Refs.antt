@@ -1,11 +1,11 @@
 -- The references that a look-up or a walk over the key finds.
-use Rattle.std.proofs.Common.{◌≡◌, ℕ, ◌<◌, Bool, true, cond, List, [], ◌∷◌, ◌++◌, length, get_or, Some, None, Option, refl, sym, ap, ◌∙◌, subst, arith}
+use Rattle.std.proofs.Common.{◌≡◌, ℕ, ◌<◌, true, List, [], ◌∷◌, ◌++◌, length, get_or, Some, None, Option, refl, sym, ap, ◌∙◌, subst, arith}
 use Rattle.std.specs.Prelude.{pos}
 use Rattle.std.specs.List.{All, filter}
 use Rattle.std.specs.List.Sorted.{IsPermutation}
 use Rattle.std.specs.Option.{option_cmp}
 use Rattle.std.specs.Ordering.{is_eq}
-use Rattle.std.proofs.lemmas.List.Elements.{All-filter, All-head, All-tail, Contains-get_or}
+use Rattle.std.proofs.lemmas.List.Elements.{All-filter, Contains-get_or}
 use Rattle.std.proofs.lemmas.List.Sorted.{All-permutation, IsPermutation-sym}
 use Rattle.std.proofs.lemmas.Option.{slice_get-get_or}
 use Rattle.mm_partition.specs.Places.{IsLive, slot_at, row_in}
@@ -25,7 +25,7 @@ use Rattle.mm_delta.specs.Candidates.{Required, passes}
 use Rattle.mm_delta.proofs.Goes.{filter_same}
 use Rattle.mm_store.proofs.Looked.{any_of}
 
-filter_everything : {X : Type 0} (xs : List X) → filter (λ x. true) xs ≡ xs
+pub filter_everything : {X : Type 0} (xs : List X) → filter (λ x. true) xs ≡ xs
 filter_everything [] = refl
 filter_everything (x ∷ xs) = ap (λ l. x ∷ l) (filter_everything xs)
 

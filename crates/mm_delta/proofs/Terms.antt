@@ -1,7 +1,7 @@
 -- What the places of FROM add to a change.
 use Rattle.std.proofs.Common.{◌≡◌, ℕ, zero, suc, ◌+◌, ◌<◌, ◌≤◌, ◌==◌, ℤ, pos, ◌-ℤ◌, Bool, true, false, cond, not, List, [], ◌∷◌, ◌++◌, get_or, length, map}
-use Rattle.std.proofs.Common.{None, refl, sym, ap, ◌∙◌, arith}
-use Rattle.std.specs.List.{All, filter, filter_map, range_with_len, sum_by}
+use Rattle.std.proofs.Common.{refl, sym, ap, ◌∙◌, arith}
+use Rattle.std.specs.List.{All, filter, range_with_len, sum_by}
 use Rattle.std.specs.Option.{option_map_or}
 use Rattle.std.proofs.lemmas.Int.{ints}
 use Rattle.std.proofs.lemmas.List.{length-map}
@@ -9,56 +9,57 @@ use Rattle.std.proofs.lemmas.List.FromFn.{map-range_with_len_more}
 use Rattle.std.proofs.lemmas.List.Sums.{sum_by-append, sum_by-cons, sum_by_push}
 use Rattle.mm_partition.specs.Places.{slot_at}
 use Rattle.mm_store.specs.Joined.{IsTable}
-use Rattle.mm_store.specs.RowEdits.{old_refs, new_rows}
+use Rattle.mm_store.specs.Edits.{rows_after, rows_come, rows_gone}
 use Rattle.mm_indexed.specs.Kept.{StoredRows}
 use Rattle.mm_row_order.specs.Refs.{row_at}
 use Rattle.mm_indexed.specs.RowLists.{rows_of}
-use Rattle.mm_store.specs.declared.edit.Edit.{Edit}
-use Rattle.mm_store.specs.declared.edit.Edit.TheVariants.{Add, Swap, Gone}
-use Rattle.mm_store.specs.Tables.{IsAt, Tables, rows_with}
+use Rattle.mm_tables.specs.declared.edit.Edit.{Edit}
+use Rattle.mm_store.specs.Tables.{IsAt, Tables}
 use Rattle.mm_value.specs.declared.values.Value.{Value}
 use Rattle.mm_query.specs.Queries.{bag_of}
 use Rattle.mm_query.specs.declared.bound_query.BoundQuery.{BoundQuery}
 use Rattle.mm_multiset.specs.Counts.{Entries, count_in, count_of}
-use Rattle.mm_delta.specs.Edited.{after_at, before_at, come_at, edits_at, gone_at}
-use Rattle.mm_delta.specs.Steps.{EachFit, HasTables, coming, row_reads}
+use Rattle.mm_delta.specs.Edited.{after_at, before_at, come_at, edits_at, gone_at, old_slots}
+use Rattle.mm_delta.specs.Steps.{EachFit, HasTables, row_reads}
 use Rattle.mm_delta.specs.Terms.{lists_around}
 use Rattle.mm_delta.specs.Walk.{other_places}
 use Rattle.mm_delta.specs.declared.edited.TableChange.{TableChange}
 use Rattle.mm_delta.proofs.ByRows.{count_by_rows}
 use Rattle.mm_delta.proofs.SumOfTerms.{half, half_all, one_place}
 use Rattle.mm_delta.proofs.Goes.{edits_balance}
+use Rattle.mm_delta.proofs.OldSlots.{gone_rows}
 use Rattle.mm_delta.proofs.Sums.{Balance, sum_by-map}
 use Rattle.mm_delta.proofs.UnseenEdits.{same_count, seen_balance, seen_come, seen_gone}
 
 -- ---- the edited rows
 
--- Where nothing is required, all new rows come.
-pub all_come : (edits : List Edit) → filter_map (coming None) edits ≡ new_rows edits
-all_come [] = refl
-all_come (Add row ∷ edits) = ap (λ l. row ∷ l) (all_come edits)
-all_come (Swap at row ∷ edits) = ap (λ l. row ∷ l) (all_come edits)
-all_come (Gone at ∷ edits) = all_come edits
-
 -- The rows that go, by the relation of the table.
 pub gone_is : (store : Tables) (changes : List TableChange) (table : ℕ) (stored : StoredRows) → IsAt store table stored
-    → gone_at store changes table ≡ map (row_at (slot_at stored.places)) (old_refs (edits_at changes table))
+    → gone_at store changes table ≡ map (row_at (slot_at stored.places)) (old_slots (edits_at changes table))
 gone_is store changes table stored at =
-    ap (λ o. option_map_or (λ (s : StoredRows). map (row_at (slot_at s.places)) (old_refs (edits_at changes table))) o []) at
+    ap (λ o. option_map_or (λ (s : StoredRows). rows_gone (slot_at s.places) (edits_at changes table)) o []) at
+    ∙ gone_rows (slot_at stored.places) (edits_at changes table)
+
+-- The rows that come, likewise.
+pub come_is : (store : Tables) (changes : List TableChange) (table : ℕ) (stored : StoredRows) → IsAt store table stored
+    → come_at store changes table ≡ rows_come (slot_at stored.places) (edits_at changes table)
+come_is store changes table stored at =
+    ap (λ o. option_map_or (λ (s : StoredRows). rows_come (slot_at s.places) (edits_at changes table)) o []) at
 
 -- The rows of a table after the change and those that go are those before it and those that come.
 pub table_balance : (store : Tables) (changes : List TableChange) (table : ℕ) (stored : StoredRows) → IsAt store table stored
     → IsTable stored → EachFit store changes
-    → Balance (after_at store changes table) (gone_at store changes table) (before_at store table) (come_at changes table)
+    → Balance (after_at store changes table) (gone_at store changes table) (before_at store table) (come_at store changes table)
 table_balance store changes table stored at is_table fit f =
-    let after_is : after_at store changes table ≡ rows_with stored (edits_at changes table) =
-    ap (λ o. option_map_or (λ (s : StoredRows). rows_with s (edits_at changes table)) o []) at in
+    let after_is : after_at store changes table ≡ rows_after stored (edits_at changes table) =
+    ap (λ o. option_map_or (λ (s : StoredRows). rows_after s (edits_at changes table)) o []) at in
     let before_is : before_at store table ≡ rows_of stored = ap (λ o. option_map_or rows_of o []) at in
     omega (
       arith,
       ap (sum_by f) after_is,
       ap (sum_by f) before_is,
       ap (sum_by f) (gone_is store changes table stored at),
+      ap (sum_by f) (come_is store changes table stored at),
       edits_balance stored is_table (edits_at changes table) (fit table stored at) f,
     )
 
@@ -101,7 +102,7 @@ pub net_count : (q : BoundQuery) (store : Tables) (changes : List TableChange) (
     → comes' ≡ comes + sum_by (λ x. count_of row (bag_of q (lists_around 0 (after_at store changes) (λ _. x ∷ []) (before_at store) tables k)))
     (seen_come q k (slot_at stored.places) (edits_at changes (get_or tables k 0)))
     → comes' + goes + count_of row (bag_of q (lists_around 0 (after_at store changes) (gone_at store changes) (before_at store) tables k))
-    ≡ goes' + comes + count_of row (bag_of q (lists_around 0 (after_at store changes) (come_at changes) (before_at store) tables k))
+    ≡ goes' + comes + count_of row (bag_of q (lists_around 0 (after_at store changes) (come_at store changes) (before_at store) tables k))
 net_count q store changes tables k stored within at row comes comes' goes goes' g c =
     let adds : List Value → ℕ = λ x. count_of row (bag_of q (lists_around 0 (after_at store changes) (λ _. x ∷ []) (before_at store) tables k)) in
     omega (
@@ -111,8 +112,9 @@ net_count q store changes tables k stored within at row comes comes' goes goes' 
       seen_balance q k (slot_at stored.places) adds
           (λ x y alike. same_count q (after_at store changes) (before_at store) tables k row x y within alike) (edits_at changes (get_or tables k 0)),
       count_by_rows q (after_at store changes) (gone_at store changes) (before_at store) tables k row,
-      count_by_rows q (after_at store changes) (come_at changes) (before_at store) tables k row,
+      count_by_rows q (after_at store changes) (come_at store changes) (before_at store) tables k row,
       ap (sum_by adds) (gone_is store changes (get_or tables k 0) stored at),
+      ap (sum_by adds) (come_is store changes (get_or tables k 0) stored at),
     )
 
 -- What they read, likewise.
@@ -132,10 +134,10 @@ bound_is f gone come = omega (arith, sum_by-append (λ x. 1 + f x) gone come, on
 
 -- As many rows go as edits name one.
 pub gone_length : (store : Tables) (changes : List TableChange) (table : ℕ) (stored : StoredRows) → IsAt store table stored → (edits : List Edit)
-    → edits ≡ edits_at changes table → length (old_refs edits) ≡ length (gone_at store changes table)
+    → edits ≡ edits_at changes table → length (old_slots edits) ≡ length (gone_at store changes table)
 gone_length store changes table stored at edits is =
-    ap (λ e. length (old_refs e)) is
-    ∙ sym (ap length (gone_is store changes table stored at) ∙ length-map (old_refs (edits_at changes table)) (row_at (slot_at stored.places)))
+    ap (λ e. length (old_slots e)) is
+    ∙ sym (ap length (gone_is store changes table stored at) ∙ length-map (old_slots (edits_at changes table)) (row_at (slot_at stored.places)))
 
 -- ---- place by place
 
@@ -173,14 +175,14 @@ module _ (q : BoundQuery) (store : Tables) (changes : List TableChange) (tables 
   -- One place more.
   pub counts_more : (k : ℕ) (stored : StoredRows) (first comes comes' goes goes' : ℕ) → k < length tables → IsAt store (get_or tables k 0) stored
       → IsTable stored → EachFit store changes
-      → comes + first ≡ goes + halfway k → comes' + goes + added (gone_at store changes) k ≡ goes' + comes + added (come_at changes) k
+      → comes + first ≡ goes + halfway k → comes' + goes + added (gone_at store changes) k ≡ goes' + comes + added (come_at store changes) k
       → comes' + first ≡ goes' + halfway (k + 1)
   counts_more k stored first comes comes' goes goes' within at is_table fit so_far net =
       omega (
         arith,
         so_far,
         net,
-        one_place 0 q (before_at store) (after_at store changes) (gone_at store changes) (come_at changes) tables row k within
+        one_place 0 q (before_at store) (after_at store changes) (gone_at store changes) (come_at store changes) tables row k within
             (table_balance store changes (get_or tables k 0) stored at is_table fit),
         ap halfway (next k),
       )

@@ -3,8 +3,8 @@ use Rattle.std.proofs.Common.{◌≡◌, Bool, true, false, cond, List, [], ◌�
 use Rattle.std.proofs.lemmas.List.{map-append}
 use Rattle.std.specs.Map.{lookup}
 use Rattle.std.specs.Option.{option_map_or}
-use Rattle.mm_partition.specs.Reads.{row_read}
-use Rattle.mm_partition.specs.declared.row_read.RowRead.{RowRead}
+use Rattle.mm_partition.specs.Views.{viewed}
+use Rattle.mm_partition.specs.declared.view.RowView.{RowView}
 use Rattle.mm_value.specs.Equality.{same_value}
 use Rattle.mm_value.specs.declared.values.Value.{Value}
 use Rattle.mm_value.proofs.SameRows.{values_exact}
@@ -14,22 +14,22 @@ append_none : {X : Type 0} (xs : List X) → xs ≡ xs ++ []
 append_none [] = refl
 append_none (x ∷ xs) = ap (λ l. x ∷ l) (append_none xs)
 
-module _ {Z : Type 0} (value : Value) (row : RowRead) (old new : List (Value × Vec RowRead Z)) where
+module _ {Z : Type 0} (value : Value) (row : RowView) (old new : List (Value × Vec RowView Z)) where
   -- a row more under a value, and all others as they were
   abbrev pub IsPut : Type 0
-  IsPut = (other : Value) → rows_under other new ≡ rows_under other old ++ cond (same_value value other) (row_read row ∷ []) []
+  IsPut = (other : Value) → rows_under other new ≡ rows_under other old ++ cond (same_value value other) (viewed row ∷ []) []
 
-  module _ (list : Vec RowRead Z) (put : (q : Value) → lookup (same_value q) new
+  module _ (list : Vec RowView Z) (put : (q : Value) → lookup (same_value q) new
       ≡ cond (same_value value q) (Some list) (lookup (same_value q) old)) where
     -- It stands behind those that were under the value.
-    pub put_behind : (was : List RowRead) → list.items ≡ was ++ row ∷ [] → rows_under value old ≡ map row_read was → IsPut
+    pub put_behind : (was : List RowView) → list.items ≡ was ++ row ∷ [] → rows_under value old ≡ map viewed was → IsPut
     put_behind was items under other = by (same_value value other) refl
       where
-        by : (b : Bool) → same_value value other ≡ b → rows_under other new ≡ rows_under other old ++ cond b (row_read row ∷ []) []
+        by : (b : Bool) → same_value value other ≡ b → rows_under other new ≡ rows_under other old ++ cond b (viewed row ∷ []) []
         by true e =
-            ap (λ o. map row_read (option_map_or (λ l. l.items) o [])) (put other ∙ ap (λ b. cond b (Some list) (lookup (same_value other) old)) e)
-            ∙ ap (map row_read) items ∙ map-append row_read was (row ∷ [])
-            ∙ ap (λ l. l ++ row_read row ∷ []) (sym under ∙ ap (λ v. rows_under v old) ((values_exact value other).0 e))
+            ap (λ o. map viewed (option_map_or (λ l. l.items) o [])) (put other ∙ ap (λ b. cond b (Some list) (lookup (same_value other) old)) e)
+            ∙ ap (map viewed) items ∙ map-append viewed was (row ∷ [])
+            ∙ ap (λ l. l ++ viewed row ∷ []) (sym under ∙ ap (λ v. rows_under v old) ((values_exact value other).0 e))
         by false e =
-            ap (λ o. map row_read (option_map_or (λ l. l.items) o [])) (put other ∙ ap (λ b. cond b (Some list) (lookup (same_value other) old)) e)
+            ap (λ o. map viewed (option_map_or (λ l. l.items) o [])) (put other ∙ ap (λ b. cond b (Some list) (lookup (same_value other) old)) e)
             ∙ append_none (rows_under other old)

@@ -1,13 +1,12 @@
 -- Edits that a query does not see change nothing of its bag.
 use Rattle.std.proofs.Common.{◌≡◌, ℕ, zero, suc, ◌+◌, ◌<◌, ◌≤◌, ◌==◌, ◌&&◌, ◌||◌, Bool, true, false, cond, not, pos, Some, None, List, [], ◌∷◌, ◌++◌, drop}
-use Rattle.std.proofs.Common.{get_or, length, map, take, ⊎_elim, inl, inr, refl, sym, ap, ◌∙◌, arith, length-take}
+use Rattle.std.proofs.Common.{get_or, length, map, take, inl, inr, refl, sym, ap, ◌∙◌, arith, length-take}
 use Rattle.std.specs.List.{All, cons_option, filter_map, list_all, sum_by}
 use Rattle.std.specs.Option.{option_map, option_map_or, unwrap_or}
 use Rattle.std.proofs.lemmas.Bool.{and_parts, cases_Bool, eq-eqb, eqb-true}
 use Rattle.std.proofs.lemmas.List.{length-append, length-map, take-append-drop, take_more}
-use Rattle.std.proofs.lemmas.List.Elements.{All-cons, All-contains, All-head, All-nil, All-tail, Contains-get_or, filter_map-append}
+use Rattle.std.proofs.lemmas.List.Elements.{All-cons, All-head, All-nil, All-tail, filter_map-append}
 use Rattle.std.proofs.lemmas.List.Sums.{sum_by-cons}
-use Rattle.mm_base.proofs.References.{in_filter_map, none_in, one_of as first_or_later, out_of_filter_map}
 use Rattle.mm_value.proofs.SameRows.{values_exact}
 use Rattle.mm_value.specs.Equality.{same_value}
 use Rattle.mm_value.specs.declared.values.Value.{Value}
@@ -21,11 +20,11 @@ use Rattle.mm_query.specs.declared.atom.Operand.TheVariants.{Literal, Column, Sh
 use Rattle.mm_query.specs.declared.bound_query.BoundQuery.{BoundQuery}
 use Rattle.mm_query.specs.declared.bound_query.FieldPlace.{FieldPlace}
 use Rattle.mm_multiset.specs.Counts.{count_of}
-use Rattle.mm_store.specs.RowEdits.{old_ref, old_refs, new_rows}
+use Rattle.mm_store.specs.Edits.{old_slot, rows_come}
 use Rattle.mm_row_order.specs.Refs.{Slots, row_at}
-use Rattle.mm_value.specs.declared.row_ref.RowRef.{RowRef}
-use Rattle.mm_store.specs.declared.edit.Edit.{Edit}
-use Rattle.mm_store.specs.declared.edit.Edit.TheVariants.{Add, Swap, Gone}
+use Rattle.mm_tables.specs.declared.edit.Edit.{Edit}
+use Rattle.mm_tables.specs.declared.edit.Edit.TheVariants.{Delete, Insert, Move, Stage, Update}
+use Rattle.mm_delta.specs.Edited.{old_slots}
 use Rattle.mm_delta.specs.Terms.{lists_around}
 use Rattle.mm_delta.specs.Unseen.{agree_for, agree_in, come_seen, gone_seen, looks_alike}
 use Rattle.mm_delta.proofs.Found.{Row, Rows}
@@ -130,7 +129,10 @@ same_count q after before tables k row x y within alike =
 
 module _ (q : BoundQuery) (k : ℕ) (now : Slots) where
   abbrev pub gone : List Edit → Rows
-  gone edits = map (row_at now) (old_refs edits)
+  gone edits = map (row_at now) (old_slots edits)
+
+  abbrev pub come : List Edit → Rows
+  come edits = rows_come now edits
 
   abbrev pub seen_gone : List Edit → Rows
   seen_gone edits = filter_map (gone_seen q k now) edits
@@ -138,112 +140,114 @@ module _ (q : BoundQuery) (k : ℕ) (now : Slots) where
   abbrev pub seen_come : List Edit → Rows
   seen_come edits = filter_map (come_seen q k now) edits
 
-  -- Whatever is the same of rows of which it makes the same has in sum the same difference over them as over all edits, ..
-  pub seen_balance : (f : Row → ℕ) → ((x y : Row) → looks_alike q k x y ≡ true → f x ≡ f y) → (edits : List Edit)
-      → sum_by f (seen_gone edits) + sum_by f (new_rows edits) ≡ sum_by f (seen_come edits) + sum_by f (gone edits)
-  seen_balance f same [] = refl
-  seen_balance f same (Add row ∷ edits) =
-      omega (arith, seen_balance f same edits, sum_by-cons f row (new_rows edits), sum_by-cons f row (seen_come edits))
-  seen_balance f same (Gone at ∷ edits) =
-      omega (arith, seen_balance f same edits, sum_by-cons f (row_at now at) (seen_gone edits), sum_by-cons f (row_at now at) (gone edits))
-  seen_balance f same (Swap at row ∷ edits) = by (looks_alike q k (row_at now at) row) refl (seen_balance f same edits)
-    where
-      by : (b : Bool) → looks_alike q k (row_at now at) row ≡ b
-          → sum_by f (seen_gone edits) + sum_by f (new_rows edits) ≡ sum_by f (seen_come edits) + sum_by f (gone edits)
-          → sum_by f (cons_option (cond b None (Some (row_at now at))) (seen_gone edits)) + sum_by f (row ∷ new_rows edits)
-          ≡ sum_by f (cons_option (cond b None (Some row)) (seen_come edits)) + sum_by f (row_at now at ∷ gone edits)
-      by true alike rest =
-          omega (
-            arith,
-            rest,
-            same (row_at now at) row alike,
-            sum_by-cons f row (new_rows edits),
-            sum_by-cons f (row_at now at) (gone edits),
-          )
-      by false differ rest =
-          omega (
-            arith,
-            rest,
-            sum_by-cons f row (new_rows edits),
-            sum_by-cons f (row_at now at) (gone edits),
-            sum_by-cons f row (seen_come edits),
-            sum_by-cons f (row_at now at) (seen_gone edits),
-          )
+  module _ (f : Row → ℕ) (same : (x y : Row) → looks_alike q k x y ≡ true → f x ≡ f y) where
+    one_replaced : (x y : Row) (edits : List Edit) (b : Bool) → looks_alike q k x y ≡ b
+        → sum_by f (seen_gone edits) + sum_by f (come edits) ≡ sum_by f (seen_come edits) + sum_by f (gone edits)
+        → sum_by f (cons_option (cond b None (Some x)) (seen_gone edits)) + sum_by f (y ∷ come edits)
+        ≡ sum_by f (cons_option (cond b None (Some y)) (seen_come edits)) + sum_by f (x ∷ gone edits)
+    one_replaced x y edits true alike rest =
+        omega (arith, rest, same x y alike, sum_by-cons f y (come edits), sum_by-cons f x (gone edits))
+    one_replaced x y edits false differ rest =
+        omega (
+          arith,
+          rest,
+          sum_by-cons f y (come edits),
+          sum_by-cons f x (gone edits),
+          sum_by-cons f y (seen_come edits),
+          sum_by-cons f x (seen_gone edits),
+        )
+
+    -- Whatever is the same of rows of which it makes the same has in sum the same difference over them as over all edits, ..
+    pub seen_balance : (edits : List Edit) → sum_by f (seen_gone edits) + sum_by f (come edits) ≡ sum_by f (seen_come edits) + sum_by f (gone edits)
+    seen_balance [] = refl
+    seen_balance (Stage at ∷ edits) = seen_balance edits
+    seen_balance (Insert at ∷ edits) =
+        omega (arith, seen_balance edits, sum_by-cons f (row_at now at) (come edits), sum_by-cons f (row_at now at) (seen_come edits))
+    seen_balance (Update at other ∷ edits) =
+        one_replaced (row_at now at) (row_at now other) edits (looks_alike q k (row_at now at) (row_at now other)) refl (seen_balance edits)
+    seen_balance (Move at other ∷ edits) =
+        one_replaced (row_at now at) (row_at now other) edits (looks_alike q k (row_at now at) (row_at now other)) refl (seen_balance edits)
+    seen_balance (Delete at ∷ edits) =
+        omega (arith, seen_balance edits, sum_by-cons f (row_at now at) (seen_gone edits), sum_by-cons f (row_at now at) (gone edits))
+
+  no_more : (f : Row → ℕ) (row : Row) (seen rows : Rows) (b : Bool) → sum_by f seen ≤ sum_by f rows
+      → sum_by f (cons_option (cond b None (Some row)) seen) ≤ sum_by f (row ∷ rows)
+  no_more f row seen rows true rest = omega (arith, rest, sum_by-cons f row rows)
+  no_more f row seen rows false rest = omega (arith, rest, sum_by-cons f row rows, sum_by-cons f row seen)
 
   -- .. and none of them is another than theirs.
   pub fewer_gone : (f : Row → ℕ) (edits : List Edit) → sum_by f (seen_gone edits) ≤ sum_by f (gone edits)
   fewer_gone f [] = omega arith
-  fewer_gone f (Add row ∷ edits) = fewer_gone f edits
-  fewer_gone f (Gone at ∷ edits) =
+  fewer_gone f (Stage at ∷ edits) = fewer_gone f edits
+  fewer_gone f (Insert at ∷ edits) = fewer_gone f edits
+  fewer_gone f (Update at other ∷ edits) =
+      no_more f (row_at now at) (seen_gone edits) (gone edits) (looks_alike q k (row_at now at) (row_at now other)) (fewer_gone f edits)
+  fewer_gone f (Move at other ∷ edits) =
+      no_more f (row_at now at) (seen_gone edits) (gone edits) (looks_alike q k (row_at now at) (row_at now other)) (fewer_gone f edits)
+  fewer_gone f (Delete at ∷ edits) =
       omega (arith, fewer_gone f edits, sum_by-cons f (row_at now at) (seen_gone edits), sum_by-cons f (row_at now at) (gone edits))
-  fewer_gone f (Swap at row ∷ edits) = by (looks_alike q k (row_at now at) row) (fewer_gone f edits)
-    where
-      by : (b : Bool) → sum_by f (seen_gone edits) ≤ sum_by f (gone edits)
-          → sum_by f (cons_option (cond b None (Some (row_at now at))) (seen_gone edits)) ≤ sum_by f (row_at now at ∷ gone edits)
-      by true rest = omega (arith, rest, sum_by-cons f (row_at now at) (gone edits))
-      by false rest = omega (arith, rest, sum_by-cons f (row_at now at) (gone edits), sum_by-cons f (row_at now at) (seen_gone edits))
 
-  pub fewer_come : (f : Row → ℕ) (edits : List Edit) → sum_by f (seen_come edits) ≤ sum_by f (new_rows edits)
+  pub fewer_come : (f : Row → ℕ) (edits : List Edit) → sum_by f (seen_come edits) ≤ sum_by f (come edits)
   fewer_come f [] = omega arith
-  fewer_come f (Add row ∷ edits) =
-      omega (arith, fewer_come f edits, sum_by-cons f row (seen_come edits), sum_by-cons f row (new_rows edits))
-  fewer_come f (Gone at ∷ edits) = fewer_come f edits
-  fewer_come f (Swap at row ∷ edits) = by (looks_alike q k (row_at now at) row) (fewer_come f edits)
-    where
-      by : (b : Bool) → sum_by f (seen_come edits) ≤ sum_by f (new_rows edits)
-          → sum_by f (cons_option (cond b None (Some row)) (seen_come edits)) ≤ sum_by f (row ∷ new_rows edits)
-      by true rest = omega (arith, rest, sum_by-cons f row (new_rows edits))
-      by false rest = omega (arith, rest, sum_by-cons f row (new_rows edits), sum_by-cons f row (seen_come edits))
+  fewer_come f (Stage at ∷ edits) = fewer_come f edits
+  fewer_come f (Insert at ∷ edits) =
+      omega (arith, fewer_come f edits, sum_by-cons f (row_at now at) (seen_come edits), sum_by-cons f (row_at now at) (come edits))
+  fewer_come f (Update at other ∷ edits) =
+      no_more f (row_at now other) (seen_come edits) (come edits) (looks_alike q k (row_at now at) (row_at now other)) (fewer_come f edits)
+  fewer_come f (Move at other ∷ edits) =
+      no_more f (row_at now other) (seen_come edits) (come edits) (looks_alike q k (row_at now at) (row_at now other)) (fewer_come f edits)
+  fewer_come f (Delete at ∷ edits) = fewer_come f edits
 
   module _ (P : Row → Type 0) where
-    one_of : (b : Bool) (row : Row) (rows : Rows) → P row → All P rows → All P (cons_option (cond b None (Some row)) rows)
-    one_of true row rows here rest = rest
-    one_of false row rows here rest = All-cons P row rows here rest
+    one_of : (b : Bool) (row : Row) (seen rows : Rows) → All P (row ∷ rows) → All P seen → All P (cons_option (cond b None (Some row)) seen)
+    one_of true row seen rows all rest = rest
+    one_of false row seen rows all rest = All-cons P row seen (All-head P row rows all) rest
 
     pub among_gone : (edits : List Edit) → All P (gone edits) → All P (seen_gone edits)
     among_gone [] all = All-nil P
-    among_gone (Add row ∷ edits) all = among_gone edits all
-    among_gone (Gone at ∷ edits) all =
+    among_gone (Stage at ∷ edits) all = among_gone edits all
+    among_gone (Insert at ∷ edits) all = among_gone edits all
+    among_gone (Update at other ∷ edits) all =
+        one_of (looks_alike q k (row_at now at) (row_at now other)) (row_at now at) (seen_gone edits) (gone edits) all
+        (among_gone edits (All-tail P (row_at now at) (gone edits) all))
+    among_gone (Move at other ∷ edits) all =
+        one_of (looks_alike q k (row_at now at) (row_at now other)) (row_at now at) (seen_gone edits) (gone edits) all
+        (among_gone edits (All-tail P (row_at now at) (gone edits) all))
+    among_gone (Delete at ∷ edits) all =
         All-cons P (row_at now at) (seen_gone edits) (All-head P (row_at now at) (gone edits) all)
         (among_gone edits (All-tail P (row_at now at) (gone edits) all))
-    among_gone (Swap at row ∷ edits) all =
-        one_of (looks_alike q k (row_at now at) row) (row_at now at) (seen_gone edits) (All-head P (row_at now at) (gone edits) all)
-        (among_gone edits (All-tail P (row_at now at) (gone edits) all))
 
-    pub among_come : (edits : List Edit) → All P (new_rows edits) → All P (seen_come edits)
+    pub among_come : (edits : List Edit) → All P (come edits) → All P (seen_come edits)
     among_come [] all = All-nil P
-    among_come (Add row ∷ edits) all =
-        All-cons P row (seen_come edits) (All-head P row (new_rows edits) all) (among_come edits (All-tail P row (new_rows edits) all))
-    among_come (Gone at ∷ edits) all = among_come edits all
-    among_come (Swap at row ∷ edits) all =
-        one_of (looks_alike q k (row_at now at) row) row (seen_come edits) (All-head P row (new_rows edits) all)
-        (among_come edits (All-tail P row (new_rows edits) all))
+    among_come (Stage at ∷ edits) all = among_come edits all
+    among_come (Insert at ∷ edits) all =
+        All-cons P (row_at now at) (seen_come edits) (All-head P (row_at now at) (come edits) all)
+        (among_come edits (All-tail P (row_at now at) (come edits) all))
+    among_come (Update at other ∷ edits) all =
+        one_of (looks_alike q k (row_at now at) (row_at now other)) (row_at now other) (seen_come edits) (come edits) all
+        (among_come edits (All-tail P (row_at now other) (come edits) all))
+    among_come (Move at other ∷ edits) all =
+        one_of (looks_alike q k (row_at now at) (row_at now other)) (row_at now other) (seen_come edits) (come edits) all
+        (among_come edits (All-tail P (row_at now other) (come edits) all))
+    among_come (Delete at ∷ edits) all = among_come edits all
 
 -- ---- the edits so far
 
 -- One edit more names as many more references as it names itself, ..
-pub one_named : (edits : List Edit) (i : ℕ) (edit : Edit) → i < length edits → edit ≡ get_or edits i edit
-    → length (old_refs (take (i + 1) edits)) ≡ length (old_refs (take i edits)) + length (old_refs (edit ∷ []))
-one_named edits i edit inside is =
-    ap (λ es. length (old_refs es)) (take_more edits i edit inside ∙ ap (λ e. take i edits ++ e ∷ []) (sym is))
-    ∙ ap length (filter_map-append old_ref (take i edits) (edit ∷ []))
-    ∙ length-append (old_refs (take i edits)) (old_refs (edit ∷ []))
-
--- .. what holds of all references that they name holds of its own, ..
-pub one_taken : (P : RowRef → Type 0) (edits : List Edit) (i : ℕ) (edit : Edit) → i < length edits → edit ≡ get_or edits i edit → All P (old_refs edits)
-    → All P (old_refs (edit ∷ []))
-one_taken P edits i edit inside is all k d below =
-    let at : RowRef = get_or (old_refs (edit ∷ [])) k d in
-    let found = out_of_filter_map old_ref (edit ∷ []) at (Contains-get_or (old_refs (edit ∷ [])) k d below) in
-    let same : edit ≡ found.0 = ⊎_elim (λ (is : edit ≡ found.0). is) (λ none. absurd (none_in found.0 none)) (first_or_later found.0 edit [] found.1) in
-    All-contains P (old_refs edits) at all (in_filter_map old_ref edits edit at (i, inside, sym is) (ap old_ref same ∙ found.2))
+pub one_named : (edits : List Edit) (i : ℕ) (d : Edit) → i < length edits
+    → length (old_slots (take (i + 1) edits)) ≡ length (old_slots (take i edits)) + length (old_slots (get_or edits i d ∷ []))
+one_named edits i d inside =
+    let edit : Edit = get_or edits i d in
+    ap (λ es. length (old_slots es)) (take_more edits i d inside)
+    ∙ ap length (filter_map-append old_slot (take i edits) (edit ∷ []))
+    ∙ length-append (old_slots (take i edits)) (old_slots (edit ∷ []))
 
 -- .. and the first ones name no more than all.
-pub first_named : (edits : List Edit) (n : ℕ) → length (old_refs (take n edits)) ≤ length (old_refs edits)
+pub first_named : (edits : List Edit) (n : ℕ) → length (old_slots (take n edits)) ≤ length (old_slots edits)
 first_named edits n =
     omega (
       arith,
-      ap (λ es. length (old_refs es)) (take-append-drop n edits),
-      ap length (filter_map-append old_ref (take n edits) (drop n edits)),
-      length-append (old_refs (take n edits)) (old_refs (drop n edits)),
+      ap (λ es. length (old_slots es)) (take-append-drop n edits),
+      ap length (filter_map-append old_slot (take n edits) (drop n edits)),
+      length-append (old_slots (take n edits)) (old_slots (drop n edits)),
     )

@@ -1,15 +1,15 @@
 -- The rows of tables before and after a change by edits.
-use Rattle.std.specs.Prelude.{ℕ, ◌==◌, Bool, false, ◌||◌, List, [], find, map, slice_get}
+use Rattle.std.specs.Prelude.{ℕ, ◌==◌, Bool, false, ◌||◌, List, [], filter_map, find, slice_get}
 use Rattle.std.specs.List.{list_any}
 use Rattle.std.specs.Option.{option_map_or}
 use Rattle.mm_partition.specs.Places.{slot_at}
-use Rattle.mm_store.specs.RowEdits.{new_rows, old_refs}
 use Rattle.mm_indexed.specs.Index.{column_of}
 use Rattle.mm_indexed.specs.Kept.{StoredRows}
-use Rattle.mm_row_order.specs.Refs.{row_at}
-use Rattle.mm_store.specs.declared.edit.Edit.{Edit}
 use Rattle.mm_indexed.specs.declared.indexes.index.Index.{Index}
-use Rattle.mm_store.specs.Tables.{Tables, rows_at, rows_with}
+use Rattle.mm_store.specs.Edits.{old_slot, rows_after, rows_come, rows_gone}
+use Rattle.mm_store.specs.Tables.{Tables, rows_at}
+use Rattle.mm_tables.specs.declared.edit.Edit.{Edit}
+use Rattle.mm_value.specs.declared.row_ref.RowRef.{RowRef}
 use Rattle.mm_value.specs.declared.values.Value.{Value}
 use Rattle.mm_delta.specs.Walk.{rows_around}
 use Rattle.mm_delta.specs.declared.edited.TableChange.{TableChange}
@@ -18,22 +18,27 @@ use Rattle.mm_delta.specs.declared.edited.TableChange.{TableChange}
 abbrev pub edits_at : List TableChange → ℕ → List Edit
 edits_at changes table = option_map_or (λ (c : TableChange). c.edits.now) (find (λ (c : TableChange). c.table == table) changes) []
 
+-- The references of the rows that edits take away.
+abbrev pub old_slots : List Edit → List RowRef
+old_slots edits = filter_map old_slot edits
+
 -- The rows that a table has before the change.
 abbrev pub before_at : Tables → ℕ → List (List Value)
 before_at store table = rows_at store.tables table
 
 -- The rows that it has after the change.
 abbrev pub after_at : Tables → List TableChange → ℕ → List (List Value)
-after_at store changes table = option_map_or (λ stored. rows_with stored (edits_at changes table)) (slice_get store.tables table) []
+after_at store changes table = option_map_or (λ stored. rows_after stored (edits_at changes table)) (slice_get store.tables table) []
 
 -- Its rows that go.
 abbrev pub gone_at : Tables → List TableChange → ℕ → List (List Value)
 gone_at store changes table =
-    option_map_or (λ stored. map (row_at (slot_at stored.places)) (old_refs (edits_at changes table))) (slice_get store.tables table) []
+    option_map_or (λ stored. rows_gone (slot_at stored.places) (edits_at changes table)) (slice_get store.tables table) []
 
--- The rows that come.
-abbrev pub come_at : List TableChange → ℕ → List (List Value)
-come_at changes table = new_rows (edits_at changes table)
+-- The rows that come, which lie in hidden slots of the table.
+abbrev pub come_at : Tables → List TableChange → ℕ → List (List Value)
+come_at store changes table =
+    option_map_or (λ stored. rows_come (slot_at stored.places) (edits_at changes table)) (slice_get store.tables table) []
 
 -- A relation has an index on the column. It always has one on its key.
 abbrev pub is_indexed : StoredRows → ℕ → Bool

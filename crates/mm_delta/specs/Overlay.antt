@@ -1,10 +1,17 @@
 -- The edits that count where rows are looked for.
-use Rattle.std.specs.Prelude.{List}
-use Rattle.mm_store.specs.declared.edit.Edit.{Edit}
+use Rattle.std.specs.Prelude.{◌≡◌, List}
+use Rattle.mm_row_order.specs.Refs.{Slots}
+use Rattle.mm_store.specs.Edits.{rows_come}
+use Rattle.mm_tables.specs.declared.edit.Edit.{Edit}
 use Rattle.mm_delta.specs.declared.overlay.Overlay.{Overlay}
 use Rattle.mm_delta.specs.declared.overlay.Overlay.TheVariants.{Listed, Indexed}
 
 -- The edits, as a list or as those that are indexed.
 abbrev pub overlay_edits : Overlay → List Edit
 overlay_edits (Listed edits) = edits.now
-overlay_edits (Indexed index) = index.now
+overlay_edits (Indexed index) = index.now.edits
+
+-- The rows that were read of the edits, if they are indexed, are those that they bring.
+abbrev pub IsReadOf : Slots → Overlay → Type 0
+IsReadOf now (Listed edits) = Unit {0}
+IsReadOf now (Indexed index) = index.now.come ≡ rows_come now index.now.edits

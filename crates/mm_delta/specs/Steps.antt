@@ -5,13 +5,13 @@ use Rattle.std.specs.List.{AllByRecursion, list_any, sum_by}
 use Rattle.std.specs.Option.{option_map}
 use Rattle.mm_tables.specs.Edits.{same_ref}
 use Rattle.mm_partition.specs.Places.{slot_at}
-use Rattle.mm_store.specs.RowEdits.{new_row}
-use Rattle.mm_row_order.specs.Refs.{row_at}
+use Rattle.mm_store.specs.Edits.{AreReady, new_slot}
+use Rattle.mm_row_order.specs.Refs.{Slots, row_at}
 use Rattle.mm_indexed.specs.Kept.{StoredRows}
-use Rattle.mm_store.specs.declared.edit.Edit.{Edit}
-use Rattle.mm_store.specs.declared.edit.Edit.TheVariants.{Add, Swap, Gone}
+use Rattle.mm_tables.specs.declared.edit.Edit.{Edit}
+use Rattle.mm_tables.specs.declared.edit.Edit.TheVariants.{Delete, Insert, Move, Stage, Update}
 use Rattle.mm_store.specs.Looked.{IsIndexOn}
-use Rattle.mm_store.specs.Tables.{AreFit, IsAt, Tables}
+use Rattle.mm_store.specs.Tables.{IsAt, Tables}
 use Rattle.mm_value.specs.declared.row_ref.RowRef.{RowRef}
 use Rattle.mm_value.specs.declared.values.Value.{Value}
 use Rattle.mm_query.specs.Queries.{Partial}
@@ -25,9 +25,11 @@ use Rattle.mm_delta.specs.declared.look_up.LookUp.{LookUp}
 
 -- The edit takes the row of a reference away, or puts another one in its place.
 abbrev pub takes : RowRef → Edit → Bool
-takes at (Add row) = false
-takes at (Swap other row) = same_ref other at
-takes at (Gone other) = same_ref other at
+takes at (Stage other) = false
+takes at (Insert other) = false
+takes at (Update old other) = same_ref old at
+takes at (Move old other) = same_ref old at
+takes at (Delete old) = same_ref old at
 
 -- No edit does so.
 abbrev pub stays : List Edit → RowRef → Bool
@@ -41,9 +43,9 @@ asked look_up = option_map (λ (l : LookUp). (l.column, value_wanted l.wanted)) 
 abbrev pub IsServed : Tables → ℕ → LookUp → Type 0
 IsServed store table look_up = (stored : StoredRows) → IsAt store table stored → IsIndexOn stored look_up.column look_up.index
 
--- The edits of each table fit it.
+-- The edits of each table may be made together in it.
 abbrev pub EachFit : Tables → List TableChange → Type 0
-EachFit store changes = (table : ℕ) (stored : StoredRows) → IsAt store table stored → AreFit stored (edits_at changes table)
+EachFit store changes = (table : ℕ) (stored : StoredRows) → IsAt store table stored → AreReady stored (edits_at changes table)
 
 -- Each of the places is one of FROM, and its table is there.
 abbrev pub HasTables : List ℕ → Tables → List ℕ → Type 0
@@ -65,7 +67,7 @@ row_reads query store changes tables skipped k row =
 abbrev pub term_reads : BoundQuery → Tables → List TableChange → List ℕ → (ℕ → List Value → Bool) → ℕ → ℕ
 term_reads query store changes tables skipped k =
     sum_by (λ row. 1 + row_reads query store changes tables skipped k row)
-    (gone_at store changes (get_or tables k 0) ++ come_at changes (get_or tables k 0))
+    (gone_at store changes (get_or tables k 0) ++ come_at store changes (get_or tables k 0))
 
 -- The edits of a table that count at a place while place k has an edited row: all of them before it, and none behind it.
 abbrev pub edits_walked : List TableChange → ℕ → ℕ → ℕ → List Edit
@@ -81,8 +83,8 @@ kept_if test None = None
 kept_if test (Some row) = if test row then Some row else None
 
 -- The row that an edit brings, where it has what is required.
-abbrev pub coming : Option Required → Edit → Option (List Value)
-coming required edit = kept_if (passes required) (new_row edit)
+abbrev pub coming : Option Required → Slots → Edit → Option (List Value)
+coming required now edit = kept_if (passes required) (option_map (row_at now) (new_slot edit))
 
 -- These references of a table are those of its rows that have what is required, each once.
 abbrev pub IsFoundOf : Option Required → StoredRows → List RowRef → Type 0

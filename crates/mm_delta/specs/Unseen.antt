@@ -11,8 +11,8 @@ use Rattle.mm_query.specs.declared.atom.Atom.{Atom}
 use Rattle.mm_query.specs.declared.bound_query.BoundQuery.{BoundQuery}
 use Rattle.mm_query.specs.declared.bound_query.FieldPlace.{FieldPlace}
 use Rattle.mm_row_order.specs.Refs.{Slots, row_at}
-use Rattle.mm_store.specs.declared.edit.Edit.{Edit}
-use Rattle.mm_store.specs.declared.edit.Edit.TheVariants.{Add, Swap, Gone}
+use Rattle.mm_tables.specs.declared.edit.Edit.{Edit}
+use Rattle.mm_tables.specs.declared.edit.Edit.TheVariants.{Delete, Insert, Move, Stage, Update}
 
 -- Two rows have the same value in the column of a field, if it is a field of this place of FROM.
 abbrev pub agree_in : ℕ → List Value → List Value → FieldPlace → Bool
@@ -26,14 +26,22 @@ agree_for place a b atom = agree_in place a b atom.left && option_map_or (agree_
 abbrev pub looks_alike : BoundQuery → ℕ → List Value → List Value → Bool
 looks_alike query place a b = list_all (agree_for place a b) query.atoms && list_all (agree_in place a b) query.fields
 
+-- The one row at a place of FROM, unless the query makes the same of the other.
+abbrev pub unless_alike : BoundQuery → ℕ → List Value → List Value → List Value → Option (List Value)
+unless_alike query place a b row = if looks_alike query place a b then None else Some row
+
 -- The row that goes by an edit, unless one comes in its place of which the query makes the same.
 abbrev pub gone_seen : BoundQuery → ℕ → Slots → Edit → Option (List Value)
-gone_seen query place now (Add row) = None
-gone_seen query place now (Swap at row) = if looks_alike query place (row_at now at) row then None else Some (row_at now at)
-gone_seen query place now (Gone at) = Some (row_at now at)
+gone_seen query place now (Stage at) = None
+gone_seen query place now (Insert at) = None
+gone_seen query place now (Update at other) = unless_alike query place (row_at now at) (row_at now other) (row_at now at)
+gone_seen query place now (Move at other) = unless_alike query place (row_at now at) (row_at now other) (row_at now at)
+gone_seen query place now (Delete at) = Some (row_at now at)
 
 -- The row that comes by an edit, unless it comes in the place of one of which the query makes the same.
 abbrev pub come_seen : BoundQuery → ℕ → Slots → Edit → Option (List Value)
-come_seen query place now (Add row) = Some row
-come_seen query place now (Swap at row) = if looks_alike query place (row_at now at) row then None else Some row
-come_seen query place now (Gone at) = None
+come_seen query place now (Stage at) = None
+come_seen query place now (Insert at) = Some (row_at now at)
+come_seen query place now (Update at other) = unless_alike query place (row_at now at) (row_at now other) (row_at now other)
+come_seen query place now (Move at other) = unless_alike query place (row_at now at) (row_at now other) (row_at now other)
+come_seen query place now (Delete at) = None

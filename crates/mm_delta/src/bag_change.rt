@@ -20,8 +20,9 @@ use std::alloc::{AllocError, Global};
 
 /// By how much the count of each row in a query's bag changes when tables are edited: one entry for each row whose count
 /// changes, and none for any other. `tables` are the store's places of the tables of FROM, at most 4, in their order; the edits
-/// of each table fit it, and are not made yet; no atom adds a number to a text. From each table only deleted rows are read,
-/// and rows that may combine with an edited row. If a cycle shows that no combination with an edited row fits, none is read for it.
+/// of each table may be made together, and are not made yet: the rows that come are staged; no atom adds a number to a text. From each
+/// table only deleted rows are read, and rows that may combine with an edited row. If a cycle shows that no combination with an edited
+/// row fits, none is read for it. Looking at a staged row is not counted as a read.
 /// `AllocError` where memory is refused; nothing but the count of reads has changed then.
 pub fn delta<'c, 'a: 'c>(
     alloc: Global,

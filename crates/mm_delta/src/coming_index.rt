@@ -1,18 +1,16 @@
 //! The rows that edits bring, by their values in a column.
 ghost use Rattle.std.specs.Prelude.{◌≡◌, ◌++◌, [], ◌∷◌, false, if◌then◌else◌, map, true, List, IfOk, OnOk, Some};
-ghost use Rattle.std.specs.List.{cons_option};
-ghost use Rattle.mm_partition.specs.Reads.{row_read};
+ghost use Rattle.mm_partition.specs.Views.{viewed};
 ghost use Rattle.mm_value.specs.Equality.{same_value};
 ghost use Rattle.mm_value.specs.declared.values.Value.{Value as AnyValue};
+ghost use Rattle.mm_delta.specs.Candidates.{having};
 ghost use Rattle.mm_delta.specs.EditIndex.{AreUnder, HasNonePast, rows_under};
-ghost use Rattle.mm_delta.specs.Steps.{coming};
 ghost use Rattle.mm_delta.specs.Wanted.{value_wanted};
 
-use crate::edited::row_come;
+use crate::known::value_in;
 use crate::wanted::{Wanted, number_value};
 use indexmap::IndexMap;
-use mm_partition::RowRead;
-use mm_store::Edit;
+use mm_partition::RowView;
 use mm_value::Value;
 use std::alloc::{AllocError, Global};
 
@@ -21,24 +19,24 @@ use std::alloc::{AllocError, Global};
 pub(crate) struct ComingIndex<'c> {
     /// The column by whose values the rows are found, counted from 0.
     pub(crate) column: usize,
-    /// The rows under each value, in the order of the edits.
-    pub(crate) rows: IndexMap<Value, Vec<RowRead<'c>>>,
+    /// The rows under each value, in the order of their edits.
+    pub(crate) rows: IndexMap<Value, Vec<RowView<'c>>>,
 }
 
 impl<'c> ComingIndex<'c> {
     /// An index on a column over the rows that edits bring. `AllocError` where memory is refused.
     pub(crate) fn new(
         alloc: Global,
-        edits: &'c [Edit],
+        come: &[RowView<'c>],
         column: usize,
     ) -> Result<ComingIndex<'c>, AllocError>
         ensures column { IfOk result (λ index. index.column ≡ column) }
-        ensures rows { IfOk result (λ index. AreUnder column edits.now index.rows.entries) }
+        ensures rows { IfOk result (λ index. AreUnder column (map viewed come.now) index.rows.entries) }
         ensures past { IfOk result (λ index. HasNonePast index.rows.entries) }
     {
         let mut rows = IndexMap::new(alloc);
-        for edit in edits {
-            add_edit(alloc, &mut rows, column, edit)?;
+        for row in come {
+            add_coming(alloc, &mut rows, column, *row)?;
         }
         Ok(ComingIndex { column, rows })
     }
@@ -47,9 +45,9 @@ impl<'c> ComingIndex<'c> {
     pub(crate) fn add_rows(
         &self,
         value: &Value,
-        rows: &mut Vec<RowRead<'c>>,
+        rows: &mut Vec<RowView<'c>>,
     ) -> Result<(), AllocError>
-        ensures { OnOk result (map row_read rows.new.items ≡ map row_read rows.old.items ++ rows_under value.now self.now.rows.entries) }
+        ensures { OnOk result (map viewed rows.new.items ≡ map viewed rows.old.items ++ rows_under value.now self.now.rows.entries) }
     {
         if let Some(found) = self.rows.get(value) {
             rows.extend_from_slice(found)?;
@@ -61,10 +59,10 @@ impl<'c> ComingIndex<'c> {
     pub(crate) fn add_wanted(
         &self,
         wanted: &Wanted,
-        rows: &mut Vec<RowRead<'c>>,
+        rows: &mut Vec<RowView<'c>>,
     ) -> Result<(), AllocError>
         requires { HasNonePast self.now.rows.entries }
-        ensures { OnOk result (map row_read rows.new.items ≡ map row_read rows.old.items ++ rows_under (value_wanted wanted.now) self.now.rows.entries) }
+        ensures { OnOk result (map viewed rows.new.items ≡ map viewed rows.old.items ++ rows_under (value_wanted wanted.now) self.now.rows.entries) }
     {
         match wanted {
             Wanted::Value(value) => self.add_rows(value, rows),
@@ -76,55 +74,49 @@ impl<'c> ComingIndex<'c> {
     }
 }
 
-/// Puts the row that an edit brings, if it does, behind those under its value in a column. `AllocError` where memory is refused.
-fn add_edit<'c>(
+/// Puts a row behind those under its value in a column. `AllocError` where memory is refused.
+fn add_coming<'c>(
     alloc: Global,
-    rows: &mut IndexMap<Value, Vec<RowRead<'c>>>,
+    rows: &mut IndexMap<Value, Vec<RowView<'c>>>,
     column: usize,
-    edit: &'c Edit,
+    row: RowView<'c>,
 ) -> Result<(), AllocError>
     ensures added { OnOk result ((value : AnyValue) → rows_under value rows.new.entries
-        ≡ rows_under value rows.old.entries ++ cons_option (coming (Some (column, value)) edit.now) []) }
+        ≡ rows_under value rows.old.entries ++ having (Some (column, value)) (viewed row.entry ∷ [])) }
     ensures past { OnOk result (HasNonePast rows.old.entries → HasNonePast rows.new.entries) }
 {
-    let zero = Value::Int(0);
-    match row_come(edit) {
-        Some(row) => {
-            let value = row.get(column).unwrap_or(&zero);
-            value.is_storable();
-            add_row(alloc, rows, value, RowRead::Owned(row))
-        }
-        None => Ok(()),
-    }
+    let value = value_in(row, column).copy(alloc)?;
+    value.is_storable();
+    add_row(alloc, rows, value, row)
 }
 
 /// Puts a row behind those under a value. `AllocError` where memory is refused.
 fn add_row<'c>(
     alloc: Global,
-    rows: &mut IndexMap<Value, Vec<RowRead<'c>>>,
-    value: &Value,
-    row: RowRead<'c>,
+    rows: &mut IndexMap<Value, Vec<RowView<'c>>>,
+    value: Value,
+    row: RowView<'c>,
 ) -> Result<(), AllocError>
     ensures { OnOk result ((other : AnyValue) → rows_under other rows.new.entries
-        ≡ rows_under other rows.old.entries ++ (if same_value value.now other then row_read row.entry ∷ [] else [])) }
+        ≡ rows_under other rows.old.entries ++ (if same_value value other then viewed row.entry ∷ [] else [])) }
 {
-    if add_found(rows, value, row)? {
+    if add_found(rows, &value, row)? {
         return Ok(());
     }
     let mut list = Vec::new(alloc);
     list.push(row)?;
-    rows.insert(value.copy(alloc)?, list)?;
+    rows.insert(value, list)?;
     Ok(())
 }
 
 /// Puts a row behind those under a value where that has an entry, and tells whether it has. `AllocError` where memory is refused.
 fn add_found<'c>(
-    rows: &mut IndexMap<Value, Vec<RowRead<'c>>>,
+    rows: &mut IndexMap<Value, Vec<RowView<'c>>>,
     value: &Value,
-    row: RowRead<'c>,
+    row: RowView<'c>,
 ) -> Result<bool, AllocError>
     ensures added { IfOk result (λ found. found ≡ true → (other : AnyValue) → rows_under other rows.new.entries
-        ≡ rows_under other rows.old.entries ++ (if same_value value.now other then row_read row.entry ∷ [] else [])) }
+        ≡ rows_under other rows.old.entries ++ (if same_value value.now other then viewed row.entry ∷ [] else [])) }
     ensures absent { IfOk result (λ found. found ≡ false → rows_under value.now rows.old.entries ≡ []) }
     ensures kept { IfOk result (λ found. found ≡ false → rows.new ≡ rows.old) }
 {

@@ -1,18 +1,24 @@
 //! What is found by hash among the edits of a table.
-ghost use Rattle.std.specs.Prelude.{◌≡◌, ◌++◌, ◌||◌, eqb, filter, filter_map, map, All, IfOk, IfSome, OnOk};
+ghost use Rattle.std.specs.Prelude.{◌≡◌, ◌++◌, ◌<◌, ◌||◌, eqb, filter, length, map, All, IfOk, IfSome, OnOk};
 ghost use Rattle.std.specs.List.{list_any};
-ghost use Rattle.mm_partition.specs.Reads.{row_read};
+ghost use Rattle.mm_partition.specs.Views.{viewed};
+ghost use Rattle.mm_indexed.specs.Kept.{StoredRows};
+ghost use Rattle.mm_partition.specs.Places.{slot_at};
+ghost use Rattle.mm_store.specs.Edits.{AreReady, rows_come};
+ghost use Rattle.mm_store.specs.Tables.{IsAt};
 ghost use Rattle.mm_value.specs.declared.row_ref.RowRef.{RowRef as Reference};
+ghost use Rattle.mm_delta.specs.Candidates.{having};
 ghost use Rattle.mm_delta.specs.EditIndex.{AreGone, AreUnder, HasNonePast};
-ghost use Rattle.mm_delta.specs.Steps.{asked, coming, stays, takes};
+ghost use Rattle.mm_delta.specs.Steps.{asked, stays, takes};
 
 use crate::coming_index::ComingIndex;
 use crate::edited::row_gone;
 use crate::look_up::LookUp;
-use crate::rows::add_coming;
+use crate::rows::{add_coming, add_fitting};
 use indexmap::IndexSet;
-use mm_partition::RowRead;
-use mm_store::Edit;
+use mm_partition::RowView;
+use mm_store::View;
+use mm_tables::Edit;
 use mm_value::RowRef;
 use std::alloc::{AllocError, Global};
 use std::marker::Model;
@@ -22,48 +28,62 @@ use std::marker::Model;
 pub(crate) struct EditIndex<'c> {
     edits: &'c [Edit],
     gone: IndexSet<u32>,
+    /// The rows that come, in the order of their edits.
+    come: Vec<RowView<'c>>,
     coming: Vec<ComingIndex<'c>>,
 }
 
 impl<'c> Model for EditIndex<'c> {
-    ghost use Rattle.std.specs.Prelude.{List, All};
-    ghost use Rattle.mm_store.specs.declared.edit.Edit.{Edit as AnyEdit};
-    ghost use Rattle.mm_delta.specs.EditIndex.{AreGone, AreUnder, HasNonePast};
+    ghost use Rattle.std.specs.Prelude.{All, map};
+    ghost use Rattle.mm_partition.specs.Views.{viewed};
+    ghost use Rattle.mm_delta.specs.EditIndex.{AreGone, AreUnder, HasNonePast, ReadEdits};
 
-    ghost Value = { List AnyEdit };
+    ghost Value = { ReadEdits };
 
-    ghost view = { λ e. e.edits.now };
+    ghost view = { λ e. record { edits = e.edits.now; come = map viewed e.come.items } };
 
-    ghost invariant = { λ e. AreGone e.edits.now e.gone.keys × All (λ index. AreUnder index.column e.edits.now index.rows.entries) e.coming.items
+    ghost invariant = { λ e. AreGone e.edits.now e.gone.keys × All (λ index. AreUnder index.column (map viewed e.come.items) index.rows.entries) e.coming.items
         × All (λ index. HasNonePast index.rows.entries) e.coming.items };
 }
 
 impl<'c> EditIndex<'c> {
-    /// Edits with a hash index on each of these columns over the rows that come. `AllocError` where memory is refused.
-    pub(crate) fn new(
+    /// Edits of a table, of which the rows that come are staged, with a hash index on each of these columns over the rows that come. No
+    /// row is counted as read. `AllocError` where memory is refused.
+    pub(crate) fn new<'a: 'c>(
         alloc: Global,
+        view: &View<'a>,
+        table: usize,
         edits: &'c [Edit],
         columns: &[usize],
     ) -> Result<EditIndex<'c>, AllocError>
-        ensures { IfOk result (λ index. index ≡ edits.now) }
+        requires there { table < length view.now.store.tables }
+        requires ready { (stored : StoredRows) → IsAt view.now.store table stored → AreReady stored edits.now }
+        ensures edits { IfOk result (λ index. index.edits ≡ edits.now) }
+        ensures come { IfOk result (λ index. (stored : StoredRows) → IsAt view.now.store table stored
+            → index.come ≡ rows_come (slot_at stored.places) edits.now) }
     {
+        let gone = references_of_gone(alloc, edits)?;
+        let mut come = Vec::new(alloc);
+        add_coming(view, table, &mut come, edits, &None)?;
+        let coming = coming_by(alloc, &come, columns)?;
         Ok(EditIndex {
             edits,
-            gone: references_of_gone(alloc, edits)?,
-            coming: coming_by(alloc, edits, columns)?,
+            gone,
+            come,
+            coming,
         })
     }
 
     /// Whether no edit takes the row of this reference away.
     fn stays(&self, at: RowRef) -> bool
-        ensures { result ≡ stays self.now at }
+        ensures { result ≡ stays self.now.edits at }
     {
         !self.gone.contains(&at.slot)
     }
 
     /// Leaves out the references of which an edit takes the row away.
     pub(crate) fn leave_standing(&self, refs: &mut Vec<RowRef>)
-        ensures { refs.new.items ≡ filter (stays self.now) refs.old.items }
+        ensures { refs.new.items ≡ filter (stays self.now.edits) refs.old.items }
     {
         refs.retain(|at| self.stays(*at));
     }
@@ -71,7 +91,7 @@ impl<'c> EditIndex<'c> {
     /// The index on a column over the rows that come, if there is one.
     fn coming_on(&self, column: usize) -> Option<&ComingIndex<'c>>
         ensures column { IfSome result (λ index. index.now.column ≡ column) }
-        ensures rows { IfSome result (λ index. AreUnder column self.now index.now.rows.entries) }
+        ensures rows { IfSome result (λ index. AreUnder column self.now.come index.now.rows.entries) }
         ensures past { IfSome result (λ index. HasNonePast index.now.rows.entries) }
     {
         for index in &self.coming {
@@ -82,21 +102,21 @@ impl<'c> EditIndex<'c> {
         None
     }
 
-    /// Adds those of the rows that come that have what a look-up requires, in the order of the edits. No edit is gone over where
+    /// Adds those of the rows that come that have what a look-up requires, in the order of the edits. They are not gone over where
     /// there is an index on the column of the look-up. `AllocError` where memory is refused.
     pub(crate) fn add_coming(
         &self,
-        rows: &mut Vec<RowRead<'c>>,
+        rows: &mut Vec<RowView<'c>>,
         look_up: &Option<LookUp>,
     ) -> Result<(), AllocError>
-        ensures { OnOk result (map row_read rows.new.items ≡ map row_read rows.old.items ++ filter_map (coming (asked look_up.now)) self.now) }
+        ensures { OnOk result (map viewed rows.new.items ≡ map viewed rows.old.items ++ having (asked look_up.now) self.now.come) }
     {
         if let Some(look_up) = look_up {
             if let Some(index) = self.coming_on(look_up.column) {
                 return index.add_wanted(&look_up.wanted, rows);
             }
         }
-        add_coming(rows, self.edits, look_up)
+        add_fitting(rows, &self.come, look_up)
     }
 }
 
@@ -124,15 +144,15 @@ fn add_gone(gone: &mut IndexSet<u32>, edit: &Edit) -> Result<(), AllocError>
 /// A hash index on each of these columns over the rows that edits bring. `AllocError` where memory is refused.
 fn coming_by<'c>(
     alloc: Global,
-    edits: &'c [Edit],
+    come: &[RowView<'c>],
     columns: &[usize],
 ) -> Result<Vec<ComingIndex<'c>>, AllocError>
-    ensures ok { IfOk result (λ indexes. All (λ index. AreUnder index.column edits.now index.rows.entries) indexes.items) }
+    ensures ok { IfOk result (λ indexes. All (λ index. AreUnder index.column (map viewed come.now) index.rows.entries) indexes.items) }
     ensures past { IfOk result (λ indexes. All (λ index. HasNonePast index.rows.entries) indexes.items) }
 {
     let mut indexes = Vec::new(alloc);
     for column in columns {
-        indexes.push(ComingIndex::new(alloc, edits, *column)?)?;
+        indexes.push(ComingIndex::new(alloc, come, *column)?)?;
     }
     Ok(indexes)
 }

@@ -1,19 +1,18 @@
 //! Edits of tables.
 ghost use Rattle.std.specs.Prelude.{◌≡◌, not};
-ghost use Rattle.std.specs.Option.{option_copied};
-ghost use Rattle.mm_store.specs.RowEdits.{old_ref, new_row};
+ghost use Rattle.mm_store.specs.Edits.{new_slot, old_slot};
 ghost use Rattle.mm_delta.specs.Edited.{edits_at};
 ghost use Rattle.mm_delta.specs.Steps.{stays, takes};
 
-use mm_store::Edit;
-use mm_value::{RowRef, Value};
+use mm_tables::Edit;
+use mm_value::RowRef;
 
 /// The edits of one table.
 #[derive(Drop)]
 pub struct TableChange<'c> {
     /// The table's place in the store.
     pub table: usize,
-    /// What is to be changed of its rows.
+    /// What is to be changed of its rows. The rows that come lie in hidden slots of the table.
     pub edits: &'c [Edit],
 }
 
@@ -31,22 +30,21 @@ pub(crate) fn edits_of<'c>(changes: &[TableChange<'c>], table: usize) -> &'c [Ed
 
 /// The reference of the row that an edit takes away, if any.
 pub fn row_gone(edit: &Edit) -> Option<RowRef>
-    ensures { result ≡ old_ref edit.now }
+    ensures { result ≡ old_slot edit.now }
 {
-    match edit {
-        Edit::Add(_) => None,
-        Edit::Swap(at, _) | Edit::Gone(at) => Some(*at),
+    match *edit {
+        Edit::Stage(_) | Edit::Insert(_) => None,
+        Edit::Update(at, _) | Edit::Move(at, _) | Edit::Delete(at) => Some(at),
     }
 }
 
-/// The values of the row that an edit brings, if any.
-pub(crate) fn row_come(edit: &Edit) -> Option<&[Value]>
-    ensures { option_copied result ≡ new_row edit.now }
+/// The reference of the row that an edit brings, if any.
+pub(crate) fn row_come(edit: &Edit) -> Option<RowRef>
+    ensures { result ≡ new_slot edit.now }
 {
-    match edit {
-        Edit::Add(tuple) => Some(tuple.values()),
-        Edit::Swap(_, row) => Some(row.values()),
-        Edit::Gone(_) => None,
+    match *edit {
+        Edit::Stage(_) | Edit::Delete(_) => None,
+        Edit::Insert(at) | Edit::Update(_, at) | Edit::Move(_, at) => Some(at),
     }
 }
 
@@ -54,9 +52,9 @@ pub(crate) fn row_come(edit: &Edit) -> Option<&[Value]>
 fn takes(at: RowRef, edit: &Edit) -> bool
     ensures { result ≡ takes at edit.now }
 {
-    match edit {
-        Edit::Add(_) => false,
-        Edit::Swap(other, _) | Edit::Gone(other) => *other == at,
+    match *edit {
+        Edit::Stage(_) | Edit::Insert(_) => false,
+        Edit::Update(old, _) | Edit::Move(old, _) | Edit::Delete(old) => old == at,
     }
 }
 

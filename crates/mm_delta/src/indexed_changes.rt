@@ -1,14 +1,20 @@
 //! The edits of tables, with what is found among them by hash.
 ghost use Rattle.std.specs.Prelude.{◌≡◌, ◌<◌, length, All, IfOk};
-ghost use Rattle.mm_delta.specs.Overlay.{overlay_edits};
+ghost use Rattle.mm_indexed.specs.Kept.{StoredRows};
+ghost use Rattle.mm_partition.specs.Places.{slot_at};
+ghost use Rattle.mm_store.specs.Tables.{IsAt, Tables};
+ghost use Rattle.mm_delta.specs.Changes.{AreOf};
+ghost use Rattle.mm_delta.specs.Overlay.{IsReadOf, overlay_edits};
 ghost use Rattle.mm_delta.specs.Edited.{edits_at};
+ghost use Rattle.mm_delta.specs.Steps.{EachFit};
 
 use crate::asked_columns::asked_columns;
 use crate::edit_index::EditIndex;
 use crate::edited::{TableChange, edits_of};
 use crate::overlay::Overlay;
 use mm_query::BoundQuery;
-use mm_store::{Edit, View};
+use mm_store::View;
+use mm_tables::Edit;
 use std::alloc::{AllocError, Global};
 use std::marker::Model;
 
@@ -32,36 +38,38 @@ pub(crate) struct IndexedChanges<'c> {
 }
 
 impl<'c> Model for IndexedChanges<'c> {
-    ghost use Rattle.std.specs.Prelude.{◌≡◌, List, All};
+    ghost use Rattle.std.specs.Prelude.{◌≡◌, All, map};
+    ghost use Rattle.mm_delta.specs.Changes.{ReadChanges};
     ghost use Rattle.mm_delta.specs.Edited.{edits_at};
-    ghost use Rattle.mm_delta.specs.declared.edited.TableChange.{TableChange as Edits};
 
-    ghost Value = { List Edits };
+    ghost Value = { ReadChanges };
 
-    ghost view = { λ c. c.changes.now };
+    ghost view = { λ c. record { edits = c.changes.now; come = map (λ found. (found.table, found.index.come)) c.indexes.items } };
 
-    ghost invariant = { λ c. All (λ found. found.index ≡ edits_at c.changes.now found.table) c.indexes.items };
+    ghost invariant = { λ c. All (λ found. found.index.edits ≡ edits_at c.changes.now found.table) c.indexes.items };
 }
 
 impl<'c> IndexedChanges<'c> {
     /// The edits of tables. Those of a table have hash indexes where a row that is edited meets them row by row: where the table
     /// stands in FROM before a place whose table is changed too. A few edits have none. `AllocError` where memory is refused.
-    pub(crate) fn new(
+    pub(crate) fn new<'a: 'c>(
         alloc: Global,
-        view: &View<'_>,
+        view: &View<'a>,
         query: &BoundQuery,
         tables: &[usize],
         changes: &'c [TableChange<'c>],
     ) -> Result<IndexedChanges<'c>, AllocError>
-        requires { All (λ table. table < length view.now.store.tables) tables.now }
-        ensures { IfOk result (λ indexed. indexed ≡ changes.now) }
+        requires there { All (λ table. table < length view.now.store.tables) tables.now }
+        requires fit { EachFit view.now.store changes.now }
+        ensures edits { IfOk result (λ indexed. indexed.edits ≡ changes.now) }
+        ensures read { IfOk result (λ indexed. AreOf view.now.store indexed) }
     {
         let mut indexes: Vec<TableIndex<'c>> = Vec::new(alloc);
         for place in 0..tables.len() {
             let table = tables[place];
             if is_met(changes, tables, place) && !indexes.iter().any(|found| found.table == table) {
                 let columns = asked_columns(alloc, view, query, tables, table)?;
-                let index = EditIndex::new(alloc, edits_of(changes, table), &columns)?;
+                let index = EditIndex::new(alloc, view, table, edits_of(changes, table), &columns)?;
                 indexes.push(TableIndex { table, index })?;
             }
         }
@@ -70,14 +78,16 @@ impl<'c> IndexedChanges<'c> {
 
     /// The edits of a table.
     pub(crate) fn edits_of(&self, table: usize) -> &'c [Edit]
-        ensures { result.now ≡ edits_at self.now table }
+        ensures { result.now ≡ edits_at self.now.edits table }
     {
         edits_of(self.changes, table)
     }
 
     /// The edits of a table, by hash indexes if it has them.
     pub(crate) fn overlay(&self, table: usize) -> Overlay<'_, 'c>
-        ensures { overlay_edits result ≡ edits_at self.now table }
+        ensures edits { overlay_edits result ≡ edits_at self.now.edits table }
+        ensures read { (store : Tables) (stored : StoredRows) → AreOf store self.now → IsAt store table stored
+            → IsReadOf (slot_at stored.places) result }
     {
         for found in &self.indexes {
             if found.table == table {

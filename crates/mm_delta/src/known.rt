@@ -2,21 +2,21 @@
 ghost use Rattle.std.specs.Prelude.{◌≡◌, ◌-ℤ◌, pos, map, IfOk};
 ghost use Rattle.std.specs.Option.{option_map};
 ghost use Rattle.mm_value.specs.Views.{value_of};
-ghost use Rattle.mm_partition.specs.Reads.{row_read};
+ghost use Rattle.mm_partition.specs.Views.{viewed};
 ghost use Rattle.mm_value.specs.declared.values.Value.TheVariants.{Int};
 ghost use Rattle.mm_query.specs.Atoms.{operand_of, shifted, value_in};
 ghost use Rattle.mm_query.specs.Queries.{rows_read, value_at};
 ghost use Rattle.mm_delta.specs.Wanted.{value_wanted};
 
 use crate::wanted::Wanted;
-use mm_partition::RowRead;
+use mm_partition::RowView;
 use mm_query::{FieldPlace, Operand};
 use mm_value::{Value, ValueRef};
 use std::alloc::{AllocError, Global};
 
 /// The value of a row in a column, and 0 past its end.
-pub(crate) fn value_in<'v>(row: RowRead<'v>, column: usize) -> ValueRef<'v>
-    ensures { value_of result ≡ value_in column (row_read row.entry) }
+pub(crate) fn value_in<'v>(row: RowView<'v>, column: usize) -> ValueRef<'v>
+    ensures { value_of result ≡ value_in column (viewed row.entry) }
 {
     match row.get(column) {
         Some(value) => value,
@@ -26,10 +26,10 @@ pub(crate) fn value_in<'v>(row: RowRead<'v>, column: usize) -> ValueRef<'v>
 
 /// The value of a field, where its place has a row. A row that ends before the column reads as 0.
 pub(crate) fn field_value<'v>(
-    rows: &[Option<RowRead<'v>>],
+    rows: &[Option<RowView<'v>>],
     field: FieldPlace,
 ) -> Option<ValueRef<'v>>
-    ensures { option_map value_of result ≡ value_at (rows_read row_read rows.now) field }
+    ensures { option_map value_of result ≡ value_at (rows_read viewed rows.now) field }
 {
     match rows.get(field.place) {
         Some(Some(row)) => Some(value_in(*row, field.column)),
@@ -84,9 +84,9 @@ pub(crate) fn lowered(
 pub(crate) fn known_operand(
     alloc: Global,
     operand: &Operand<FieldPlace>,
-    rows: &[Option<RowRead<'_>>],
+    rows: &[Option<RowView<'_>>],
 ) -> Result<Option<Wanted>, AllocError>
-    ensures { IfOk result (λ value. option_map value_wanted value ≡ operand_of (value_at (rows_read row_read rows.now)) operand.now) }
+    ensures { IfOk result (λ value. option_map value_wanted value ≡ operand_of (value_at (rows_read viewed rows.now)) operand.now) }
 {
     match operand {
         Operand::Literal(value) => Ok(Some(Wanted::Value(value.copy(alloc)?))),

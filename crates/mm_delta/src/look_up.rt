@@ -1,6 +1,6 @@
 //! By which index the rows at a place are found.
 ghost use Rattle.std.specs.Prelude.{◌≡◌, ◌<◌, length, map, is_some, IfOk, IfSome};
-ghost use Rattle.mm_partition.specs.Reads.{row_read};
+ghost use Rattle.mm_partition.specs.Views.{viewed};
 ghost use Rattle.mm_indexed.specs.Kept.{StoredRows};
 ghost use Rattle.mm_store.specs.Looked.{IsIndexOn};
 ghost use Rattle.mm_store.specs.Tables.{IsAt};
@@ -12,7 +12,7 @@ ghost use Rattle.mm_delta.specs.Steps.{IsServed, asked};
 
 use crate::known::{copied, field_value, known_operand, lowered};
 use crate::wanted::Wanted;
-use mm_partition::RowRead;
+use mm_partition::RowView;
 use mm_query::{Atom, Comparison, FieldPlace, Operand};
 use mm_store::{IndexRef, View};
 use std::alloc::{AllocError, Global};
@@ -38,7 +38,7 @@ pub(crate) struct Site<'s, 'a> {
     /// Its place in FROM.
     pub(crate) place: usize,
     /// The rows that are there at the other places.
-    pub(crate) rows: &'s [Option<RowRead<'s>>],
+    pub(crate) rows: &'s [Option<RowView<'s>>],
 }
 
 impl Site<'_, '_> {
@@ -55,7 +55,7 @@ impl Site<'_, '_> {
     fn by_left(&self, alloc: Global, atom: &Atom<FieldPlace>) -> Result<Option<LookUp>, AllocError>
         requires { self.now.table < length self.now.view.now.store.tables }
         ensures ok { IfOk result (λ found. asked found ≡ asked_of (has_index self.now.view.now.store self.now.table) self.now.place atom.now.left
-            (operand_of (value_at (rows_read row_read self.now.rows.now)) atom.now.right)) }
+            (operand_of (value_at (rows_read viewed self.now.rows.now)) atom.now.right)) }
         ensures served { IfOk result (λ found. IfSome found (IsServed self.now.view.now.store self.now.table)) }
     {
         if atom.left.place != self.place {
@@ -79,7 +79,7 @@ impl Site<'_, '_> {
     fn by_right(&self, alloc: Global, atom: &Atom<FieldPlace>) -> Result<Option<LookUp>, AllocError>
         requires { self.now.table < length self.now.view.now.store.tables }
         ensures ok { IfOk result (λ found. asked found ≡ asked_of_right (has_index self.now.view.now.store self.now.table) self.now.place
-            (value_at (rows_read row_read self.now.rows.now) atom.now.left) atom.now.right) }
+            (value_at (rows_read viewed self.now.rows.now) atom.now.left) atom.now.right) }
         ensures served { IfOk result (λ found. IfSome found (IsServed self.now.view.now.store self.now.table)) }
     {
         let (field, by) = match &atom.right {
@@ -110,7 +110,7 @@ impl Site<'_, '_> {
     fn by_atom(&self, alloc: Global, atom: &Atom<FieldPlace>) -> Result<Option<LookUp>, AllocError>
         requires { self.now.table < length self.now.view.now.store.tables }
         ensures ok { IfOk result (λ found. asked found ≡ asked_by (has_index self.now.view.now.store self.now.table) self.now.place
-            (rows_read row_read self.now.rows.now) atom.now atom.now.comparison) }
+            (rows_read viewed self.now.rows.now) atom.now atom.now.comparison) }
         ensures served { IfOk result (λ found. IfSome found (IsServed self.now.view.now.store self.now.table)) }
     {
         let Comparison::Equal = atom.comparison else {
@@ -130,7 +130,7 @@ impl Site<'_, '_> {
     ) -> Result<Option<LookUp>, AllocError>
         requires { self.now.table < length self.now.view.now.store.tables }
         ensures ok { IfOk result (λ found. asked found ≡ required (has_index self.now.view.now.store self.now.table) atoms.now
-            (rows_read row_read self.now.rows.now) self.now.place) }
+            (rows_read viewed self.now.rows.now) self.now.place) }
         ensures served { IfOk result (λ found. IfSome found (IsServed self.now.view.now.store self.now.table)) }
     {
         for atom in atoms {

@@ -1,14 +1,20 @@
 //! The edits that count where rows are looked for.
-ghost use Rattle.std.specs.Prelude.{◌≡◌, ◌++◌, filter, filter_map, map, OnOk};
-ghost use Rattle.mm_partition.specs.Reads.{row_read};
-ghost use Rattle.mm_delta.specs.Overlay.{overlay_edits};
-ghost use Rattle.mm_delta.specs.Steps.{asked, coming, stays};
+ghost use Rattle.std.specs.Prelude.{◌≡◌, ◌++◌, ◌<◌, filter, length, map, OnOk};
+ghost use Rattle.mm_indexed.specs.Kept.{StoredRows};
+ghost use Rattle.mm_partition.specs.Places.{slot_at};
+ghost use Rattle.mm_partition.specs.Views.{viewed};
+ghost use Rattle.mm_store.specs.Edits.{AreReady, rows_come};
+ghost use Rattle.mm_store.specs.Tables.{IsAt};
+ghost use Rattle.mm_delta.specs.Candidates.{having};
+ghost use Rattle.mm_delta.specs.Overlay.{IsReadOf, overlay_edits};
+ghost use Rattle.mm_delta.specs.Steps.{asked, stays};
 
 use crate::edit_index::EditIndex;
 use crate::look_up::LookUp;
 use crate::rows::{add_coming, leave_standing};
-use mm_partition::RowRead;
-use mm_store::Edit;
+use mm_partition::RowView;
+use mm_store::View;
+use mm_tables::Edit;
 use mm_value::RowRef;
 use std::alloc::AllocError;
 
@@ -32,16 +38,23 @@ impl<'c> Overlay<'_, 'c> {
         }
     }
 
-    /// Adds those of the rows that the edits bring that have what a look-up requires. `AllocError` where memory is refused.
-    pub(crate) fn add_coming(
+    /// Adds those of the rows that the edits of a table bring that have what a look-up requires, where they lie. No row is counted as
+    /// read. `AllocError` where memory is refused.
+    pub(crate) fn add_coming<'a: 'c>(
         &self,
-        rows: &mut Vec<RowRead<'c>>,
+        view: &View<'a>,
+        table: usize,
+        rows: &mut Vec<RowView<'c>>,
         look_up: &Option<LookUp>,
     ) -> Result<(), AllocError>
-        ensures { OnOk result (map row_read rows.new.items ≡ map row_read rows.old.items ++ filter_map (coming (asked look_up.now)) (overlay_edits self.now)) }
+        requires there { table < length view.now.store.tables }
+        requires ready { (stored : StoredRows) → IsAt view.now.store table stored → AreReady stored (overlay_edits self.now) }
+        requires read { (stored : StoredRows) → IsAt view.now.store table stored → IsReadOf (slot_at stored.places) self.now }
+        ensures { OnOk result ((stored : StoredRows) → IsAt view.now.store table stored → map viewed rows.new.items
+            ≡ map viewed rows.old.items ++ having (asked look_up.now) (rows_come (slot_at stored.places) (overlay_edits self.now))) }
     {
         match self {
-            Overlay::Listed(edits) => add_coming(rows, edits, look_up),
+            Overlay::Listed(edits) => add_coming(view, table, rows, edits, look_up),
             Overlay::Indexed(index) => index.add_coming(rows, look_up),
         }
     }

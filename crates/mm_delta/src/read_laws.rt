@@ -30,14 +30,14 @@ pub fn left_out_rows_are_not_combined()
 /// rows are read. A place with a single edited row reads it, and what it may be combined with.
 pub fn each_edited_row_is_read_once()
     ensures unedited { (query : BoundQuery) (store : Tables) (changes : List TableChange) (tables : List ℕ) (skipped : ℕ → List Value → Bool) (k : ℕ)
-        → gone_at store changes (get_or tables k 0) ≡ [] → come_at changes (get_or tables k 0) ≡ []
+        → gone_at store changes (get_or tables k 0) ≡ [] → come_at store changes (get_or tables k 0) ≡ []
         → term_reads query store changes tables skipped k ≡ 0 }
     ensures left_out { (query : BoundQuery) (store : Tables) (changes : List TableChange) (tables : List ℕ) (skipped : ℕ → List Value → Bool) (k : ℕ)
-        → All (λ row. skipped k row ≡ true) (gone_at store changes (get_or tables k 0) ++ come_at changes (get_or tables k 0))
+        → All (λ row. skipped k row ≡ true) (gone_at store changes (get_or tables k 0) ++ come_at store changes (get_or tables k 0))
         → term_reads query store changes tables skipped k
-        ≡ length (gone_at store changes (get_or tables k 0)) + length (come_at changes (get_or tables k 0)) }
+        ≡ length (gone_at store changes (get_or tables k 0)) + length (come_at store changes (get_or tables k 0)) }
     ensures single { (query : BoundQuery) (store : Tables) (changes : List TableChange) (tables : List ℕ) (skipped : ℕ → List Value → Bool) (k : ℕ) (row : List Value)
-        → gone_at store changes (get_or tables k 0) ++ come_at changes (get_or tables k 0) ≡ row ∷ []
+        → gone_at store changes (get_or tables k 0) ++ come_at store changes (get_or tables k 0) ≡ row ∷ []
         → term_reads query store changes tables skipped k ≡ 1 + row_reads query store changes tables skipped k row }
 {}
 

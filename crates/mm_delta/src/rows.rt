@@ -1,14 +1,16 @@
 //! The rows that are gone over at a place of FROM.
-ghost use Rattle.std.specs.Prelude.{◌≡◌, ◌+◌, ◌++◌, ◌<◌, ◌≤◌, [], filter, filter_map, length, map, All, IfOk, IfSome, None, OnOk, Some};
+ghost use Rattle.std.specs.Prelude.{◌≡◌, ◌+◌, ◌++◌, ◌<◌, ◌≤◌, [], filter, length, map, All, IfOk, IfSome, None, OnOk, Some};
 ghost use Rattle.mm_value.specs.Views.{value_of};
-ghost use Rattle.mm_partition.specs.Reads.{row_read};
+ghost use Rattle.mm_partition.specs.Views.{viewed};
 ghost use Rattle.mm_partition.specs.Places.{IsLive, slot_at};
 ghost use Rattle.std.specs.List.{cons_option};
 ghost use Rattle.std.specs.Option.{option_map};
 ghost use Rattle.mm_indexed.specs.Kept.{StoredRows};
 ghost use Rattle.mm_row_order.specs.Refs.{row_at};
+ghost use Rattle.mm_store.specs.Edits.{AreReady, rows_come};
 ghost use Rattle.mm_store.specs.Tables.{IsAt};
-ghost use Rattle.mm_delta.specs.Candidates.{passes};
+ghost use Rattle.mm_tables.specs.Edits.{Fits};
+ghost use Rattle.mm_delta.specs.Candidates.{having, passes};
 ghost use Rattle.mm_delta.specs.Steps.{IsFoundOf, IsServed, asked, coming, stays};
 ghost use Rattle.mm_delta.specs.Wanted.{value_wanted};
 
@@ -16,8 +18,9 @@ use crate::edited::{row_come, stays};
 use crate::known::value_in;
 use crate::look_up::LookUp;
 use crate::wanted::{Wanted, number_value};
-use mm_partition::RowRead;
-use mm_store::{Edit, IndexRef, View};
+use mm_partition::RowView;
+use mm_store::{IndexRef, View};
+use mm_tables::Edit;
 use mm_value::{RowRef, ValueRef};
 use std::alloc::{AllocError, Global};
 
@@ -106,24 +109,24 @@ pub(crate) fn read_all<'c, 'a: 'c>(
     view: &mut View<'a>,
     table: usize,
     refs: &[RowRef],
-) -> Result<Vec<RowRead<'c>>, AllocError>
+) -> Result<Vec<RowView<'c>>, AllocError>
     requires there { table < length view.old.store.tables }
     requires live { (stored : StoredRows) → IsAt view.old.store table stored → All (IsLive stored.places) refs.now }
     ensures rows { IfOk result (λ rows. (stored : StoredRows) → IsAt view.old.store table stored
-        → map row_read rows.items ≡ map (row_at (slot_at stored.places)) refs.now) }
+        → map viewed rows.items ≡ map (row_at (slot_at stored.places)) refs.now) }
     ensures reads { view.new.reads ≤ view.old.reads + length refs.now }
     ensures same { view.new.store ≡ view.old.store }
 {
     let mut rows = Vec::new(alloc);
     for at in refs {
-        rows.push(RowRead::Stored(view.row(table, *at)))?;
+        rows.push(view.row(table, *at))?;
     }
     Ok(rows)
 }
 
 /// Whether a row has what a look-up requires, if there is one.
-fn fits(look_up: &Option<LookUp>, row: RowRead<'_>) -> bool
-    ensures { result ≡ passes (asked look_up.now) (row_read row.entry) }
+fn fits(look_up: &Option<LookUp>, row: RowView<'_>) -> bool
+    ensures { result ≡ passes (asked look_up.now) (viewed row.entry) }
 {
     match look_up {
         Some(look_up) => look_up.wanted.is(value_in(row, look_up.column)),
@@ -131,19 +134,25 @@ fn fits(look_up: &Option<LookUp>, row: RowRead<'_>) -> bool
     }
 }
 
-/// The row that an edit brings, if it has what a look-up requires.
-fn coming<'c>(edit: &'c Edit, look_up: &Option<LookUp>) -> Option<RowRead<'c>>
-    ensures { option_map row_read result ≡ coming (asked look_up.now) edit.now }
+/// The row that an edit of a table brings, where it lies, if it has what a look-up requires. No row is counted as read.
+fn coming<'c, 'a: 'c>(
+    view: &View<'a>,
+    table: usize,
+    edit: &Edit,
+    look_up: &Option<LookUp>,
+) -> Option<RowView<'c>>
+    requires there { table < length view.now.store.tables }
+    requires ready { (stored : StoredRows) → IsAt view.now.store table stored → Fits stored.key (slot_at stored.places) edit.now }
+    ensures { (stored : StoredRows) → IsAt view.now.store table stored
+        → option_map viewed result ≡ coming (asked look_up.now) (slot_at stored.places) edit.now }
 {
-    match row_come(edit) {
-        Some(row) if fits(look_up, RowRead::Owned(row)) => Some(RowRead::Owned(row)),
-        _ => None,
-    }
+    let row = view.staged_row(table, row_come(edit)?);
+    if fits(look_up, row) { Some(row) } else { None }
 }
 
 /// Adds a row, if there is one. `AllocError` where memory is refused.
-fn push_some<'c>(rows: &mut Vec<RowRead<'c>>, row: Option<RowRead<'c>>) -> Result<(), AllocError>
-    ensures { OnOk result (map row_read rows.new.items ≡ map row_read rows.old.items ++ cons_option (option_map row_read row.entry) []) }
+fn push_some<'c>(rows: &mut Vec<RowView<'c>>, row: Option<RowView<'c>>) -> Result<(), AllocError>
+    ensures { OnOk result (map viewed rows.new.items ≡ map viewed rows.old.items ++ cons_option (option_map viewed row.entry) []) }
 {
     if let Some(row) = row {
         rows.push(row)?;
@@ -151,16 +160,38 @@ fn push_some<'c>(rows: &mut Vec<RowRead<'c>>, row: Option<RowRead<'c>>) -> Resul
     Ok(())
 }
 
-/// Adds those of the rows that edits bring that have what a look-up requires. `AllocError` where memory is refused.
-pub(crate) fn add_coming<'c>(
-    rows: &mut Vec<RowRead<'c>>,
-    edits: &'c [Edit],
+/// Adds those of the rows that edits of a table bring that have what a look-up requires, where they lie. No row is counted as read.
+/// `AllocError` where memory is refused.
+pub(crate) fn add_coming<'c, 'a: 'c>(
+    view: &View<'a>,
+    table: usize,
+    rows: &mut Vec<RowView<'c>>,
+    edits: &[Edit],
     look_up: &Option<LookUp>,
 ) -> Result<(), AllocError>
-    ensures { OnOk result (map row_read rows.new.items ≡ map row_read rows.old.items ++ filter_map (coming (asked look_up.now)) edits.now) }
+    requires there { table < length view.now.store.tables }
+    requires ready { (stored : StoredRows) → IsAt view.now.store table stored → AreReady stored edits.now }
+    ensures { OnOk result ((stored : StoredRows) → IsAt view.now.store table stored → map viewed rows.new.items
+        ≡ map viewed rows.old.items ++ having (asked look_up.now) (rows_come (slot_at stored.places) edits.now)) }
 {
     for edit in edits {
-        push_some(rows, coming(edit, look_up))?;
+        push_some(rows, coming(view, table, edit, look_up))?;
+    }
+    Ok(())
+}
+
+/// Adds those of some rows that have what a look-up requires. `AllocError` where memory is refused.
+pub(crate) fn add_fitting<'c>(
+    rows: &mut Vec<RowView<'c>>,
+    from: &[RowView<'c>],
+    look_up: &Option<LookUp>,
+) -> Result<(), AllocError>
+    ensures { OnOk result (map viewed rows.new.items ≡ map viewed rows.old.items ++ having (asked look_up.now) (map viewed from.now)) }
+{
+    for row in from {
+        if fits(look_up, *row) {
+            rows.push(*row)?;
+        }
     }
     Ok(())
 }

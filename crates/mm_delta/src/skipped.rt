@@ -1,18 +1,18 @@
 //! Edited rows that are left out, each for a cycle that was checked.
 ghost use Rattle.std.specs.Prelude.{◌≡◌, ◌↔◌, true, IfOk, IsTrue, MatchOption};
-ghost use Rattle.mm_partition.specs.Reads.{row_read};
+ghost use Rattle.mm_partition.specs.Views.{viewed};
 ghost use Rattle.mm_relevance.specs.Relevance.{IsAccepted, IsCyclic};
 
-use mm_partition::RowRead;
+use mm_partition::RowView;
 use mm_query::BoundQuery;
 use mm_relevance::{Cycle, check_cycle, irrelevant};
 use std::alloc::{AllocError, Global};
 
 /// Whether a certificate shows that no combination with this row at this place of FROM fits the query. It may be any: where it
 /// holds a cycle, this is checked.
-fn is_shown(query: &BoundQuery, place: usize, row: RowRead<'_>, certificate: &Option<Cycle>) -> bool
-    ensures sound { IsTrue result → IsCyclic query.now place (row_read row.entry) }
-    ensures accepted { MatchOption certificate.now ⊥ (λ cycle. IsAccepted query.now place (row_read row.entry) cycle.edges.items) → result ≡ true }
+fn is_shown(query: &BoundQuery, place: usize, row: RowView<'_>, certificate: &Option<Cycle>) -> bool
+    ensures sound { IsTrue result → IsCyclic query.now place (viewed row.entry) }
+    ensures accepted { MatchOption certificate.now ⊥ (λ cycle. IsAccepted query.now place (viewed row.entry) cycle.edges.items) → result ≡ true }
 {
     match certificate {
         Some(cycle) => check_cycle(query, place, &row, cycle),
@@ -26,9 +26,9 @@ pub(crate) fn is_skipped(
     alloc: Global,
     query: &BoundQuery,
     place: usize,
-    row: RowRead<'_>,
+    row: RowView<'_>,
 ) -> Result<bool, AllocError>
-    ensures { IfOk result (λ skipped. IsTrue skipped ↔ IsCyclic query.now place (row_read row.entry)) }
+    ensures { IfOk result (λ skipped. IsTrue skipped ↔ IsCyclic query.now place (viewed row.entry)) }
 {
     let certificate = irrelevant(alloc, query, place, &row)?;
     Ok(is_shown(query, place, row, &certificate))

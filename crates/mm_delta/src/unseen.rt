@@ -1,17 +1,20 @@
 //! What a query sees of edits: nothing of a row that changes in other columns than it reads.
 ghost use Rattle.std.specs.Prelude.{◌≡◌, ◌+◌, ◌++◌, ◌∷◌, ◌<◌, ◌≤◌, [], filter_map, length, map, All, IfOk, OnOk};
 ghost use Rattle.std.specs.List.{cons_option, list_all};
-ghost use Rattle.mm_partition.specs.Reads.{row_read};
-ghost use Rattle.mm_partition.specs.Places.{IsLive, slot_at};
-ghost use Rattle.mm_store.specs.RowEdits.{old_refs};
+ghost use Rattle.mm_partition.specs.Views.{viewed};
+ghost use Rattle.mm_partition.specs.Places.{slot_at};
 ghost use Rattle.mm_indexed.specs.Kept.{StoredRows};
-ghost use Rattle.mm_store.specs.Tables.{AreFit, IsAt};
+ghost use Rattle.mm_store.specs.Edits.{AreReady};
+ghost use Rattle.mm_store.specs.Tables.{IsAt};
+ghost use Rattle.mm_tables.specs.Edits.{Fits};
+ghost use Rattle.mm_delta.specs.Edited.{old_slots};
 ghost use Rattle.mm_delta.specs.Unseen.{agree_for, agree_in, come_seen, gone_seen, looks_alike};
 
 use crate::known::value_in;
-use mm_partition::RowRead;
+use mm_partition::RowView;
 use mm_query::{Atom, BoundQuery, FieldPlace};
-use mm_store::{Edit, View};
+use mm_store::View;
+use mm_tables::Edit;
 use mm_value::compare;
 use std::alloc::{AllocError, Global};
 
@@ -19,9 +22,9 @@ use std::alloc::{AllocError, Global};
 #[derive(Drop)]
 pub(crate) struct SeenRows<'c> {
     /// Those that go.
-    pub(crate) gone: Vec<RowRead<'c>>,
+    pub(crate) gone: Vec<RowView<'c>>,
     /// Those that come.
-    pub(crate) come: Vec<RowRead<'c>>,
+    pub(crate) come: Vec<RowView<'c>>,
 }
 
 /// A query, and one of its places of FROM.
@@ -33,16 +36,16 @@ pub(crate) struct Sight<'c> {
 
 impl<'c> Sight<'c> {
     /// Whether two rows have the same value in the column of a field, if it is a field of the place.
-    fn agree_in(&self, a: RowRead<'_>, b: RowRead<'_>, field: FieldPlace) -> bool
-        ensures { result ≡ agree_in self.now.place (row_read a.entry) (row_read b.entry) field }
+    fn agree_in(&self, a: RowView<'_>, b: RowView<'_>, field: FieldPlace) -> bool
+        ensures { result ≡ agree_in self.now.place (viewed a.entry) (viewed b.entry) field }
     {
         field.place != self.place
             || compare(&value_in(a, field.column), &value_in(b, field.column)).is_eq()
     }
 
     /// Whether two rows have the same values in the columns of the place that an atom compares.
-    fn agree_for(&self, a: RowRead<'_>, b: RowRead<'_>, atom: &Atom<FieldPlace>) -> bool
-        ensures { result ≡ agree_for self.now.place (row_read a.entry) (row_read b.entry) atom.now }
+    fn agree_for(&self, a: RowView<'_>, b: RowView<'_>, atom: &Atom<FieldPlace>) -> bool
+        ensures { result ≡ agree_for self.now.place (viewed a.entry) (viewed b.entry) atom.now }
     {
         let agree_right = match atom.right.column() {
             Some(field) => self.agree_in(a, b, *field),
@@ -52,22 +55,22 @@ impl<'c> Sight<'c> {
     }
 
     /// Whether two rows have the same values in the columns of the place that atoms compare.
-    fn agree_for_all(&self, a: RowRead<'_>, b: RowRead<'_>, atoms: &[Atom<FieldPlace>]) -> bool
-        ensures { result ≡ list_all (agree_for self.now.place (row_read a.entry) (row_read b.entry)) atoms.now }
+    fn agree_for_all(&self, a: RowView<'_>, b: RowView<'_>, atoms: &[Atom<FieldPlace>]) -> bool
+        ensures { result ≡ list_all (agree_for self.now.place (viewed a.entry) (viewed b.entry)) atoms.now }
     {
         atoms.iter().all(|atom| self.agree_for(a, b, atom))
     }
 
     /// Whether two rows have the same values in the columns of fields, if these are fields of the place.
-    fn agree_in_all(&self, a: RowRead<'_>, b: RowRead<'_>, fields: &[FieldPlace]) -> bool
-        ensures { result ≡ list_all (agree_in self.now.place (row_read a.entry) (row_read b.entry)) fields.now }
+    fn agree_in_all(&self, a: RowView<'_>, b: RowView<'_>, fields: &[FieldPlace]) -> bool
+        ensures { result ≡ list_all (agree_in self.now.place (viewed a.entry) (viewed b.entry)) fields.now }
     {
         fields.iter().all(|field| self.agree_in(a, b, *field))
     }
 
     /// Whether the query makes the same of two rows at the place: they have the same values in all columns that it reads there.
-    fn looks_alike(&self, a: RowRead<'_>, b: RowRead<'_>) -> bool
-        ensures { result ≡ looks_alike self.now.query.now self.now.place (row_read a.entry) (row_read b.entry) }
+    fn looks_alike(&self, a: RowView<'_>, b: RowView<'_>) -> bool
+        ensures { result ≡ looks_alike self.now.query.now self.now.place (viewed a.entry) (viewed b.entry) }
     {
         self.agree_for_all(a, b, self.query.atoms.as_slice())
             && self.agree_in_all(a, b, self.query.fields.as_slice())
@@ -79,24 +82,25 @@ impl<'c> Sight<'c> {
         &self,
         view: &mut View<'a>,
         table: usize,
-        edit: &'c Edit,
+        edit: &Edit,
         seen: &mut SeenRows<'c>,
     ) -> Result<(), AllocError>
         requires there { table < length view.old.store.tables }
-        requires live { (stored : StoredRows) → IsAt view.old.store table stored → All (IsLive stored.places) (old_refs (edit.now ∷ [])) }
-        ensures gone { OnOk result ((stored : StoredRows) → IsAt view.old.store table stored → map row_read seen.new.gone.items
-            ≡ map row_read seen.old.gone.items ++ cons_option (gone_seen self.now.query.now self.now.place (slot_at stored.places) edit.entry.now) []) }
-        ensures come { OnOk result ((stored : StoredRows) → IsAt view.old.store table stored → map row_read seen.new.come.items
-            ≡ map row_read seen.old.come.items ++ cons_option (come_seen self.now.query.now self.now.place (slot_at stored.places) edit.entry.now) []) }
-        ensures reads { view.new.reads ≤ view.old.reads + length (old_refs (edit.entry.now ∷ [])) }
+        requires ready { (stored : StoredRows) → IsAt view.old.store table stored → Fits stored.key (slot_at stored.places) edit.now }
+        ensures gone { OnOk result ((stored : StoredRows) → IsAt view.old.store table stored → map viewed seen.new.gone.items
+            ≡ map viewed seen.old.gone.items ++ cons_option (gone_seen self.now.query.now self.now.place (slot_at stored.places) edit.entry.now) []) }
+        ensures come { OnOk result ((stored : StoredRows) → IsAt view.old.store table stored → map viewed seen.new.come.items
+            ≡ map viewed seen.old.come.items ++ cons_option (come_seen self.now.query.now self.now.place (slot_at stored.places) edit.entry.now) []) }
+        ensures reads { view.new.reads ≤ view.old.reads + length (old_slots (edit.entry.now ∷ [])) }
         ensures same { view.new.store ≡ view.old.store }
     {
-        match edit {
-            Edit::Add(tuple) => seen.come.push(RowRead::Owned(tuple.values()))?,
-            Edit::Gone(at) => seen.gone.push(RowRead::Stored(view.row(table, *at)))?,
-            Edit::Swap(at, row) => {
-                let old = RowRead::Stored(view.row(table, *at));
-                let new = RowRead::Owned(row.values());
+        match *edit {
+            Edit::Stage(_) => {}
+            Edit::Insert(at) => seen.come.push(view.staged_row(table, at))?,
+            Edit::Delete(at) => seen.gone.push(view.row(table, at))?,
+            Edit::Update(at, other) | Edit::Move(at, other) => {
+                let old = view.row(table, at);
+                let new = view.staged_row(table, other);
                 if !self.looks_alike(old, new) {
                     seen.gone.push(old)?;
                     seen.come.push(new)?;
@@ -113,15 +117,15 @@ impl<'c> Sight<'c> {
         alloc: Global,
         view: &mut View<'a>,
         table: usize,
-        edits: &'c [Edit],
+        edits: &[Edit],
     ) -> Result<SeenRows<'c>, AllocError>
         requires there { table < length view.old.store.tables }
-        requires fit { (stored : StoredRows) → IsAt view.old.store table stored → AreFit stored edits.now }
+        requires fit { (stored : StoredRows) → IsAt view.old.store table stored → AreReady stored edits.now }
         ensures gone { IfOk result (λ seen. (stored : StoredRows) → IsAt view.old.store table stored
-            → map row_read seen.gone.items ≡ filter_map (gone_seen self.now.query.now self.now.place (slot_at stored.places)) edits.now) }
+            → map viewed seen.gone.items ≡ filter_map (gone_seen self.now.query.now self.now.place (slot_at stored.places)) edits.now) }
         ensures come { IfOk result (λ seen. (stored : StoredRows) → IsAt view.old.store table stored
-            → map row_read seen.come.items ≡ filter_map (come_seen self.now.query.now self.now.place (slot_at stored.places)) edits.now) }
-        ensures reads { view.new.reads ≤ view.old.reads + length (old_refs edits.now) }
+            → map viewed seen.come.items ≡ filter_map (come_seen self.now.query.now self.now.place (slot_at stored.places)) edits.now) }
+        ensures reads { view.new.reads ≤ view.old.reads + length (old_slots edits.now) }
         ensures same { view.new.store ≡ view.old.store }
     {
         let mut seen = SeenRows {

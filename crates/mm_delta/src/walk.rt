@@ -1,14 +1,18 @@
 //! The combinations that have an edited row at one place of FROM.
 ghost use Rattle.std.specs.Prelude.{◌≡◌, ◌↔◌, ◌⊎◌, ℕ, ◌+◌, ◌<◌, ◌≤◌, Bool, false, [], ◌∷◌, List, length, map, get_or, IfOk, IfSome, IsTrue, OnOk};
-ghost use Rattle.mm_partition.specs.Reads.{row_read};
+ghost use Rattle.mm_indexed.specs.Kept.{StoredRows};
+ghost use Rattle.mm_partition.specs.Places.{slot_at};
+ghost use Rattle.mm_partition.specs.Views.{viewed};
+ghost use Rattle.mm_store.specs.Tables.{IsAt, Tables};
 ghost use Rattle.mm_value.specs.declared.values.Value.{Value as AnyValue};
 ghost use Rattle.mm_query.specs.Queries.{bag_of, none_fails as none_fails_lem};
-ghost use Rattle.mm_delta.specs.Overlay.{overlay_edits};
+ghost use Rattle.mm_delta.specs.Overlay.{IsReadOf, overlay_edits};
 ghost use Rattle.mm_delta.specs.Candidates.{having, required};
 ghost use Rattle.mm_multiset.specs.Counts.{count_in, count_of};
+ghost use Rattle.mm_delta.specs.Changes.{AreOf};
 ghost use Rattle.mm_delta.specs.Edited.{after_at, before_at, has_index, walked};
 ghost use Rattle.mm_delta.specs.Skipping.{IsOfCyclicRows, IsRowOf, IsTypeTested};
-ghost use Rattle.mm_delta.specs.Steps.{AreAlike, EachFit, HasTables, IsServed, asked, edits_walked, reads_for, row_reads};
+ghost use Rattle.mm_delta.specs.Steps.{AreAlike, HasTables, IsServed, asked, edits_walked, reads_for, row_reads};
 ghost use Rattle.mm_delta.specs.Terms.{lists_around};
 ghost use Rattle.mm_delta.specs.Walk.{AreOpen, found, other_places as other_places_lem};
 ghost use Rattle.mm_relevance.specs.Relevance.{IsCyclic};
@@ -22,7 +26,7 @@ use crate::rows::{read_all, references};
 use crate::skipped::is_skipped;
 use arrayvec::ArrayVec;
 use mm_multiset::Tally;
-use mm_partition::RowRead;
+use mm_partition::RowView;
 use mm_query::{BoundQuery, MAX_FROM, none_fails, values_of};
 use mm_store::View;
 use std::alloc::{AllocError, Global};
@@ -43,7 +47,9 @@ pub(crate) struct Walk<'w, 'c> {
 impl<'w, 'c> Walk<'w, 'c> {
     /// The edits that count at a place of FROM: those of its table before the place of the edited row, and none behind it.
     fn edits_at(&self, place: usize, table: usize) -> Overlay<'w, 'c>
-        ensures { overlay_edits result ≡ edits_walked self.now.changes.now self.now.place place table }
+        ensures edits { overlay_edits result ≡ edits_walked self.now.changes.now.edits self.now.place place table }
+        ensures read { (store : Tables) (stored : StoredRows) → AreOf store self.now.changes.now → IsAt store table stored
+            → IsReadOf (slot_at stored.places) result }
     {
         if place < self.place {
             self.changes.overlay(table)
@@ -82,12 +88,12 @@ impl<'w, 'c> Walk<'w, 'c> {
         view: &mut View<'a>,
         chosen: &Chosen<'c>,
         place: usize,
-    ) -> Result<Vec<RowRead<'c>>, AllocError>
+    ) -> Result<Vec<RowView<'c>>, AllocError>
         requires there { (place < length self.now.tables.now) × (get_or self.now.tables.now place 0 < length view.old.store.tables) }
-        requires fit { EachFit view.old.store self.now.changes.now }
-        ensures rows { IfOk result (λ rows. AreAlike (map row_read rows.items)
+        requires fit { AreOf view.old.store self.now.changes.now }
+        ensures rows { IfOk result (λ rows. AreAlike (map viewed rows.items)
             (having (required (has_index view.old.store (get_or self.now.tables.now place 0)) self.now.query.now.atoms chosen.now place)
-            (walked view.old.store self.now.changes.now self.now.tables.now self.now.place place))) }
+            (walked view.old.store self.now.changes.now.edits self.now.tables.now self.now.place place))) }
         ensures reads { view.new.reads ≤ view.old.reads
             + length (having (required (has_index view.old.store (get_or self.now.tables.now place 0)) self.now.query.now.atoms chosen.now place)
             (before_at view.old.store (get_or self.now.tables.now place 0))) }
@@ -99,7 +105,7 @@ impl<'w, 'c> Walk<'w, 'c> {
         let edits = self.edits_at(place, table);
         edits.leave_standing(&mut refs);
         let mut rows = read_all(alloc, view, table, &refs)?;
-        edits.add_coming(&mut rows, &look_up)?;
+        edits.add_coming(view, table, &mut rows, &look_up)?;
         Ok(rows)
     }
 
@@ -115,11 +121,12 @@ impl<'w, 'c> Walk<'w, 'c> {
     ) -> Result<(), AllocError>
         requires vacant { AreOpen others.now chosen.now }
         requires there { HasTables self.now.tables.now view.old.store others.now }
-        requires fit { EachFit view.old.store self.now.changes.now }
+        requires fit { AreOf view.old.store self.now.changes.now }
         ensures counted { OnOk result ((row : List AnyValue) → count_in row out.new.entries ≡ count_in row out.old.entries
-            + count_of row (found self.now.query.now (walked view.old.store self.now.changes.now self.now.tables.now self.now.place) others.now chosen.now)) }
+            + count_of row (found self.now.query.now (walked view.old.store self.now.changes.now.edits self.now.tables.now self.now.place) others.now
+            chosen.now)) }
         ensures reads { view.new.reads ≤ view.old.reads
-            + reads_for self.now.query.now view.old.store self.now.changes.now self.now.tables.now self.now.place others.now chosen.now }
+            + reads_for self.now.query.now view.old.store self.now.changes.now.edits self.now.tables.now self.now.place others.now chosen.now }
         ensures same { view.new.store ≡ view.old.store }
     {
         if !none_fails(self.query.atoms.as_slice(), chosen.as_slice()) {
@@ -147,10 +154,10 @@ impl<'w, 'c> Walk<'w, 'c> {
         &self,
         alloc: Global,
         chosen: &Chosen<'c>,
-        row: RowRead<'_>,
+        row: RowView<'_>,
     ) -> Result<bool, AllocError>
         ensures { IfOk result (λ left_out. IsTrue left_out
-            ↔ ((none_fails_lem self.now.query.now.atoms chosen.now ≡ false) ⊎ IsCyclic self.now.query.now self.now.place (row_read row.entry))) }
+            ↔ ((none_fails_lem self.now.query.now.atoms chosen.now ≡ false) ⊎ IsCyclic self.now.query.now self.now.place (viewed row.entry))) }
     {
         if !none_fails(self.query.atoms.as_slice(), chosen.as_slice()) {
             return Ok(true);
@@ -164,20 +171,21 @@ impl<'w, 'c> Walk<'w, 'c> {
         &self,
         alloc: Global,
         view: &mut View<'a>,
-        row: RowRead<'c>,
+        row: RowView<'c>,
         out: &mut Tally,
     ) -> Result<(), AllocError>
         requires place { self.now.place < length self.now.tables.now }
         requires few { length self.now.tables.now ≤ 4 }
         requires there { HasTables self.now.tables.now view.old.store (other_places_lem (length self.now.tables.now) self.now.place) }
-        requires fit { EachFit view.old.store self.now.changes.now }
-        requires typed { IsTypeTested self.now.query.now view.old.store self.now.changes.now self.now.tables.now }
-        requires edited { IsRowOf view.old.store self.now.changes.now (get_or self.now.tables.now self.now.place 0) (row_read row) }
+        requires fit { AreOf view.old.store self.now.changes.now }
+        requires typed { IsTypeTested self.now.query.now view.old.store self.now.changes.now.edits self.now.tables.now }
+        requires edited { IsRowOf view.old.store self.now.changes.now.edits (get_or self.now.tables.now self.now.place 0) (viewed row) }
         ensures counted { OnOk result ((other : List AnyValue) → count_in other out.new.entries ≡ count_in other out.old.entries
             + count_of other (bag_of self.now.query.now
-            (lists_around 0 (after_at view.old.store self.now.changes.now) (λ _. row_read row.entry ∷ []) (before_at view.old.store) self.now.tables.now self.now.place))) }
+            (lists_around 0 (after_at view.old.store self.now.changes.now.edits) (λ _. viewed row.entry ∷ [])
+            (before_at view.old.store) self.now.tables.now self.now.place))) }
         ensures reads { (skipped : ℕ → List AnyValue → Bool) → IsOfCyclicRows self.now.query.now skipped → view.new.reads ≤ view.old.reads
-            + row_reads self.now.query.now view.old.store self.now.changes.now self.now.tables.now skipped self.now.place (row_read row.entry) }
+            + row_reads self.now.query.now view.old.store self.now.changes.now.edits self.now.tables.now skipped self.now.place (viewed row.entry) }
         ensures same { view.new.store ≡ view.old.store }
     {
         let places = self.tables.len();

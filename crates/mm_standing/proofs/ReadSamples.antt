@@ -1,12 +1,12 @@
 -- Stores and changes that look like those of the worked examples.
-use Rattle.std.proofs.Common.{◌≡◌, ℕ, Bool, true, false, List, [], ◌∷◌, length, map, refl}
+use Rattle.std.proofs.Common.{◌≡◌, ℕ, Bool, true, false, List, [], ◌∷◌, ◌++◌, length, map, refl}
 use Rattle.std.specs.List.{range_with_len}
-use Rattle.mm_partition.specs.Places.{Live}
+use Rattle.mm_partition.specs.Places.{Hidden, Live}
 use Rattle.mm_indexed.specs.Kept.{StoredRows}
-use Rattle.mm_store.specs.declared.edit.Edit.TheVariants.{Add}
 use Rattle.mm_indexed.specs.declared.indexes.index.Index.{Index}
 use Rattle.mm_indexed.specs.declared.indexes.index.Index.TheVariants.{Tree}
 use Rattle.mm_store.specs.Tables.{Tables}
+use Rattle.mm_tables.specs.declared.edit.Edit.TheVariants.{Insert}
 use Rattle.mm_tables.specs.declared.logged_table.LoggedTable.{LoggedTable}
 use Rattle.mm_value.specs.declared.col_type.ColType.TheVariants.{Int}
 use Rattle.mm_value.specs.declared.row_ref.RowRef.{RowRef}
@@ -18,11 +18,11 @@ use Rattle.mm_standing.specs.ReadExamples.{AddsBesideFour, AddsThirdFive, row_of
 abbrev refs_to : ℕ → List RowRef
 refs_to rows = map (λ slot. record { slot = slot }) (range_with_len 0 rows)
 
--- A table of two columns of whole numbers with these rows, which stand in the order of their keys.
-abbrev table_of : List (List Value) → List Index → StoredRows
-table_of rows indexes = record {
+-- A table of two columns of whole numbers with these rows, which stand in the order of their keys, and behind them rows that are staged.
+abbrev table_of : List (List Value) → List (List Value) → List Index → StoredRows
+table_of rows staged indexes = record {
   key = 0;
-  places = record { slots = map Live rows; room = 0; types = Int ∷ Int ∷ [] };
+  places = record { slots = map Live rows ++ map Hidden staged; room = 0; types = Int ∷ Int ∷ [] };
   refs = refs_to (length rows);
   spare = 0;
   indexes = indexes;
@@ -37,12 +37,13 @@ abbrev store_of : List StoredRows → Tables
 store_of tables = record {
   tables = tables;
   links = [];
-  stored = record { tables = map unedited tables; log = []; undone = []; log_room = 0 };
+  stored = record { tables = map unedited tables; log = []; log_room = 0 };
+  ties = [];
 }
 
--- A row is added to the table at place 0.
-abbrev addition_of : List Value → List TableChange
-addition_of row = record { table = 0; edits = record { ref_ptr = (0, 0); now = Add row ∷ [] } } ∷ []
+-- The row in a slot is added to the table at place 0.
+abbrev addition_of : ℕ → List TableChange
+addition_of slot = record { table = 0; edits = record { ref_ptr = (0, 0); now = Insert (record { slot = slot }) ∷ [] } } ∷ []
 
 abbrev three : List (List Value)
 three = row_of 1 5 ∷ row_of 2 5 ∷ row_of 4 9 ∷ []
@@ -52,21 +53,21 @@ abbrev indexes_if : Bool → List Index
 indexes_if true = Tree 1 (record { refs = refs_to 3; height = 1; spare = 0 }) ∷ []
 indexes_if false = []
 
+-- The store with these three rows, beside which the row (3, 5) is staged.
+abbrev three_and_one : Bool → Tables
+three_and_one b = store_of (table_of three (row_of 3 5 ∷ []) (indexes_if b) ∷ [])
+
 pub third_five_added : (b : Bool) → (store : Tables) × (changes : List TableChange) × AddsThirdFive store changes × (has_index store 0 1 ≡ b)
-third_five_added b = (
-  store_of (table_of three (indexes_if b) ∷ []),
-  addition_of (row_of 3 5),
-  record { before = refl; after = refl; added = record { gone = refl; come = refl } },
-  by b,
-)
+third_five_added b =
+    (three_and_one b, addition_of 3, record { before = refl; after = refl; added = record { gone = refl; come = refl } }, by b)
   where
-    by : (b : Bool) → has_index (store_of (table_of three (indexes_if b) ∷ [])) 0 1 ≡ b
+    by : (b : Bool) → has_index (three_and_one b) 0 1 ≡ b
     by true = refl
     by false = refl
 
 pub added_beside_four : (row : List Value) → (store : Tables) × (changes : List TableChange) × AddsBesideFour store changes row
 added_beside_four row = (
-  store_of (table_of [] [] ∷ table_of (row_of 1 4 ∷ []) [] ∷ []),
-  addition_of row,
+  store_of (table_of [] (row ∷ []) [] ∷ table_of (row_of 1 4 ∷ []) [] [] ∷ []),
+  addition_of 0,
   record { before = refl; added = record { gone = refl; come = refl }; left = record { gone = refl; come = refl } },
 )

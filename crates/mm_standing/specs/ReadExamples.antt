@@ -69,12 +69,12 @@ below_some_below_5 = record {
 -- A change brings one row to the table at a place, and takes none away from it.
 pub record BringsRow (store : Tables) (changes : List TableChange) (table : ℕ) (row : List Value) : Type 0 where
   pub gone : gone_at store changes table ≡ []
-  pub come : come_at changes table ≡ row ∷ []
+  pub come : come_at store changes table ≡ row ∷ []
 
 -- It brings none to the table, and takes none away from it.
 pub record LeavesTable (store : Tables) (changes : List TableChange) (table : ℕ) : Type 0 where
   pub gone : gone_at store changes table ≡ []
-  pub come : come_at changes table ≡ []
+  pub come : come_at store changes table ≡ []
 
 -- To the rows (1, 5), (2, 5) and (4, 9) of the table at place 0 the row (3, 5) is added.
 pub record AddsThirdFive (store : Tables) (changes : List TableChange) : Type 0 where

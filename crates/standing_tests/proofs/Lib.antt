@@ -2,3 +2,4 @@ pub mod NumberRows
 pub mod TableRows
 pub mod ListCounts
 pub mod CaseSteps
+pub mod Staging

@@ -6,20 +6,19 @@ use Rattle.std.specs.Option.{option_map, option_map_or, unwrap_or}
 use Rattle.std.proofs.lemmas.Bool.{eqb-true}
 use Rattle.std.proofs.lemmas.List.Elements.{All-append, All-cons, All-filter, All-head, All-map, All-nil, All-tail, All-weaker}
 use Rattle.mm_delta.specs.Edited.{before_at}
-use Rattle.mm_laws.proofs.TypedRows.{coming, held_by_changed}
+use Rattle.mm_laws.proofs.TypedRows.{held_by_changed}
 use Rattle.mm_partition.specs.Places.{slot_at}
 use Rattle.mm_partition.specs.Types.{HasTypes}
 use Rattle.mm_query.specs.Atoms.{value_in}
 use Rattle.mm_query.specs.Queries.{combinations, fits, projected, value_at, values_of}
 use Rattle.mm_query.specs.declared.bound_query.FieldPlace.{FieldPlace}
-use Rattle.mm_store.specs.RowEdits.{new_rows, edit_pairs}
 use Rattle.mm_indexed.specs.Kept.{StoredRows}
 use Rattle.mm_row_order.specs.Refs.{Slots}
 use Rattle.mm_indexed.specs.RowLists.{rows_of}
-use Rattle.mm_store.specs.declared.edit.Edit.{Edit}
-use Rattle.mm_store.specs.declared.edit.Edit.TheVariants.{Add, Swap, Gone}
 use Rattle.mm_standing.specs.Queries.{GivesTyped, RowsByPlace, StandingQuery}
-use Rattle.mm_store.specs.Tables.{AreFit, IsAt, Tables, rows_at, rows_with}
+use Rattle.mm_store.specs.Edits.{pairs_of, rows_after, rows_come}
+use Rattle.mm_store.specs.Tables.{IsAt, Tables, rows_at}
+use Rattle.mm_tables.specs.declared.edit.Edit.{Edit}
 use Rattle.mm_value.specs.Types.{type_of}
 use Rattle.mm_value.specs.declared.col_type.ColType.{ColType}
 use Rattle.mm_value.specs.declared.col_type.ColType.TheVariants as type
@@ -27,7 +26,7 @@ use Rattle.mm_value.specs.declared.values.Value.{Value}
 use Rattle.mm_value.specs.declared.values.Value.TheVariants.{Int}
 use Rattle.store_tests.specs.SampleStore.{ArePlain, plain_types}
 use Rattle.store_tests.proofs.PlainStores.{plain_at}
-use Rattle.standing_tests.specs.Cases.{HaveNumbers, IsWhole, rows_edited}
+use Rattle.standing_tests.specs.Cases.{AreFitAt, HaveNumbers, IsWhole, rows_edited}
 
 abbrev Row : Type 0
 Row = List Value
@@ -87,32 +86,25 @@ module _ (rows : RowsByPlace) (have : HaveNumbers rows) where
 
 -- ---- edits
 
-coming_rows : (now : Slots) (edits : List Edit) → coming (edit_pairs now edits) ≡ new_rows edits
-coming_rows now [] = refl
-coming_rows now (Add row ∷ edits) = ap (λ rows. row ∷ rows) (coming_rows now edits)
-coming_rows now (Swap at row ∷ edits) = ap (λ rows. row ∷ rows) (coming_rows now edits)
-coming_rows now (Gone at ∷ edits) = coming_rows now edits
-
 -- With the edits of one table made all rows are of whole numbers still.
 pub numbers_edited : (store : Tables) (table : ℕ) (edits : List Edit) → ArePlain store → HaveNumbers (before_at store)
-    → ((stored : StoredRows) → IsAt store table stored → AreFit stored edits) → HaveNumbers (rows_edited store table edits)
+    → AreFitAt store table edits → HaveNumbers (rows_edited store table edits)
 numbers_edited store table edits plain have fit place = by (table == place) refl
   where
     edited : (found : Option StoredRows) → slice_get store.tables place ≡ found → table ≡ place
-        → All (HasTypes plain_types) (option_map_or (λ (stored : StoredRows). rows_with stored edits) found [])
+        → All (HasTypes plain_types) (option_map_or (λ (stored : StoredRows). rows_after stored edits) found [])
     edited None there same = All-nil (HasTypes plain_types)
     edited (Some stored) there same =
         let now : Slots = slot_at stored.places in
         let old : All (HasTypes plain_types) (rows_of stored) =
         subst (λ (o : Option StoredRows). All (HasTypes plain_types) (option_map_or rows_of o [])) there (have place) in
         let own : IsAt store table stored = ap (slice_get store.tables) same ∙ there in
-        let new : All (HasTypes plain_types) (new_rows edits) =
-        subst (λ (types : List ColType). All (HasTypes types) (new_rows edits)) (plain_at store table plain stored own).types (fit stored own).typed in
-        held_by_changed (HasTypes plain_types) stored.key (edit_pairs now edits) (rows_of stored) old
-        (subst (All (HasTypes plain_types)) (sym (coming_rows now edits)) new)
+        let new : All (HasTypes plain_types) (rows_come now edits) =
+        subst (λ (types : List ColType). All (HasTypes types) (rows_come now edits)) (plain_at store table plain stored own).types (fit stored own).typed in
+        held_by_changed (HasTypes plain_types) stored.key (pairs_of now edits) (rows_of stored) old new
 
     by : (b : Bool) → (table == place) ≡ b
-        → All (HasTypes plain_types) (cond b (option_map_or (λ (stored : StoredRows). rows_with stored edits) (slice_get store.tables place) [])
+        → All (HasTypes plain_types) (cond b (option_map_or (λ (stored : StoredRows). rows_after stored edits) (slice_get store.tables place) [])
         (rows_at store.tables place))
     by true own = edited (slice_get store.tables place) refl (eqb-true table place own)
     by false other = have place

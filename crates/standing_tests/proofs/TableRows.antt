@@ -18,14 +18,15 @@ use Rattle.mm_query.specs.declared.bound_query.BoundQuery.{BoundQuery}
 use Rattle.mm_query.specs.declared.bound_query.FieldPlace.{FieldPlace}
 use Rattle.mm_indexed.specs.Kept.{StoredRows}
 use Rattle.mm_indexed.specs.RowLists.{rows_of}
-use Rattle.mm_store.specs.declared.edit.Edit.{Edit}
 use Rattle.mm_query.specs.Additions.{AddsToNumber}
 use Rattle.mm_standing.specs.Queries.{RowsByPlace, StandingQuery}
 use Rattle.mm_standing.specs.Reads.{AreTypeTested}
-use Rattle.mm_store.specs.Tables.{AreFit, HasRows, IsAt, Tables, Turns, rows_at, rows_with}
+use Rattle.mm_store.specs.Edits.{AreReady, rows_after}
+use Rattle.mm_store.specs.Tables.{HasRows, IsAt, Tables, Turns, rows_at}
+use Rattle.mm_tables.specs.declared.edit.Edit.{Edit}
 use Rattle.mm_value.specs.declared.values.Value.{Value}
 use Rattle.store_tests.proofs.PlainStores.{at_place}
-use Rattle.standing_tests.specs.Cases.{IsWhole, adds_none, is_unshifted, rows_edited}
+use Rattle.standing_tests.specs.Cases.{AreFitAt, IsWhole, adds_none, is_unshifted, rows_edited}
 
 -- ---- rows at places
 
@@ -92,9 +93,9 @@ rows_kept store new table within each = λ i place. (rows_turned store new table
 
 -- Where it has the rows with edits made, they are those with the edits made.
 pub rows_made : (store new : Tables) (table : ℕ) → table < length store.tables → (edits : List Edit)
-    → ((stored : StoredRows) → IsAt store table stored → (x : StoredRows) × Turns store table x new × HasRows stored (rows_with stored edits) x)
+    → ((stored : StoredRows) → IsAt store table stored → (x : StoredRows) × Turns store table x new × HasRows stored (rows_after stored edits) x)
     → before_at new ≡ rows_edited store table edits
-rows_made store new table within edits each = λ i place. rows_turned store new table within (λ (s : StoredRows). rows_with s edits) each place i
+rows_made store new table within edits each = λ i place. rows_turned store new table within (λ (s : StoredRows). rows_after s edits) each place i
 
 -- ---- the edits of one table
 
@@ -103,28 +104,24 @@ pub after_is : (store : Tables) (change : TableChange) → after_at store (chang
 after_is store change = λ i place. by (change.table == place) (slice_get store.tables place) i
   where
     by : (b : Bool) (found : Option StoredRows)
-        → option_map_or (λ stored. rows_with stored (option_map_or (λ (c : TableChange). c.edits.now) (cond b (Some change) None) [])) found []
-        ≡ cond b (option_map_or (λ stored. rows_with stored change.edits.now) found []) (option_map_or rows_of found [])
+        → option_map_or (λ stored. rows_after stored (option_map_or (λ (c : TableChange). c.edits.now) (cond b (Some change) None) [])) found []
+        ≡ cond b (option_map_or (λ stored. rows_after stored change.edits.now) found []) (option_map_or rows_of found [])
     by true found = refl
     by false None = refl
     by false (Some stored) = refl
 
-fit_none : (stored : StoredRows) → AreFit stored []
-fit_none stored = record {
-  standing = record { live = λ k d within. absurd (omega (arith, within)); apart = λ i j d below within. absurd (omega (arith, within)) };
-  typed = λ k d within. absurd (omega (arith, within));
-}
+fit_none : (stored : StoredRows) → AreReady stored []
+fit_none stored = record { fits = λ k d within. absurd (omega (arith, within)); apart = λ i j d below within. absurd (omega (arith, within)) }
 
--- Edits that fit their table fit each.
-pub fit_each : (store : Tables) (change : TableChange) → ((stored : StoredRows) → IsAt store change.table stored → AreFit stored change.edits.now)
-    → EachFit store (change ∷ [])
+-- Edits that fit their table may be made in each.
+pub fit_each : (store : Tables) (change : TableChange) → AreFitAt store change.table change.edits.now → EachFit store (change ∷ [])
 fit_each store change fit = λ place stored there. by place stored there (change.table == place) refl
   where
     by : (place : ℕ) (stored : StoredRows) → slice_get store.tables place ≡ Some stored → (b : Bool) → (change.table == place) ≡ b
-        → AreFit stored (option_map_or (λ (c : TableChange). c.edits.now) (cond b (Some change) None) [])
+        → AreReady stored (option_map_or (λ (c : TableChange). c.edits.now) (cond b (Some change) None) [])
     by place stored there true own =
         let same : change.table ≡ place = eqb-true change.table place own in
-        fit stored (subst (λ p. slice_get store.tables p ≡ Some stored) (sym same) there)
+        (fit stored (subst (λ p. slice_get store.tables p ≡ Some stored) (sym same) there)).ready
     by place stored there false other = fit_none stored
 
 -- ---- queries that add no number

@@ -3,6 +3,7 @@ use Rattle.std.specs.Prelude.{◌≡◌, ◌==◌, ℕ, ◌≤◌, Bool, true, f
 use Rattle.std.specs.List.{All, list_all}
 use Rattle.std.specs.Option.{option_map_or}
 use Rattle.mm_delta.specs.Edited.{before_at}
+use Rattle.mm_partition.specs.Places.{Hidden, slot_at}
 use Rattle.mm_partition.specs.Types.{HasTypes}
 use Rattle.mm_query.specs.declared.atom.Atom.{Atom}
 use Rattle.mm_query.specs.declared.atom.Operand.{Operand}
@@ -10,13 +11,16 @@ use Rattle.mm_query.specs.declared.atom.Operand.TheVariants.{Literal, Column, Sh
 use Rattle.mm_query.specs.declared.bound_query.BoundQuery.{BoundQuery}
 use Rattle.mm_query.specs.declared.bound_query.FieldPlace.{FieldPlace}
 use Rattle.mm_indexed.specs.Kept.{StoredRows}
-use Rattle.mm_store.specs.declared.edit.Edit.{Edit}
+use Rattle.mm_tables.specs.declared.edit.Edit.{Edit}
 use Rattle.mm_standing.specs.Queries.{RowsByPlace, StandingQuery}
 use Rattle.mm_standing.specs.State.{AreServed, FitAt, FitNow, Lists}
+use Rattle.mm_store.specs.Edits.{AreFit, rows_after}
 use Rattle.mm_store.specs.Marks as marks
 use Rattle.mm_store.specs.Marks.{rows_at_mark}
-use Rattle.mm_store.specs.Tables.{Tables, rows_at, rows_with}
+use Rattle.mm_store.specs.Tables.{IsAt, Tables, rows_at}
 use Rattle.mm_value.specs.declared.col_type.ColType.TheVariants.{Int}
+use Rattle.mm_value.specs.declared.row_ref.RowRef.{RowRef}
+use Rattle.mm_value.specs.declared.values.Value.{Value}
 use Rattle.store_tests.specs.SampleStore.{ArePlain, plain_types}
 
 -- ---- queries
@@ -42,7 +46,7 @@ pub record IsWhole (standing : StandingQuery) : Type 0 where
 -- The rows of the table at each place once the edits of the one at a place are made.
 abbrev pub rows_edited : Tables → ℕ → List Edit → RowsByPlace
 rows_edited store table edits place =
-    if table == place then option_map_or (λ (stored : StoredRows). rows_with stored edits) (slice_get store.tables place) [] else rows_at store.tables place
+    if table == place then option_map_or (λ (stored : StoredRows). rows_after stored edits) (slice_get store.tables place) [] else rows_at store.tables place
 
 -- Each row of each table is of two whole numbers.
 abbrev pub HaveNumbers : RowsByPlace → Type 0
@@ -51,6 +55,15 @@ HaveNumbers rows = (place : ℕ) → All (HasTypes plain_types) (rows place)
 -- The rows of the table at each place when the log of the tables had so many records.
 abbrev pub rows_then : ℕ → Tables → RowsByPlace
 rows_then commands store place = slice_index_or (rows_at_mark commands store) place []
+
+-- The edits of a table fit it.
+abbrev pub AreFitAt : Tables → ℕ → List Edit → Type 0
+AreFitAt store table edits = (stored : StoredRows) → IsAt store table stored → AreFit stored edits
+
+-- A slot of a table has a hidden row of two whole numbers.
+abbrev pub IsHiddenNumber : Tables → ℕ → RowRef → Type 0
+IsHiddenNumber store table at =
+    (stored : StoredRows) → IsAt store table stored → (row : List Value) × (slot_at stored.places at ≡ Hidden row) × HasTypes plain_types row
 
 -- ---- cases
 

@@ -5,8 +5,8 @@ ghost use Rattle.standing_tests.specs.Cases.{is_unshifted};
 
 use crate::samples::are_shown;
 use crate::steps::{
-    addition, are_there, changes_of, go_back, is_first_empty, is_unshifted, make_edits,
-    prepare_and_drop, removal, replacement, settle, tables, watch,
+    add, are_there, changes_of, go_back, is_first_empty, is_unshifted, prepare_and_drop, remove,
+    renumber, settle, tables, watch,
 };
 use mm_delta::Signed;
 use mm_plan::run_query;
@@ -73,8 +73,14 @@ impl Case {
         if table >= 2 {
             return Err(Refusal::NoSuchTable);
         }
-        let edits = addition(alloc, key, number)?;
-        make_edits(alloc, &mut self.store, &mut self.standing, table, edits)
+        add(
+            alloc,
+            &mut self.store,
+            &mut self.standing,
+            table,
+            key,
+            number,
+        )
     }
 
     /// Removes the row of a key from a table. `NoSuchTable` where no table stands at the place; `NoTargetRow` where no row has the
@@ -83,8 +89,7 @@ impl Case {
         if table >= 2 {
             return Err(Refusal::NoSuchTable);
         }
-        let edits = removal(alloc, &self.store, table, key)?;
-        make_edits(alloc, &mut self.store, &mut self.standing, table, edits)
+        remove(alloc, &mut self.store, &mut self.standing, table, key)
     }
 
     /// Makes the addition of a row ready, and drops it. `NoSuchTable` where no table stands at the place; what else refuses the
@@ -99,13 +104,13 @@ impl Case {
         if table >= 2 {
             return Err(Refusal::NoSuchTable);
         }
-        let edits = addition(alloc, key, number)?;
         prepare_and_drop(
             alloc,
-            &self.store,
+            &mut self.store,
             &mut self.standing,
             table,
-            edits.as_slice(),
+            key,
+            number,
         )
     }
 
@@ -227,8 +232,14 @@ impl Case {
         if table >= 2 {
             return Err(Refusal::NoSuchTable);
         }
-        let edits = replacement(alloc, &self.store, table, key, number)?;
-        make_edits(alloc, &mut self.store, &mut self.standing, table, edits)
+        renumber(
+            alloc,
+            &mut self.store,
+            &mut self.standing,
+            table,
+            key,
+            number,
+        )
     }
 
     /// How many rows the list at a place shows. `NoSuchStandingQuery` where there is none.
@@ -252,7 +263,7 @@ impl Case {
     /// By how much the count of each row of a query over tables that stand at these places changes with a row more in a table.
     /// `NoSuchTable` where no table stands at the place; else the refusals of `watch`.
     pub fn changes_of(
-        &self,
+        &mut self,
         alloc: Global,
         query: &BoundQuery,
         tables: &[usize],
@@ -264,8 +275,7 @@ impl Case {
         if table >= 2 {
             return Err(Refusal::NoSuchTable);
         }
-        let edits = addition(alloc, key, number)?;
-        let changes = changes_of(alloc, &self.store, query, tables, table, edits.as_slice())?;
+        let changes = changes_of(alloc, &mut self.store, query, tables, table, key, number)?;
         Ok(changes)
     }
 

@@ -137,7 +137,7 @@ fn is_one_more(changes: &[Signed], numbers: &[i64]) -> bool {
 }
 
 /// Whether an addition changes the count of one row alone, by 1.
-fn adds_one_row(case: &Case, alloc: Global, query: &BoundQuery) -> Result<bool, Refusal> {
+fn adds_one_row(case: &mut Case, alloc: Global, query: &BoundQuery) -> Result<bool, Refusal> {
     let changes = case.changes_of(alloc, query, &[0, 1], 0, 3, 5)?;
     Ok(is_one_more(changes.as_slice(), &[3, 1]))
 }
@@ -145,7 +145,7 @@ fn adds_one_row(case: &Case, alloc: Global, query: &BoundQuery) -> Result<bool, 
 /// Asserts what an addition changes of the count of each row, asked for again where memory is refused.
 fn changes_again(
     rt: &(impl Abort + AllocGlobal + Print),
-    case: &Case,
+    case: &mut Case,
     query: &BoundQuery,
 ) -> Result<(), Fail> {
     match adds_one_row(case, rt.alloc(), query) {
@@ -159,7 +159,7 @@ fn changes_again(
 }
 
 /// Asserts the same of the pairs of keys of rows with the same number.
-fn find_changes(rt: &(impl Abort + AllocGlobal + Print), case: &Case) -> Result<(), Fail> {
+fn find_changes(rt: &(impl Abort + AllocGlobal + Print), case: &mut Case) -> Result<(), Fail> {
     let Ok(query) = joined(rt.alloc()) else {
         return Ok(());
     };
@@ -168,10 +168,10 @@ fn find_changes(rt: &(impl Abort + AllocGlobal + Print), case: &Case) -> Result<
 
 #[test]
 fn delta_growths(rt: HostRuntime) -> Result<(), Fail> {
-    let Ok(case) = sample(rt.alloc()) else {
+    let Ok(mut case) = sample(rt.alloc()) else {
         return Ok(());
     };
-    find_changes(&rt, &case)
+    find_changes(&rt, &mut case)
 }
 
 /// Counts the row of a key and a number up.

@@ -3,23 +3,23 @@ ghost use Rattle.std.specs.Prelude.{◌≡◌, ℕ, ◌<◌, ◌≤◌, All, Lis
 ghost use Rattle.mm_multiset.specs.Counts.{Counts};
 ghost use Rattle.mm_delta.specs.Edited.{before_at};
 ghost use Rattle.mm_query.specs.Queries.{bag_of};
-ghost use Rattle.mm_store.specs.RowEdits.{new_rows, old_refs};
 ghost use Rattle.mm_indexed.specs.Kept.{StoredRows};
 ghost use Rattle.mm_partition.specs.Places.{IsLive};
-ghost use Rattle.mm_partition.specs.Types.{HasTypes};
 ghost use Rattle.mm_standing.specs.State.{AreServed, FitNow, FitPrepared, count_at, count_now};
-ghost use Rattle.mm_store.specs.Tables.{AreFit, IsAt, rows_at};
-ghost use Rattle.standing_tests.specs.Cases.{HaveNumbers, IsCase, IsMark, IsWhole, adds_none, is_unshifted, rows_edited};
+ghost use Rattle.mm_store.specs.Staging.{HasStaged};
+ghost use Rattle.mm_store.specs.Tables.{IsAt, rows_at};
+ghost use Rattle.standing_tests.specs.Cases.{AreFitAt, HaveNumbers, IsCase, IsHiddenNumber, IsMark, IsWhole, adds_none, is_unshifted, rows_edited};
 ghost use Rattle.mm_value.specs.declared.values.Value.{Value as Val};
-ghost use Rattle.store_tests.specs.SampleStore.{ArePlain, plain_types};
+ghost use Rattle.store_tests.specs.RowEdits.{IsLiveAt};
+ghost use Rattle.store_tests.specs.SampleStore.{ArePlain};
 
-use crate::samples::row;
 use mm_delta::{Signed, TableChange, delta};
 use mm_query::{BoundQuery, FieldPlace, Operand};
 use mm_schema::IndexKind;
 use mm_standing::Standing;
-use mm_store::{Edit, IndexRef, Store};
-use mm_value::{ColType, Few, Refusal, RowRef, Tuple, Value, ValueRef};
+use mm_store::{IndexRef, Store};
+use mm_tables::Edit;
+use mm_value::{ColType, Refusal, RowRef, Value, ValueRef};
 use std::alloc::{AllocError, Global};
 
 /// The types of the two columns of each table.
@@ -56,54 +56,80 @@ fn add_index(alloc: Global, store: &mut Store) -> Result<(), AllocError>
     Ok(())
 }
 
-/// The tuple of a key and a number.
-fn tuple(alloc: Global, key: i64, number: i64) -> Result<Tuple, AllocError>
-    ensures { IfOk result (HasTypes plain_types) }
-{
-    Tuple::copy_of(alloc, &[Value::Int(key), Value::Int(number)])
-}
-
-/// The addition of the row of a key and a number.
-pub fn addition(alloc: Global, key: i64, number: i64) -> Result<Few<Edit>, AllocError>
-    ensures none { IfOk result (λ edits. old_refs edits ≡ []) }
-    ensures typed { IfOk result (λ edits. All (HasTypes plain_types) (new_rows edits)) }
-{
-    Ok(Few::one(Edit::Add(tuple(alloc, key, number)?)))
-}
-
-/// The removal of the row of a key. `NoTargetRow` where no row of the table has it.
-pub fn removal(alloc: Global, store: &Store, table: usize, key: i64) -> Result<Few<Edit>, Refusal>
-    requires there { table < length store.now.tables }
-    ensures fit { IfOk result (λ edits. (stored : StoredRows) → IsAt store.now table stored → AreFit stored edits) }
-{
-    let Some(at) = at_key(store, table, key) else {
-        return Err(Refusal::NoTargetRow);
-    };
-    Ok(Few::one(Edit::Gone(at)))
-}
-
-/// The edit that puts another number into the row of a key. `NoTargetRow` where no row of the table has it.
-pub fn replacement(
+/// Stages the row of a key and a number. `AllocError` where memory is refused; then there is no such row.
+fn stage(
     alloc: Global,
-    store: &Store,
+    store: &mut Store,
     table: usize,
     key: i64,
     number: i64,
-) -> Result<Few<Edit>, Refusal>
+) -> Result<RowRef, AllocError>
+    requires there { table < length store.old.tables }
+    requires plain { ArePlain store.old }
+    ensures staged { HasStaged table store.old store.new }
+    ensures hidden { IfOk result (IsHiddenNumber store.new table) }
+{
+    store.reserve_rows(alloc, table, 1)?;
+    let mut values = [Value::Int(key), Value::Int(number)];
+    Ok(store.stage(table, &mut values))
+}
+
+/// The addition of the row of a key and a number, which is staged.
+fn addition(
+    alloc: Global,
+    store: &mut Store,
+    table: usize,
+    key: i64,
+    number: i64,
+) -> Result<Edit, AllocError>
+    requires there { table < length store.old.tables }
+    requires plain { ArePlain store.old }
+    ensures staged { HasStaged table store.old store.new }
+    ensures fit { IfOk result (λ edit. AreFitAt store.new table (edit ∷ [])) }
+{
+    Ok(Edit::Insert(stage(alloc, store, table, key, number)?))
+}
+
+/// The removal of the row of a key. `NoTargetRow` where no row of the table has it.
+fn removal(store: &Store, table: usize, key: i64) -> Result<Edit, Refusal>
     requires there { table < length store.now.tables }
-    requires plain { ArePlain store.now }
-    ensures fit { IfOk result (λ edits. (stored : StoredRows) → IsAt store.now table stored → AreFit stored edits) }
+    ensures fit { IfOk result (λ edit. AreFitAt store.now table (edit ∷ [])) }
+{
+    match at_key(store, table, key) {
+        Some(at) => Ok(Edit::Delete(at)),
+        None => Err(Refusal::NoTargetRow),
+    }
+}
+
+/// The edit that puts another number into the row of a key: the row with it is staged. `NoTargetRow` where no row of the table has
+/// the key.
+fn replacement(
+    alloc: Global,
+    store: &mut Store,
+    table: usize,
+    key: i64,
+    number: i64,
+) -> Result<Edit, Refusal>
+    requires there { table < length store.old.tables }
+    requires plain { ArePlain store.old }
+    ensures staged { HasStaged table store.old store.new }
+    ensures fit { IfOk result (λ edit. AreFitAt store.new table (edit ∷ [])) }
 {
     let Some(at) = at_key(store, table, key) else {
         return Err(Refusal::NoTargetRow);
     };
-    Ok(Few::one(Edit::Swap(at, row(alloc, key, number)?)))
+    let other = stage(alloc, store, table, key, number)?;
+    if store.keeps_key(table, at, other) {
+        Ok(Edit::Update(at, other))
+    } else {
+        Ok(Edit::Move(at, other))
+    }
 }
 
 /// Whether the row of a reference has a key.
 fn has_key(store: &Store, table: usize, at: RowRef, key: i64) -> bool
     requires there { table < length store.now.tables }
-    requires live { (stored : StoredRows) → IsAt store.now table stored → IsLive stored.places at }
+    requires live { IsLiveAt store.now table at }
 {
     let mut view = store.view();
     match view.row(table, at).get(0) {
@@ -115,7 +141,7 @@ fn has_key(store: &Store, table: usize, at: RowRef, key: i64) -> bool
 /// The reference of the row of a key, found by a walk along the keys.
 fn at_key(store: &Store, table: usize, key: i64) -> Option<RowRef>
     requires { table < length store.now.tables }
-    ensures { IfSome result (λ at. (stored : StoredRows) → IsAt store.now table stored → IsLive stored.places at) }
+    ensures { IfSome result (IsLiveAt store.now table) }
 {
     let view = store.view();
     for at in view.walk(table, IndexRef::Key) {
@@ -126,24 +152,78 @@ fn at_key(store: &Store, table: usize, key: i64) -> Option<RowRef>
     None
 }
 
-/// Makes edits of a table, and of each list what they change of it, or neither.
-pub fn make_edits(
+/// Adds the row of a key and a number to a table, or changes nothing of rows and lists.
+pub fn add(
     alloc: Global,
     store: &mut Store,
     standing: &mut Standing,
     table: usize,
-    edits: Few<Edit>,
+    key: i64,
+    number: i64,
 ) -> Result<(), Refusal>
     requires case { IsCase store.old standing.old }
     requires there { table < length store.old.tables }
-    requires fit { (stored : StoredRows) → IsAt store.old table stored → AreFit stored edits }
     ensures case { IsCase store.new standing.new }
     ensures marks { (commands changes : ℕ) → IsMark store.old standing.old commands changes → IsMark store.new standing.new commands changes }
 {
-    let prepared = prepare(alloc, store, standing, table, edits.as_slice());
+    let edit = addition(alloc, store, table, key, number)?;
+    make_edit(alloc, store, standing, table, edit)
+}
+
+/// Removes the row of a key from a table, or changes nothing of rows and lists.
+pub fn remove(
+    alloc: Global,
+    store: &mut Store,
+    standing: &mut Standing,
+    table: usize,
+    key: i64,
+) -> Result<(), Refusal>
+    requires case { IsCase store.old standing.old }
+    requires there { table < length store.old.tables }
+    ensures case { IsCase store.new standing.new }
+    ensures marks { (commands changes : ℕ) → IsMark store.old standing.old commands changes → IsMark store.new standing.new commands changes }
+{
+    let edit = removal(store, table, key)?;
+    make_edit(alloc, store, standing, table, edit)
+}
+
+/// Puts another number into the row of a key, or changes nothing of rows and lists.
+pub fn renumber(
+    alloc: Global,
+    store: &mut Store,
+    standing: &mut Standing,
+    table: usize,
+    key: i64,
+    number: i64,
+) -> Result<(), Refusal>
+    requires case { IsCase store.old standing.old }
+    requires there { table < length store.old.tables }
+    ensures case { IsCase store.new standing.new }
+    ensures marks { (commands changes : ℕ) → IsMark store.old standing.old commands changes → IsMark store.new standing.new commands changes }
+{
+    let edit = replacement(alloc, store, table, key, number)?;
+    make_edit(alloc, store, standing, table, edit)
+}
+
+/// Makes an edit of a table, and of each list what it changes of it, or neither.
+fn make_edit(
+    alloc: Global,
+    store: &mut Store,
+    standing: &mut Standing,
+    table: usize,
+    edit: Edit,
+) -> Result<(), Refusal>
+    requires case { IsCase store.old standing.old }
+    requires there { table < length store.old.tables }
+    requires fit { AreFitAt store.old table (edit ∷ []) }
+    ensures case { IsCase store.new standing.new }
+    ensures marks { (commands changes : ℕ) → IsMark store.old standing.old commands changes → IsMark store.new standing.new commands changes }
+{
+    let edits = [edit];
+    let prepared = prepare(alloc, store, standing, table, &edits);
     let mark = store.mark();
     // The refusal of the rows comes before that of the lists.
-    if let Err(refusal) = store.apply(alloc, table, edits).and(prepared) {
+    if let Err(refusal) = store.make(alloc, table, &edits).and(prepared) {
         store.revert(mark);
         standing.discard();
         return Err(refusal);
@@ -152,18 +232,36 @@ pub fn make_edits(
     Ok(())
 }
 
-/// Makes ready what edits of a table change of the lists, and drops it. Where that is refused nothing is ready, so that nothing
+/// Makes ready what the addition of a row changes of the lists, and drops it. Where that is refused nothing is ready, so that nothing
 /// comes of making what is.
 pub fn prepare_and_drop(
+    alloc: Global,
+    store: &mut Store,
+    standing: &mut Standing,
+    table: usize,
+    key: i64,
+    number: i64,
+) -> Result<(), Refusal>
+    requires case { IsCase store.old standing.old }
+    requires there { table < length store.old.tables }
+    ensures case { IsCase store.new standing.new }
+    ensures marks { (commands changes : ℕ) → IsMark store.old standing.old commands changes → IsMark store.new standing.new commands changes }
+{
+    let edit = addition(alloc, store, table, key, number)?;
+    drop_prepared(alloc, store, standing, table, edit)
+}
+
+/// Makes ready what an edit of a table changes of the lists, and drops it. Where that is refused, what is ready is made, which is nothing.
+fn drop_prepared(
     alloc: Global,
     store: &Store,
     standing: &mut Standing,
     table: usize,
-    edits: &[Edit],
+    edit: Edit,
 ) -> Result<(), Refusal>
     requires plain { ArePlain store.now }
     requires typed { HaveNumbers (before_at store.now) }
-    requires fit { (stored : StoredRows) → IsAt store.now table stored → AreFit stored edits.now }
+    requires fit { AreFitAt store.now table (edit ∷ []) }
     requires served { AreServed store.now standing.old.queries }
     requires whole { All IsWhole standing.old.queries }
     requires fits { FitNow (before_at store.now) standing.old }
@@ -175,7 +273,7 @@ pub fn prepare_and_drop(
         → count_at mark list row standing.new ≡ count_at mark list row standing.old }
     ensures now { (list : ℕ) (row : List Val) → count_now standing.new list row ≡ count_now standing.old list row }
 {
-    if let Err(refusal) = prepare(alloc, store, standing, table, edits) {
+    if let Err(refusal) = prepare(alloc, store, standing, table, &[edit]) {
         standing.apply_prepared();
         return Err(refusal);
     }
@@ -193,7 +291,7 @@ fn prepare(
 ) -> Result<(), Refusal>
     requires plain { ArePlain store.now }
     requires typed { HaveNumbers (before_at store.now) }
-    requires fit { (stored : StoredRows) → IsAt store.now table stored → AreFit stored edits.now }
+    requires fit { AreFitAt store.now table edits.now }
     requires served { AreServed store.now standing.old.queries }
     requires whole { All IsWhole standing.old.queries }
     requires fits { FitNow (before_at store.now) standing.old }
@@ -209,23 +307,31 @@ fn prepare(
     standing.prepare(alloc, &mut view, &changes)
 }
 
-/// By how much the count of each row of a query changes with edits of a table.
+/// By how much the count of each row of a query changes with the addition of a row to a table, which is not made.
 pub fn changes_of(
     alloc: Global,
-    store: &Store,
+    store: &mut Store,
     query: &BoundQuery,
     tables: &[usize],
     table: usize,
-    edits: &[Edit],
+    key: i64,
+    number: i64,
 ) -> Result<Vec<Signed>, AllocError>
-    requires fit { (stored : StoredRows) → IsAt store.now table stored → AreFit stored edits.now }
-    requires there { All (λ place. place < length store.now.tables) tables.now }
+    requires there { table < length store.old.tables }
+    requires plain { ArePlain store.old }
+    requires tables { All (λ place. place < length store.old.tables) tables.now }
     requires few { length tables.now ≤ 4 }
     requires whole { length tables.now ≡ length query.now.from }
     requires unshifted { is_unshifted query.now ≡ true }
+    ensures staged { HasStaged table store.old store.new }
 {
+    let edit = addition(alloc, store, table, key, number)?;
     let mut view = store.view();
-    let changes = [TableChange { table, edits }];
+    let edits = [edit];
+    let changes = [TableChange {
+        table,
+        edits: &edits,
+    }];
     delta(alloc, &mut view, query, tables, &changes)
 }
 

@@ -1,6 +1,6 @@
 use Rattle.std.proofs.Common.{[], map, refl, ap, sym, subst, ◌∙◌}
 use Rattle.std.specs.Option.{IsSome, option_copied_mut, option_map_or}
-use Rattle.mm_partition.specs.Reads.{row_read}
+use Rattle.mm_partition.specs.Views.{viewed}
 use Rattle.mm_delta.proofs.Under.{put_behind}
 use Rattle.mm_delta.proofs.coming_index.add_found.Goals as goal
 
@@ -10,4 +10,4 @@ returns-in_ok-push-in-Some-clause-added c =
     let written = c.get_mut.follows.holds c.push.new.self in
     λ _. put_behind c.args.value.now c.args.row c.args.rows.now.entries (c.get_mut.follows.lender c.push.new.self).entries c.push.new.self
     (written.3 (subst IsSome (sym had) refl)).0 c.in-Some.list.now.items c.in_ok-push-in-Some.ensures.items
-    (ap (λ o. map row_read (option_map_or (λ l. l.items) o [])) had)
+    (ap (λ o. map viewed (option_map_or (λ l. l.items) o [])) had)

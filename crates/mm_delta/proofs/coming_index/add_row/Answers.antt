@@ -7,8 +7,8 @@ use Rattle.mm_delta.proofs.coming_index.add_row.Goals as goal
 pub returns : goal.returns
 returns c =
     let kept = c.in_ok-add_found.ensures.kept c.if-branch.false in
-    put_behind c.args.value.now c.args.row c.args.rows.now.entries c.insert.new.self.entries c.push.new.self
-    (λ q. c.in_ok-insert.ensures.updates.0 q ∙ (λ i. cond (same_value (c.in_ok-copy.ensures.ok i) q) (Some c.push.new.self)
+    put_behind c.args.value c.args.row c.args.rows.now.entries c.insert.new.self.entries c.push.new.self
+    (λ q. c.in_ok-insert.ensures.updates.0 q ∙ (λ i. cond (same_value c.args.value q) (Some c.push.new.self)
     (lookup (same_value q) (kept i).entries)))
     [] (c.in_ok-push.ensures.items ∙ ap (λ l. l ++ c.args.row ∷ []) c.new-list.ensures.items)
     (c.in_ok-add_found.ensures.absent c.if-branch.false)

@@ -14,7 +14,7 @@ pub returns-clause-left_out : goal.returns-clause-left_out
 returns-clause-left_out c query store changes tables skipped k all =
     left_out_counted (skipped k)
     (λ row. reads_for query store changes tables k (other_places (length tables) k) (one_row (length tables) k row))
-    (gone_at store changes (get_or tables k 0)) (come_at changes (get_or tables k 0)) all
+    (gone_at store changes (get_or tables k 0)) (come_at store changes (get_or tables k 0)) all
 
 pub returns-clause-single : goal.returns-clause-single
 returns-clause-single c query store changes tables skipped k row single =

@@ -1,7 +1,7 @@
 use Rattle.std.proofs.Common.{◌≡◌, ◌==◌, true, true≢false, length, List, [], ◌∷◌, refl, ap, sym, ◌∙◌, rules, filter}
 use Rattle.std.proofs.Math.Dec.{eqb-suc-zero}
 use Rattle.std.proofs.lemmas.Fn.{filter_same}
-use Rattle.mm_store.specs.declared.edit.Edit.{Edit}
+use Rattle.mm_tables.specs.declared.edit.Edit.{Edit}
 use Rattle.mm_value.specs.declared.row_ref.RowRef.{RowRef}
 use Rattle.mm_delta.specs.Steps.{stays}
 use Rattle.mm_delta.proofs.rows.leave_standing.Goals as goal

@@ -4,4 +4,4 @@ use Rattle.mm_delta.specs.Steps.{stays}
 use Rattle.mm_delta.proofs.edit_index.EditIndex.leave_standing.Goals as goal
 
 pub returns : goal.returns
-returns c = filter_same _ (stays c.args.self.now) _ (λ at b f k. search rules) _ _ c.retain.ensures.filtered
+returns c = filter_same _ (stays c.args.self.now.edits) _ (λ at b f k. search rules) _ _ c.retain.ensures.filtered

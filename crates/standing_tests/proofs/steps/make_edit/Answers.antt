@@ -1,5 +1,5 @@
 -- The lists follow the rows, and each mark stays. Where a change is refused, rows and lists go back to what they were.
-use Rattle.std.proofs.Common.{◌≡◌, ◌≤◌, ℕ, List, OnOk, Ok, Err, length, map, sym, ap, subst, ◌∙◌, arith}
+use Rattle.std.proofs.Common.{◌≡◌, ◌≤◌, ℕ, List, [], ◌∷◌, OnOk, Ok, Err, length, map, sym, ap, subst, ◌∙◌, arith}
 use Rattle.std.specs.Prelude.{Result}
 use Rattle.std.specs.Result.{result_and}
 use Rattle.mm_value.specs.declared.refusal.Refusal.{Refusal}
@@ -9,8 +9,7 @@ use Rattle.mm_indexed.specs.RowLists.{rows_of}
 use Rattle.mm_store.proofs.MarkLaws.{KeepsMarks-then}
 use Rattle.mm_store.specs.Marks.{KeepsMarks, mark_of}
 use Rattle.mm_store.specs.Tables.{Tables}
-use Rattle.mm_store.specs.declared.edit.Edit.{Edit}
-use Rattle.mm_standing.specs.State.{FitPrepared, Lists, count_at, count_now}
+use Rattle.mm_standing.specs.State.{Lists, count_at, count_now}
 use Rattle.mm_standing.specs.declared.change.ListChange.{ListChange}
 use Rattle.store_tests.proofs.PlainStores.{plain_formed}
 use Rattle.standing_tests.specs.Cases.{rows_edited}
@@ -18,8 +17,8 @@ use Rattle.standing_tests.proofs.CaseSteps.{case_still, mark_still}
 use Rattle.standing_tests.proofs.ListCounts.{counts_still, fit_made, older_made, same_at, same_now, undone_made}
 use Rattle.standing_tests.proofs.NumberRows.{numbers_edited}
 use Rattle.standing_tests.proofs.TableRows.{before_same, rows_made}
-use Rattle.standing_tests.proofs.steps.make_edits.Goals as goal
-use Rattle.standing_tests.proofs.steps.make_edits.Goals.{After-discard}
+use Rattle.standing_tests.proofs.steps.make_edit.Goals as goal
+use Rattle.standing_tests.proofs.steps.make_edit.Goals.{After-discard}
 
 -- If both results are fine, so is each.
 first_ok : (r s : Result Unit Refusal) (u : Unit) {P : Type 0} → result_and r s ≡ Ok u → OnOk r P → P
@@ -34,30 +33,30 @@ second_ok (Err x) s u e p = let no : Err x ≡ Ok u = e in cc
 -- The marks of the log as it was.
 marks_back : (c : After-discard) → (mark : ℕ) → mark ≤ mark_of c.args.store.now → KeepsMarks c.args.store.now c.revert.new.self mark
 marks_back c mark within =
-    KeepsMarks-then c.args.store.now c.apply.new.self c.revert.new.self mark (c.apply.ensures.marks mark within)
+    KeepsMarks-then c.args.store.now c.make.new.self c.revert.new.self mark (c.make.ensures.marks mark within)
     (c.revert.ensures.marks mark (subst (λ n. mark ≤ n) (sym c.mark-mark.ensures.mark) within))
 
 rows_back : (c : After-discard) → map (λ (s : StoredRows). rows_of s) c.revert.new.self.tables ≡ map (λ (s : StoredRows). rows_of s) c.args.store.now.tables
 rows_back c =
     c.revert.ensures.rows
-    ∙ ((c.apply.ensures.marks c.mark-mark.result (omega (arith, c.mark-mark.ensures.mark))).rows ∙ c.mark-mark.ensures.rows)
+    ∙ ((c.make.ensures.marks c.mark-mark.result (omega (arith, c.mark-mark.ensures.mark))).rows ∙ c.mark-mark.ensures.rows)
 
 pub revert-requires : goal.revert-requires
 revert-requires c =
-    record { mark = (c.apply.ensures.marks c.mark-mark.result (omega (arith, c.mark-mark.ensures.mark))).kept c.mark-mark.ensures.is }
+    record { mark = (c.make.ensures.marks c.mark-mark.result (omega (arith, c.mark-mark.ensures.mark))).kept c.mark-mark.ensures.is }
 
 pub returns-in-Err-clause-case : goal.returns-in-Err-clause-case
 returns-in-Err-clause-case c =
     let store = c.args.store.now in
     let lists = c.args.standing.now in
-    let mid = c.apply.new.self in
+    let mid = c.make.new.self in
     let new = c.revert.new.self in
     let left = c.discard.new.self in
-    let first = c.apply.ensures.form.size in
+    let first = c.make.ensures.form.size in
     let second = c.revert.ensures.form.size in
     let queries = ap (λ (l : Lists). l.queries) c.discard.ensures ∙ c.prepare-prepared.ensures.queries in
     case_still store new lists left queries c.requires.case (omega arith)
-    (plain_formed mid new c.revert.ensures.form (plain_formed store mid c.apply.ensures.form c.requires.case.plain))
+    (plain_formed mid new c.revert.ensures.form (plain_formed store mid c.make.ensures.form c.requires.case.plain))
     (before_at store) (before_same store new (rows_back c)) c.requires.case.typed
     (counts_still (count_now lists) (count_now left) (before_at store) lists.queries left.queries queries
     (λ list row. ap (λ (l : Lists). count_now l list row) c.discard.ensures
@@ -81,19 +80,18 @@ pub returns-clause-case : goal.returns-clause-case
 returns-clause-case c =
     let store = c.args.store.now in
     let lists = c.args.standing.now in
-    let new = c.apply.new.self in
+    let new = c.make.new.self in
     let mid = c.prepare-prepared.new.standing in
     let left = c.apply_prepared.new.self in
-    let rows = rows_edited store c.args.table c.args.edits in
-    let size = c.apply.ensures.form.size in
+    let rows = rows_edited store c.args.table (c.args.edit ∷ []) in
+    let size = c.make.ensures.form.size in
     case_still store new lists left (c.apply_prepared.ensures.queries ∙ c.prepare-prepared.ensures.queries) c.requires.case
-    (omega arith) (plain_formed store new c.apply.ensures.form c.requires.case.plain) rows
-    (rows_made store new c.args.table c.requires.there c.args.edits
-    (first_ok c.apply.result c.prepare-prepared.result c.in_default.field-0 (sym c.in_default.ensures) c.apply.ensures.ok))
-    (numbers_edited store c.args.table c.args.edits c.requires.case.plain c.requires.case.typed c.requires.fit)
+    (omega arith) (plain_formed store new c.make.ensures.form c.requires.case.plain) rows
+    (rows_made store new c.args.table c.requires.there (c.args.edit ∷ [])
+    (first_ok c.make.result c.prepare-prepared.result c.in_default.field-0 (sym c.in_default.ensures) c.make.ensures.ok))
+    (numbers_edited store c.args.table (c.args.edit ∷ []) c.requires.case.plain c.requires.case.typed c.requires.fit)
     (fit_made lists mid left c.apply_prepared.ensures.made rows
-    (subst (λ (es : List Edit). FitPrepared (rows_edited store c.args.table es) mid) c.as_slice.ensures
-    (second_ok c.apply.result c.prepare-prepared.result c.in_default.field-0 (sym c.in_default.ensures) c.prepare-prepared.ensures.ok))
+    (second_ok c.make.result c.prepare-prepared.result c.in_default.field-0 (sym c.in_default.ensures) c.prepare-prepared.ensures.ok)
     c.apply_prepared.ensures.queries)
     c.apply_prepared.ensures.prepared
 
@@ -104,7 +102,7 @@ returns-clause-marks c = λ commands changes mark.
     let left = c.apply_prepared.new.self in
     let older = older_made lists mid left c.apply_prepared.ensures.made c.prepare-prepared.ensures.log in
     let changes_there = mark.changes_there in
-    mark_still c.args.store.now c.apply.new.self lists left (c.apply_prepared.ensures.queries ∙ c.prepare-prepared.ensures.queries) commands changes
-    (c.apply.ensures.marks commands mark.commands_there.within) (omega arith)
+    mark_still c.args.store.now c.make.new.self lists left (c.apply_prepared.ensures.queries ∙ c.prepare-prepared.ensures.queries) commands changes
+    (c.make.ensures.marks commands mark.commands_there.within) (omega arith)
     (undone_made lists mid left c.apply_prepared.ensures.made c.prepare-prepared.ensures.entries c.prepare-prepared.ensures.log changes changes_there)
     mark
