@@ -1,15 +1,20 @@
 -- The edits of all tables that a change concerns: those of the table that it names, and the cascaded ones.
-use Rattle.std.proofs.Common.{◌≡◌, ℕ, Bool, true, false, List, [], ◌∷◌, Option, Some, Bor, map, slice_get, refl, sym, ap, ◌∙◌, arith}
-use Rattle.std.specs.List.{filter, filter_map}
+use Rattle.std.proofs.Common.{◌≡◌, ℕ, Bool, true, false, List, [], ◌∷◌, Option, Some, None, Bor, map, slice_get, refl, sym, ap, subst, ◌∙◌, arith}
+use Rattle.std.specs.List.{filter}
 use Rattle.std.specs.Option.{option_map_or}
 use Rattle.std.proofs.lemmas.List.Elements.{All-cons, All-nil}
 use Rattle.mm_partition.specs.Places.{slot_at}
-use Rattle.mm_store.specs.RowEdits.{new_rows, edit_pairs}
+use Rattle.mm_store.specs.Edits.{pairs_of}
+use Rattle.mm_txn.specs.RowEdits.{BringNone}
 use Rattle.mm_indexed.specs.Kept.{StoredRows}
-use Rattle.mm_store.specs.declared.edit.Edit.{Edit}
+use Rattle.mm_link.specs.Targets.{pair_of}
+use Rattle.mm_row_order.specs.Refs.{Slots}
+use Rattle.mm_tables.specs.Edits.{came_by}
+use Rattle.mm_tables.specs.declared.edit.Edit.{Edit}
+use Rattle.mm_tables.specs.declared.edit.Edit.TheVariants.{Move, Stage}
+use Rattle.mm_tables.specs.declared.edit.Edit.TheVariants as edit
 use Rattle.mm_schema.specs.Instance.{TableEdits as NamedEdits}
 use Rattle.mm_schema.specs.Name.{same_name}
-use Rattle.mm_schema.specs.Rows.{Pair}
 use Rattle.mm_schema.specs.Schema.{Schema}
 use Rattle.mm_schema.specs.declared.table.Table.{Table}
 use Rattle.mm_schema.proofs.Instances.{name_of}
@@ -23,7 +28,7 @@ use Rattle.mm_query.specs.declared.bind.BoundChange.TheVariants as bound
 use Rattle.mm_query.specs.declared.bound_query.FieldPlace.{FieldPlace}
 use Rattle.mm_query.specs.declared.command.Mutation.{Mutation}
 use Rattle.mm_query.specs.declared.command.Mutation.TheVariants.{Insert, Update, Delete}
-use Rattle.mm_laws.proofs.Removals.{AreRemovals, none_comes, removals_remove}
+use Rattle.mm_laws.proofs.Removals.{AreRemovals, removals_remove}
 use Rattle.mm_store.specs.Tables.{Tables}
 use Rattle.mm_plan.specs.Kept.{AreOf, instance_of}
 use Rattle.mm_txn.specs.Bound.{bound_of}
@@ -33,7 +38,6 @@ use Rattle.mm_txn.specs.declared.bound.ChangeToRun.TheVariants as run
 use Rattle.mm_txn.specs.PlacedEdits.{AreEdits, AreEditsOf, AreOwnEditsOf, FitsAt, PlacedEdits, named, pairs_at}
 use Rattle.mm_txn.proofs.DatabaseSteps.{rows_there, some_there}
 use Rattle.mm_txn.proofs.ReferenceRows.{found_passes}
-use Rattle.mm_store.proofs.RowLists.{come}
 
 -- ---- a change that may cascade
 
@@ -77,6 +81,18 @@ other_edits (Insert table tuples) state is = refl
 other_edits (Update table assignments tests) state is = refl
 other_edits (Delete table tests) state is = cc
 
+-- Edits bring no rows where none comes by their pairs.
+bring_none : (now : Slots) (es : List Edit) → AreRemovals (pairs_of now es) → BringNone es
+bring_none now [] none = All-nil (λ (e : Edit). came_by e ≡ None)
+bring_none now (e ∷ es) none = All-cons (λ (f : Edit). came_by f ≡ None) e es (one e none.0) (bring_none now es none.1)
+  where
+    one : (f : Edit) → (pair_of now f).1 ≡ None → came_by f ≡ None
+    one (Stage at) is = refl
+    one (edit.Insert at) is = cc
+    one (edit.Update at other) is = cc
+    one (Move at other) is = cc
+    one (edit.Delete at) is = refl
+
 -- ---- the edits of one
 
 module _ (schema : Schema) (store : Tables) (are : AreOf schema.tables store.tables) (mutation : Mutation) (place : ℕ) (edits : List Edit)
@@ -95,11 +111,10 @@ module _ (schema : Schema) (store : Tables) (are : AreOf schema.tables store.tab
   own_fit = (stored_there.0, stored_there.1, own.fit stored_there.0 stored_there.1)
 
   -- .. bring no rows where rows may be cascaded, ..
-  pub own_removes : is_delete mutation ≡ true → new_rows edits ≡ []
+  pub own_removes : is_delete mutation ≡ true → BringNone edits
   own_removes is =
-      sym (come (slot_at stored_there.0.places) edits)
-      ∙ (ap (filter_map (λ (p : Pair). p.1)) (own.pairs stored_there.0 stored_there.1)
-      ∙ none_comes (own_pairs mutation state) (delete_removes mutation state is))
+      bring_none (slot_at stored_there.0.places) edits
+      (subst AreRemovals (sym (own.pairs stored_there.0 stored_there.1)) (delete_removes mutation state is))
 
   own_named : named schema store.tables own_placed ≡ own_edits mutation state
   own_named =
@@ -110,7 +125,7 @@ module _ (schema : Schema) (store : Tables) (are : AreOf schema.tables store.tab
       let called : option_map_or name_of (slice_get schema.tables place) [] ≡ name =
       ap (λ (t : Option Table). option_map_or name_of t []) table.1 ∙ sym (same_bytes name (name_of table.0) mine) in
       let pairs : pairs_at store.tables own_placed ≡ own_pairs mutation state =
-      ap (λ (s : Option StoredRows). option_map_or (λ stored. edit_pairs (slot_at stored.places) edits) s []) stored_there.1
+      ap (λ (s : Option StoredRows). option_map_or (λ stored. pairs_of (slot_at stored.places) edits) s []) stored_there.1
       ∙ own.pairs stored_there.0 stored_there.1 in
       λ i. record { table = called i; pairs = pairs i }
 

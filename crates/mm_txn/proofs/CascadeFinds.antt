@@ -9,12 +9,14 @@ use Rattle.std.proofs.lemmas.List.Elements.{All-cons, All-nil, All-push, filter-
 use Rattle.std.proofs.lemmas.List.Folds.{list_any-append}
 use Rattle.std.proofs.lemmas.List.Quantifiers.{all_pairs_push}
 use Rattle.mm_partition.specs.Places.{slot_at}
-use Rattle.mm_store.specs.RowEdits.{edit_pairs, new_rows, old_ref, old_refs}
+use Rattle.mm_txn.specs.RowEdits.{BringNone}
 use Rattle.mm_indexed.specs.Kept.{StoredRows}
 use Rattle.mm_indexed.specs.Twins.{AreApart}
-use Rattle.mm_row_order.specs.Refs.{HasRow}
+use Rattle.mm_row_order.specs.Refs.{HasRow, Slots}
 use Rattle.mm_indexed.specs.RowLists.{rows_of}
-use Rattle.mm_store.specs.declared.edit.Edit.{Edit}
+use Rattle.mm_tables.specs.Edits.{Fits}
+use Rattle.mm_tables.specs.declared.edit.Edit.{Edit}
+use Rattle.mm_tables.specs.declared.edit.Edit.TheVariants.{Delete, Insert, Move, Stage, Update}
 use Rattle.mm_schema.specs.Instance.{TableEdits as NamedEdits}
 use Rattle.mm_schema.specs.References.{refers}
 use Rattle.mm_schema.specs.Rows.{Pair}
@@ -26,7 +28,8 @@ use Rattle.mm_schema.proofs.Duplicates.{Row}
 use Rattle.mm_query.specs.Edits.{also, is_cascaded, removals_of, with_cascades}
 use Rattle.mm_delta.specs.Steps.{takes}
 use Rattle.mm_link.specs.Links.{RefersTo}
-use Rattle.mm_store.specs.Tables.{AreFit, IsAt, Tables, rows_at}
+use Rattle.mm_store.specs.Edits.{AreFit, old_slot, pairs_of}
+use Rattle.mm_store.specs.Tables.{IsAt, Tables, rows_at}
 use Rattle.mm_value.specs.declared.row_ref.RowRef.{RowRef}
 use Rattle.mm_txn.specs.Cascades.{IsCascade, PlacedCascade, is_cascaded_by, is_cascaded_by_some, placed_cascade}
 use Rattle.mm_txn.specs.declared.cascades.Cascade.{Cascade}
@@ -40,15 +43,12 @@ use Rattle.mm_txn.proofs.Referrers.{rows_taken, target_goes, tests}
 
 -- ---- edits of one table
 
-named_in : (es : List Edit) (e : Edit) → IsIn e es → (at : RowRef) → old_ref e ≡ Some at → IsIn at (old_refs es)
-named_in [] e here at name = absurd here
-named_in (x ∷ xs) e (inl same) at name =
-    subst (λ (o : Option RowRef). IsIn at (cons_option o (old_refs xs))) (sym (ap old_ref same ∙ name)) (inl refl)
-named_in (x ∷ xs) e (inr later) at name = by (old_ref x) (named_in xs e later at name)
-  where
-    by : (o : Option RowRef) → IsIn at (old_refs xs) → IsIn at (cons_option o (old_refs xs))
-    by None there = there
-    by (Some other) there = inr there
+fits_live : (key : ℕ) (now : Slots) (e : Edit) → Fits key now e → (at : RowRef) → old_slot e ≡ Some at → HasRow now at
+fits_live key now (Stage other) fits at name = cc
+fits_live key now (Insert other) fits at name = cc
+fits_live key now (Update taken other) fits at name = let same : taken ≡ at = cc in subst (HasRow now) same fits.0
+fits_live key now (Move taken other) fits at name = let same : taken ≡ at = cc in subst (HasRow now) same fits.0
+fits_live key now (Delete taken) fits at name = let same : taken ≡ at = cc in subst (HasRow now) same fits
 
 same_at : (store : Tables) (place : ℕ) (a b : StoredRows) → IsAt store place a → IsAt store place b → a ≡ b
 same_at store place a b at_a at_b = let both : Some a ≡ Some b = sym at_a ∙ at_b in cc
@@ -57,19 +57,17 @@ pub fits_relation : (store : Tables) (change : PlacedEdits) → FitsAt store cha
 fits_relation store change fit target at = subst (λ (s : StoredRows). AreFit s change.1) (same_at store change.0 fit.0 target fit.1 at) fit.2
 
 -- The row that an edit takes away is there.
-pub gone_live : (store : Tables) (change : PlacedEdits) → FitsAt store change → (target : StoredRows) → IsAt store change.0 target → (k : ℕ) (e : Edit)
-    → k < length change.1 → e ≡ get_or change.1 k e → (at : RowRef) → old_ref e ≡ Some at → HasRow (slot_at target.places) at
-gone_live store change fit target there k e within is at name =
-    AllByRecursion-IsIn (HasRow (slot_at target.places)) (old_refs change.1) at
-    (recursion_from_All (HasRow (slot_at target.places)) (old_refs change.1) (fits_relation store change fit target there).standing.live)
-    (named_in change.1 e (IsIn-from_Contains change.1 e (k, within, sym is)) at name)
+pub gone_live : (store : Tables) (change : PlacedEdits) → FitsAt store change → (target : StoredRows) → IsAt store change.0 target → (k : ℕ) (d : Edit)
+    → k < length change.1 → (at : RowRef) → old_slot (get_or change.1 k d) ≡ Some at → HasRow (slot_at target.places) at
+gone_live store change fit target there k d within at name =
+    fits_live target.key (slot_at target.places) (get_or change.1 k d) ((fits_relation store change fit target there).ready.fits k d within) at name
 
 -- Rows go by edits as they do by the rows that these take away.
 pub is_cascaded_by_at : (store : Tables) (column : ℕ) (change : PlacedEdits) (target : StoredRows) → IsAt store change.0 target → (row : Row)
     → tests column target.key (rows_taken (slot_at target.places) change.1) row ≡ is_cascaded_by store.tables column change row
 is_cascaded_by_at store column change target at row = λ i.
     list_any (refers column (option_map_or (λ (s : StoredRows). s.key) (sym at i) 0) row)
-    (filter_map (λ (p : Pair). p.0) (option_map_or (λ (s : StoredRows). edit_pairs (slot_at s.places) change.1) (sym at i) []))
+    (filter_map (λ (p : Pair). p.0) (option_map_or (λ (s : StoredRows). pairs_of (slot_at s.places) change.1) (sym at i) []))
 
 -- What a row refers to goes exactly if the row is cascaded.
 pub scan_goes : (store : Tables) (table column : ℕ) (change : PlacedEdits) → IsCascade store table column change → (row : Row) (found : RowRef)
@@ -79,7 +77,7 @@ pub scan_goes : (store : Tables) (table column : ℕ) (change : PlacedEdits) →
     → list_any (takes found) change.1 ≡ is_cascaded_by store.tables column change row
 scan_goes store table column change is row found (target, to, link, at, refers_to) apart =
     let own : IsAt store change.0 target = subst (λ n. IsAt store n target) (is.link.1 to link) at in
-    target_goes column target (apart target own) row found refers_to change.1 (fits_relation store change is.fit target own).standing
+    target_goes column target (apart target own) row found refers_to change.1 (fits_relation store change is.fit target own).ready.fits
     ∙ is_cascaded_by_at store column change target own row
 
 pub filter_push : (q : RowRef → Bool) (xs : List RowRef) (x : RowRef) (b : Bool) → q x ≡ b → filter q (xs ++ x ∷ []) ≡ filter q xs ++ cond b (x ∷ []) []
@@ -101,17 +99,19 @@ removals_found own cascaded place k x within is here other rest =
 -- ---- columns
 
 pub cascade_so : (P : PlacedCascade → Type 0) (cascades : List PlacedCascade) → All P cascades → (cs : List Cascade) → map placed_cascade cs ≡ cascades
-    → (k : ℕ) (c : Cascade)
-    → k < length cs → c ≡ get_or cs k c → P (placed_cascade c)
-cascade_so P cascades all cs same k c within is =
-    subst P (ap (λ xs. get_or xs k (placed_cascade c)) (sym same) ∙ get_or-map placed_cascade cs k c (placed_cascade c) within ∙ ap placed_cascade (sym is))
-    (all k (placed_cascade c) (subst (λ n. k < n) (sym (length-map cs placed_cascade) ∙ ap length same) within))
+    → (k : ℕ) (d : Cascade) → k < length cs → P (placed_cascade (get_or cs k d))
+cascade_so P cascades all cs same k d within =
+    subst P (ap (λ xs. get_or xs k (placed_cascade d)) (sym same) ∙ get_or-map placed_cascade cs k d (placed_cascade d) within)
+    (all k (placed_cascade d) (subst (λ n. k < n) (sym (length-map cs placed_cascade) ∙ ap length same) within))
 
-pub placed_cascade_push : (rs : List StoredRows) (cs : List Cascade) (k : ℕ) (c : Cascade) → k < length cs → c ≡ get_or cs k c → (row : Row)
-    → (is_cascaded_by_some rs (map placed_cascade (take k cs)) row || is_cascaded_by rs c.column (c.to, c.gone.now) row)
+pub placed_cascade_push : (rs : List StoredRows) (cs : List Cascade) (k : ℕ) (d : Cascade) → k < length cs → (row : Row)
+    → (is_cascaded_by_some rs (map placed_cascade (take k cs)) row || is_cascaded_by rs (placed_cascade (get_or cs k d)).0
+    (placed_cascade (get_or cs k d)).1 row)
     ≡ is_cascaded_by_some rs (map placed_cascade (take (k + 1) cs)) row
-placed_cascade_push rs cs k c within is row = sym
-    (ap (λ xs. is_cascaded_by_some rs (map placed_cascade xs) row) (take_more cs k c within ∙ ap (λ x. take k cs ++ x ∷ []) (sym is))
+placed_cascade_push rs cs k d within row =
+    let c : Cascade = get_or cs k d in
+    sym
+    (ap (λ xs. is_cascaded_by_some rs (map placed_cascade xs) row) (take_more cs k d within)
     ∙ ap (λ xs. is_cascaded_by_some rs xs row) (map-append placed_cascade (take k cs) (c ∷ []))
     ∙ list_any-append (λ (a : PlacedCascade). is_cascaded_by rs a.0 a.1 row) (map placed_cascade (take k cs)) (placed_cascade c ∷ [])
     ∙ ap (λ b. is_cascaded_by_some rs (map placed_cascade (take k cs)) row || b) (or_false (is_cascaded_by rs c.column (c.to, c.gone.now) row)))
@@ -130,11 +130,11 @@ one_edited store own fit = record {
 }
 
 pub one_more : (store : Tables) (cs : List PlacedEdits) (c : PlacedEdits) → AreEdits store cs → FitsAt store c → All (λ (d : PlacedEdits). d.0 < c.0) cs
-    → All (λ (d : PlacedEdits). new_rows d.1 ≡ []) cs → new_rows c.1 ≡ [] → AreEdits store (cs ++ c ∷ [])
+    → All (λ (d : PlacedEdits). BringNone d.1) cs → BringNone c.1 → AreEdits store (cs ++ c ∷ [])
 one_more store cs c are fit before removals none = record {
   fit = All-push (FitsAt store) cs c are.fit fit;
   ascend = all_pairs_push (λ (a b : PlacedEdits). a.0 < b.0) cs c are.ascend before;
-  removals = λ more. All-push (λ (d : PlacedEdits). new_rows d.1 ≡ []) cs c removals none;
+  removals = λ more. All-push (λ (d : PlacedEdits). BringNone d.1) cs c removals none;
 }
 
 module _ (schema : Schema) (store : Tables) (kept : AreKept schema store) (distinct : HasDistinctNames schema) where
@@ -175,7 +175,7 @@ module _ (schema : Schema) (store : Tables) (kept : AreKept schema store) (disti
     pub none_more : edits ≡ [] → rest_from table before ≡ rest_from (table + 1) before
     none_more none = next ∙ ap (λ ps. rest_from (table + 1) (also before (named schema rs (table, edits)).table ps)) no_pairs
       where
-        at_none : (o : Option StoredRows) → option_map_or (λ (s : StoredRows). edit_pairs (slot_at s.places) []) o [] ≡ []
+        at_none : (o : Option StoredRows) → option_map_or (λ (s : StoredRows). pairs_of (slot_at s.places) []) o [] ≡ []
         at_none None = refl
         at_none (Some s) = refl
 
@@ -188,7 +188,7 @@ module _ (schema : Schema) (store : Tables) (kept : AreKept schema store) (disti
         next ∙ ap (rest_from (table + 1)) (also_some before (named schema rs (table, edits)).table (pairs_at rs (table, edits)) pairs_there
         ∙ sym (map-append (named schema rs) cs ((table, edits) ∷ [])))
       where
-        not_none : (s : StoredRows) (es : List Edit) → es ≢ [] → edit_pairs (slot_at s.places) es ≢ []
+        not_none : (s : StoredRows) (es : List Edit) → es ≢ [] → pairs_of (slot_at s.places) es ≢ []
         not_none s [] there none = there refl
         not_none s (e ∷ es) there none = cc
 
@@ -196,7 +196,7 @@ module _ (schema : Schema) (store : Tables) (kept : AreKept schema store) (disti
         pairs_there none =
             let stored = some_at rs table (subst (λ n. table < n) (as_many schema.tables rs kept.relations) within) in
             not_none stored.0 edits some
-            (sym (ap (λ o. option_map_or (λ (s : StoredRows). edit_pairs (slot_at s.places) edits) o []) stored.1) ∙ none)
+            (sym (ap (λ o. option_map_or (λ (s : StoredRows). pairs_of (slot_at s.places) edits) o []) stored.1) ∙ none)
 
   pub rest_at_last : (k : ℕ) → length schema.tables ≤ k → (es : List NamedEdits) → rest_from k es ≡ es
   rest_at_last k past es = all_done schema schema.tables (instance_of rs) k es past

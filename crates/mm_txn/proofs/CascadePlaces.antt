@@ -8,7 +8,7 @@ use Rattle.std.proofs.lemmas.List.Elements.{recursion_from_All}
 use Rattle.std.proofs.lemmas.Map.Keys.{IsDistinct-head, IsDistinct-tail}
 use Rattle.mm_partition.specs.Places.{slot_at}
 use Rattle.mm_indexed.specs.Kept.{StoredRows}
-use Rattle.mm_store.specs.RowEdits.{edit_pairs}
+use Rattle.mm_store.specs.Edits.{pairs_of as edit_pairs}
 use Rattle.mm_schema.specs.Columns.{cascades, cascading_target, target_of}
 use Rattle.mm_schema.specs.Instance.{TableEdits, pairs_of}
 use Rattle.mm_schema.specs.Name.{same_name}

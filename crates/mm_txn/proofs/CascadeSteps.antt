@@ -6,8 +6,8 @@ use Rattle.std.proofs.lemmas.Bool.{cases_Bool, false≢true}
 use Rattle.std.proofs.lemmas.List.Folds.{list_any-append}
 use Rattle.std.proofs.lemmas.Map.Keys.{IsDistinct-head, IsDistinct-tail}
 use Rattle.mm_row_order.specs.Refs.{Slots, row_at}
-use Rattle.mm_store.specs.RowEdits.{edit_pairs}
-use Rattle.mm_store.specs.declared.edit.Edit.TheVariants.{Gone}
+use Rattle.mm_store.specs.Edits.{pairs_of}
+use Rattle.mm_tables.specs.declared.edit.Edit.TheVariants.{Delete}
 use Rattle.mm_schema.specs.Instance.{Instance, TableEdits}
 use Rattle.mm_schema.specs.Name.{same_name}
 use Rattle.mm_schema.specs.References.{RefersBack, cascading_of, references_of, refers}
@@ -23,6 +23,7 @@ use Rattle.mm_query.specs.Edits.{also, is_cascaded, old_rows, removals_of, with_
 use Rattle.mm_query.proofs.FoundTargets.{none_by_each}
 use Rattle.mm_value.specs.declared.row_ref.RowRef.{RowRef}
 use Rattle.mm_txn.proofs.CascadePlaces.{among_references, lacks_at}
+use Rattle.mm_txn.proofs.EditsMade.{pairs-gone}
 
 -- ---- the tables up to that of the command
 
@@ -132,11 +133,7 @@ rows_filtered now q p (x ∷ xs) same =
     by true false e later = cc
     by false true e later = cc
 
-pairs_removed : (now : Slots) (refs : List RowRef) → edit_pairs now (map Gone refs) ≡ removals_of (map (row_at now) refs)
-pairs_removed now [] = refl
-pairs_removed now (x ∷ xs) = ap (λ (pairs : List Pair). (Some (row_at now x), None) ∷ pairs) (pairs_removed now xs)
-
 -- The pairs of the removals of references that pass where their rows do.
 pub pairs_filtered : (now : Slots) (q : RowRef → Bool) (p : Row → Bool) (refs : List RowRef) → ((at : RowRef) → IsIn at refs → q at ≡ p (row_at now at))
-    → edit_pairs now (map Gone (filter q refs)) ≡ removals_of (filter p (map (row_at now) refs))
-pairs_filtered now q p refs same = pairs_removed now (filter q refs) ∙ ap removals_of (rows_filtered now q p refs same)
+    → pairs_of now (map Delete (filter q refs)) ≡ removals_of (filter p (map (row_at now) refs))
+pairs_filtered now q p refs same = pairs-gone now (filter q refs) ∙ ap removals_of (rows_filtered now q p refs same)

@@ -7,9 +7,9 @@ use Rattle.std.proofs.lemmas.Bool.{eqb-true, false≢true}
 use Rattle.std.proofs.lemmas.List.Elements.{All-from_recursion, recursion_from_All}
 use Rattle.mm_partition.specs.Places.{slot_at}
 use Rattle.mm_indexed.specs.Kept.{StoredRows}
-use Rattle.mm_store.specs.RowEdits.{edit_pairs}
+use Rattle.mm_store.specs.Edits.{pairs_of}
 use Rattle.mm_indexed.specs.RowLists.{rows_of}
-use Rattle.mm_store.specs.declared.edit.Edit.{Edit}
+use Rattle.mm_tables.specs.declared.edit.Edit.{Edit}
 use Rattle.mm_schema.specs.Columns.{cascading_target, key_place, target_of}
 use Rattle.mm_schema.specs.References.{HasTargets, cascading_from, cascading_of, in_front, references_from, references_of, refers}
 use Rattle.mm_schema.specs.Rows.{Pair}
@@ -152,7 +152,7 @@ no_row_gone : (rs : List StoredRows) (column to : ℕ) (row : Row) → is_cascad
 no_row_gone rs column to row = by (slice_get rs to)
   where
     by : (o : Option StoredRows) → list_any (refers column (key_at rs to) row)
-        (filter_map (λ (p : Pair). p.0) (option_map_or (λ (stored : StoredRows). edit_pairs (slot_at stored.places) []) o [])) ≡ false
+        (filter_map (λ (p : Pair). p.0) (option_map_or (λ (stored : StoredRows). pairs_of (slot_at stored.places) []) o [])) ≡ false
     by None = refl
     by (Some stored) = refl
 

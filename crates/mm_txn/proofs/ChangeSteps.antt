@@ -8,15 +8,14 @@ use Rattle.std.proofs.lemmas.List.{length-map}
 use Rattle.std.proofs.lemmas.List.Elements.{All-head, recursion_from_All}
 use Rattle.mm_partition.specs.Places.{slot_at}
 use Rattle.mm_partition.specs.Types.{HasTypes}
-use Rattle.mm_store.specs.RowEdits.{Standing, new_rows, edit_pair, edit_pairs}
+use Rattle.mm_link.specs.Targets.{pair_of}
 use Rattle.mm_indexed.specs.Kept.{StoredRows}
-use Rattle.mm_row_order.specs.Refs.{Slots}
 use Rattle.mm_indexed.specs.RowLists.{rows_of}
-use Rattle.mm_store.specs.declared.edit.Edit.{Edit}
+use Rattle.mm_tables.specs.declared.edit.Edit.{Edit}
 use Rattle.mm_schema.specs.Instance.{Instance, TableEdits as NamedEdits}
 use Rattle.mm_schema.specs.References.{RefersBack, all_references, lacks_target_row, lose_targets, references_of}
 use Rattle.mm_schema.specs.Refused.{AnswersDue, first_refusal}
-use Rattle.mm_schema.specs.Rows.{Pair, additions, table_rows_conditions}
+use Rattle.mm_schema.specs.Rows.{Pair, table_rows_conditions}
 use Rattle.mm_schema.specs.Schema.{HasDistinctNames, Schema, columns_named, key_named, table_place}
 use Rattle.mm_schema.specs.declared.column.Column.{Column}
 use Rattle.mm_schema.specs.declared.reference.Reference.{Reference}
@@ -25,7 +24,8 @@ use Rattle.mm_schema.proofs.Dues.{due_behind, due_in_front}
 use Rattle.mm_schema.proofs.Instances.{name_of}
 use Rattle.mm_schema.proofs.Places.{place_from_some, table_at_place}
 use Rattle.mm_schema.proofs.Duplicates.{Row}
-use Rattle.mm_store.specs.Tables.{AreFit, IsAt, Tables, finds_orphan, has_orphans, key_at, rows_at, rows_with}
+use Rattle.mm_store.specs.Edits.{AreFit, pairs_of, rows_after}
+use Rattle.mm_store.specs.Tables.{IsAt, Tables, finds_orphan, has_orphans, key_at, rows_at}
 use Rattle.mm_standing.specs.Queries.{RowsByPlace, StandingQuery, change_conditions as list_conditions}
 use Rattle.mm_value.specs.declared.col_type.ColType.{ColType}
 use Rattle.mm_value.specs.declared.refusal.Refusal.{Refusal}
@@ -42,7 +42,7 @@ use Rattle.mm_query.specs.declared.bound_query.BoundQuery.{BoundQuery}
 use Rattle.mm_query.specs.declared.bound_query.FieldPlace.{FieldPlace}
 use Rattle.mm_query.specs.declared.command.Mutation.{Mutation}
 use Rattle.mm_query.specs.declared.command.Mutation.TheVariants as written
-use Rattle.mm_query.proofs.Binds.{bound_pairs, bound_place, delete_pairs, update_pairs}
+use Rattle.mm_query.proofs.Binds.{delete_pairs, update_pairs}
 use Rattle.mm_query.proofs.Due.{due_behind_values, due_in_front_of_rows, not_lacking}
 use Rattle.mm_plan.specs.Finding.{meets}
 use Rattle.mm_plan.specs.Kept.{AreOf, instance_of}
@@ -59,7 +59,7 @@ use Rattle.mm_txn.proofs.SavedRows.{edits_watched, values_watched}
 use Rattle.mm_txn.proofs.ReferenceRows.{AreToOthers, IsToKept, IsToOther, all_there, key_by_name, lacks_are, loses_are, others_at, placed_itself}
 use Rattle.mm_txn.proofs.ReferenceRows.{rows_by_name as rows_at_name, some_place}
 use Rattle.mm_txn.proofs.RowsBeside.{AreOf-formed, IsBeside, as_many_rows, beside, types_of}
-use Rattle.mm_txn.proofs.RowsMade.{InTurn, after_edited, in_turn, instance_is, many_after, none_at, none_later, rows_after}
+use Rattle.mm_txn.proofs.RowsMade.{InTurn, after_edited, in_turn, instance_is, many_after, none_at, none_later, all_after}
 use Rattle.mm_txn.proofs.TypedEdits.{inserted_typed}
 
 -- ---- what was bound
@@ -85,21 +85,12 @@ pub one_there : (rs : List StoredRows) (place : ℕ) (a b : StoredRows) → slic
 one_there rs place a b h k = cc
 
 module _ (schema : Schema) (rs : List StoredRows) (are : AreOf schema.tables rs) (mutation : Mutation) (place : ℕ) where
-  -- Edits that bring just tuples are those of an INSERT.
-  pub insert_edits : (rows : List Row) → Binds schema mutation (bound.Insert place rows) → first_refusal (binding_conditions mutation schema) ≡ None
-      → (edits : List Edit) → ((now : Slots) → edit_pairs now edits ≡ additions rows) → ((now : Slots) → Standing now edits) → new_rows edits ≡ rows
-      → AreOwnEditsOf mutation schema rs place edits
-  insert_edits rows binds none edits pairs standing brings = record {
-    placed = bound_place schema mutation place rows binds;
-    fit = λ stored there.
-        let at = beside schema.tables rs place stored are there in
-        record {
-          standing = standing (slot_at stored.places);
-          typed = subst (All (HasTypes stored.places.types)) (sym brings)
-              (subst (λ types. All (HasTypes types) rows) (sym at.is_of.types) (inserted_typed schema mutation place rows binds none at.table at.there));
-        };
-    pairs = λ stored there. pairs (slot_at stored.places) ∙ sym (bound_pairs schema mutation place rows (state_of schema rs) binds);
-  }
+  -- The tuples of an INSERT have the types of the relation there.
+  pub insert_typed : (rows : List Row) → Binds schema mutation (bound.Insert place rows) → first_refusal (binding_conditions mutation schema) ≡ None
+      → (stored : StoredRows) → slice_get rs place ≡ Some stored → All (HasTypes stored.places.types) rows
+  insert_typed rows binds none stored there =
+      let at = beside schema.tables rs place stored are there in
+      subst (λ types. All (HasTypes types) rows) (sym at.is_of.types) (inserted_typed schema mutation place rows binds none at.table at.there)
 
   module _ (placed : table_place (changed_table mutation) schema ≡ Some place) where
     pub place_within_rows : place < length rs
@@ -118,17 +109,6 @@ module _ (schema : Schema) (rs : List StoredRows) (are : AreOf schema.tables rs)
       width_is =
           sym (length-map (columns_named (changed_table mutation) schema) (λ (c : Column). c.col_type))
           ∙ ap (λ (types : List ColType). length types) types_are
-
-      -- Edits that turn its rows by pairs are those of a change that has the pairs.
-      pub stored_edits : (edits : List Edit) (pairs : List Pair) → edit_pairs (slot_at stored.places) edits ≡ pairs
-          → own_pairs mutation (state_of schema rs) ≡ pairs → Standing (slot_at stored.places) edits
-          → All (HasTypes stored.places.types) (new_rows edits) → AreOwnEditsOf mutation schema rs place edits
-      stored_edits edits pairs are_pairs owns standing typed = record {
-        placed = placed;
-        fit = λ other at. subst (λ (s : StoredRows). AreFit s edits) (one_there rs place stored other there at) (record { standing = standing; typed = typed });
-        pairs = λ other at. subst (λ (s : StoredRows). edit_pairs (slot_at s.places) edits ≡ own_pairs mutation (state_of schema rs))
-            (one_there rs place stored other there at) (are_pairs ∙ sym owns);
-      }
 
       -- The pairs of an UPDATE and of a DELETE are those of its rows.
       pub update_owns : (assignments : List (Assignment ℕ)) (tests : List (Atom FieldPlace)) → Binds schema mutation (bound.Update place assignments tests)
@@ -152,6 +132,21 @@ module _ (schema : Schema) (rs : List StoredRows) (are : AreOf schema.tables rs)
           sym (due_behind (binding_conditions mutation schema) (value_conditions mutation (state_of schema rs)) none
           ∙ ap first_refusal (update_values schema mutation place assignments tests (state_of schema rs) binds)
           ∙ ap (λ pairs. first_refusal (range_conditions (new_values pairs))) (update_owns assignments tests binds))
+
+-- Edits of the table that a change names are those of the change where their pairs are, over tables that have the rows.
+pub stored_edits : (schema : Schema) (rs new : List StoredRows) (mutation : Mutation) (place : ℕ) → table_place (changed_table mutation) schema ≡ Some place
+    → instance_of new ≡ instance_of rs → (edits : List Edit) (pairs : List Pair) → own_pairs mutation (state_of schema rs) ≡ pairs
+    → ((stored : StoredRows) → slice_get new place ≡ Some stored → AreFit stored edits)
+    → ((stored : StoredRows) → slice_get new place ≡ Some stored → pairs_of (slot_at stored.places) edits ≡ pairs)
+    → AreOwnEditsOf mutation schema new place edits
+stored_edits schema rs new mutation place placed same edits pairs owns fit are_pairs = record {
+  placed = placed;
+  fit = fit;
+  pairs = λ stored there.
+      are_pairs stored there
+      ∙ (sym owns
+      ∙ ap (λ (rows : Instance). own_pairs mutation (record { schema = schema; rows = rows; queries = []; saved = None })) (sym same));
+}
 
 -- ---- the edits of all tables
 
@@ -210,8 +205,8 @@ module _ (schema : Schema) (store : Tables) (are : AreOf schema.tables store.tab
       let front : named schema store.tables own ∷ map (named schema store.tables) cascaded ≡ own_edits mutation (state_of schema store.tables) ∷ first.0 =
       are_edits.named ∙ first.1 in
       let same : named schema store.tables own ≡ own_edits mutation (state_of schema store.tables) = cc in
-      sym (length-map own.1 (edit_pair (slot_at stored.places)))
-      ∙ (sym (ap (λ (s : Option StoredRows). length (option_map_or (λ (k : StoredRows). edit_pairs (slot_at k.places) own.1) s [])) own_there.1)
+      sym (length-map own.1 (pair_of (slot_at stored.places)))
+      ∙ (sym (ap (λ (s : Option StoredRows). length (option_map_or (λ (k : StoredRows). pairs_of (slot_at k.places) own.1) s [])) own_there.1)
       ∙ ap (λ (e : NamedEdits). length e.pairs) same)
 
   module _ (queries : List BoundQuery) where
@@ -221,7 +216,7 @@ module _ (schema : Schema) (store : Tables) (are : AreOf schema.tables store.tab
     edits_are : map (named schema store.tables) all_edits ≡ edits mutation state
     edits_are = are_edits.named ∙ edits_watched schema store.tables queries mutation
 
-    after_is : rows_after schema distinct store are all_edits turn ≡ (after_change mutation state).rows
+    after_is : all_after schema distinct store are all_edits turn ≡ (after_change mutation state).rows
     after_is = ap (λ (es : List NamedEdits). after_edits schema.tables es (instance_of store.tables)) edits_are
 
     -- The rows with the edits made are those after the change.
@@ -273,30 +268,30 @@ module _ (schema : Schema) (store : Tables) (are : AreOf schema.tables store.tab
         ∙ (ap (rows_by_place after.rows) (sym (ap (λ p. unwrap_or p 0) placed))
         ∙ sym (rows_by_name (name_of t) schema after.rows (not_lacking (name_of t) schema i t placed here)))
 
-    own_rows : rows_in after name ≡ rows_with stored own.1
+    own_rows : rows_in after name ≡ rows_after stored own.1
     own_rows =
         rows_by_name name schema after.rows (not_lacking name schema own.0 at.table are_edits.placed at.there)
         ∙ (ap (rows_by_place after.rows) (ap (λ p. unwrap_or p 0) are_edits.placed)
         ∙ (sym (ap (λ (by : RowsByPlace). by own.0) (edited_after queries))
-        ∙ (ap (λ (s : Option StoredRows). option_map_or (λ k. rows_with k (edits_at all_edits own.0)) s []) there
-        ∙ ap (rows_with stored) own_made)))
+        ∙ (ap (λ (s : Option StoredRows). option_map_or (λ k. rows_after k (edits_at all_edits own.0)) s []) there
+        ∙ ap (rows_after stored) own_made)))
 
     -- Tables that stand before the one that a change names keep their rows.
     older_kept : (k : ℕ) → k < own.0 → rows_edited store all_edits k ≡ rows_at store.tables k
     older_kept k below =
         let none : edits_at all_edits k ≡ [] = none_at k all_edits (none_later k all_edits (below, all_later cascaded turn.1)) in
-        ap (λ (es : List Edit). option_map_or (λ s. rows_with s es) (slice_get store.tables k) []) none ∙ by (slice_get store.tables k)
+        ap (λ (es : List Edit). option_map_or (λ s. rows_after s es) (slice_get store.tables k) []) none ∙ by (slice_get store.tables k)
       where
         all_later : (cs : List PlacedEdits) → AllByRecursion (λ (d : PlacedEdits). own.0 < d.0) cs → AllByRecursion (λ (d : PlacedEdits). k < d.0) cs
         all_later [] later = tt
         all_later (c ∷ cs) later = (let above = later.0 in omega arith, all_later cs later.1)
 
-        by : (found : Option StoredRows) → option_map_or (λ s. rows_with s []) found [] ≡ option_map_or rows_of found []
+        by : (found : Option StoredRows) → option_map_or (λ s. rows_after s []) found [] ≡ option_map_or rows_of found []
         by None = refl
         by (Some s) = refl
 
     to_kept : (r : ℕ × List ℕ) → IsToOther schema name r → IsOlder schema own.0 r → IsToKept schema store.tables are name own.0 are_edits.placed after.rows
-        (rows_with stored own.1) r
+        (rows_after stored own.1) r
     to_kept r other older = (
       other.0,
       let k = some_place schema r.1 other.0 in
@@ -307,17 +302,17 @@ module _ (schema : Schema) (store : Tables) (are : AreOf schema.tables store.tab
           ∙ (older_kept k.0 (omega (arith, first, older)) ∙ sym (rows_at_name schema store.tables are r.1 k.0 k.1)))),
     )
 
-    lacking : some_lacks_target name after ≡ has_orphans store own.0 (rows_with stored own.1)
+    lacking : some_lacks_target name after ≡ has_orphans store own.0 (rows_after stored own.1)
     lacking =
         (λ i. list_any (λ (r : ℕ × List ℕ). list_any (lacks_target_row r.0 (key_named r.1 schema) (rows_in after r.1)) (own_rows i))
         (references_of (columns_named name schema)))
-        ∙ (sym (lacks_are schema store.tables are name own.0 are_edits.placed after.rows (rows_with stored own.1) at.table at.there
+        ∙ (sym (lacks_are schema store.tables are name own.0 are_edits.placed after.rows (rows_after stored own.1) at.table at.there
         (all_both (references_of at.table.definition.columns) (others_at schema name own.0 are_edits.placed at.table at.there targets)
         (older_at schema back own.0 at.table at.there)))
-        ∙ ap (list_any (finds_orphan store.tables own.0 (rows_with stored own.1))) (sym links))
+        ∙ ap (list_any (finds_orphan store.tables own.0 (rows_after stored own.1))) (sym links))
       where
         all_both : (refs : List (ℕ × List ℕ)) → AllByRecursion (IsToOther schema name) refs → AllByRecursion (IsOlder schema own.0) refs
-            → AllByRecursion (IsToKept schema store.tables are name own.0 are_edits.placed after.rows (rows_with stored own.1)) refs
+            → AllByRecursion (IsToKept schema store.tables are name own.0 are_edits.placed after.rows (rows_after stored own.1)) refs
         all_both [] others older = tt
         all_both (r ∷ rs) others older = (to_kept r others.0 older.0, all_both rs others.1 older.1)
 

@@ -10,14 +10,15 @@ use Rattle.std.proofs.lemmas.List.Elements.{All-head}
 use Rattle.std.proofs.lemmas.Option.{slice_get_within}
 use Rattle.mm_order.proofs.Pairs.{All-append_right, AllPairs-append_across, AllPairs-append_right}
 use Rattle.mm_partition.specs.Places.{slot_at}
-use Rattle.mm_store.specs.RowEdits.{new_rows, edit_pairs}
+use Rattle.mm_txn.specs.RowEdits.{BringNone}
 use Rattle.mm_indexed.specs.Kept.{StoredRows}
 use Rattle.mm_schema.specs.Refused.{AnswersDue, Condition, first_refusal}
 use Rattle.mm_schema.specs.Rows.{table_rows_conditions}
 use Rattle.mm_schema.proofs.Dues.{due_behind, due_in_front}
 use Rattle.mm_schema.specs.declared.reference.Reference.{Reference}
-use Rattle.mm_store.specs.Tables.{AreFit, HasRows, IsAt, Tables, Turns, edit_conditions, has_orphans, makes_orphans, rows_with}
-use Rattle.mm_store.specs.declared.edit.Edit.{Edit}
+use Rattle.mm_store.specs.Edits.{AreReady, conditions_of, pairs_of, rows_after}
+use Rattle.mm_store.specs.Tables.{HasRows, IsAt, Tables, Turns, has_orphans, makes_orphans}
+use Rattle.mm_tables.specs.declared.edit.Edit.{Edit}
 use Rattle.mm_store.proofs.Joining.{one_relation}
 use Rattle.mm_value.specs.declared.refusal.Refusal.{Refusal}
 use Rattle.mm_value.specs.declared.refusal.Refusal.TheVariants.{RowIsReferenced}
@@ -33,25 +34,25 @@ referred_due some_is_referred = cond some_is_referred (Some RowIsReferenced) Non
 
 -- Nothing but a row that refers to one of the rows refuses their removal from a table.
 abbrev pub AreRemovable : Tables → ℕ → Type 0
-AreRemovable store table = (stored : StoredRows) → IsAt store table stored → (edits : List Edit) → AreFit stored edits → new_rows edits ≡ []
+AreRemovable store table = (stored : StoredRows) → IsAt store table stored → (edits : List Edit) → AreReady stored edits → BringNone edits
     → (some_is_referred : Bool)
-    → first_refusal (table_rows_conditions stored.key (rows_with stored edits) (has_orphans store table (rows_with stored edits)) some_is_referred)
+    → first_refusal (table_rows_conditions stored.key (rows_after stored edits) (has_orphans store table (rows_after stored edits)) some_is_referred)
     ≡ referred_due some_is_referred
 
 -- What is answered to edits of one table, ..
 abbrev pub IsAnswered : Tables → PlacedEdits → Result Unit Refusal → Type 0
-IsAnswered store c result = (stored : StoredRows) → IsAt store c.0 stored → AnswersDue (first_refusal (edit_conditions store c.0 stored c.1)) result
+IsAnswered store c result = (stored : StoredRows) → IsAt store c.0 stored → AnswersDue (first_refusal (conditions_of store c.0 stored c.1)) result
 
 -- .. and what they make.
 abbrev pub IsMade : Tables → PlacedEdits → Tables → Type 0
 IsMade store c new =
     (stored : StoredRows) → IsAt store c.0 stored
-    → (next : StoredRows) × Turns store c.0 next new × HasRows stored (rows_with stored c.1) next
+    → (next : StoredRows) × Turns store c.0 next new × HasRows stored (rows_after stored c.1) next
 
 -- What edits of one table ask of the store.
 pub record CanGo (store : Tables) (c : PlacedEdits) : Type 0 where
   pub there : c.0 < length store.tables
-  pub fit : (stored : StoredRows) → IsAt store c.0 stored → AreFit stored c.1
+  pub ready : (stored : StoredRows) → IsAt store c.0 stored → AreReady stored c.1
 
 -- ---- the tables whose edits are made
 
@@ -97,44 +98,44 @@ module _ (old : Tables) (all front : List PlacedEdits) (c : PlacedEdits) (done :
   pub can_go : CanGo mid c
   can_go = record {
     there = slice_get_within mid.tables c.0 stored here;
-    fit = λ other at. subst (λ (s : StoredRows). AreFit s c.1) (sym (only_there old c done mid behind gone.partly stored there other at)) fits.2;
+    ready = λ other at. subst (λ (s : StoredRows). AreReady s c.1) (sym (only_there old c done mid behind gone.partly stored there other at)) fits.2.ready;
   }
 
-  pub only_removes : 1 < length all → new_rows c.1 ≡ []
-  only_removes several = own (λ (d : PlacedEdits). new_rows d.1 ≡ []) (are.removals several)
+  pub only_removes : 1 < length all → BringNone c.1
+  only_removes several = own (λ (d : PlacedEdits). BringNone d.1) (are.removals several)
 
   abbrev leaves : Bool
   leaves = list_any (leaves_orphan old all c) old.links
 
-  makes_is : makes_orphans mid c.0 stored.key (edit_pairs (slot_at stored.places) c.1) ≡ leaves
+  makes_is : makes_orphans mid c.0 stored.key (pairs_of (slot_at stored.places) c.1) ≡ leaves
   makes_is =
-      subst (λ (changes : List PlacedEdits). makes_orphans mid c.0 stored.key (edit_pairs (slot_at stored.places) c.1)
+      subst (λ (changes : List PlacedEdits). makes_orphans mid c.0 stored.key (pairs_of (slot_at stored.places) c.1)
       ≡ list_any (leaves_orphan old changes c) old.links) (sym split)
       (orphans_same old front c done mid before gone.partly stored there back)
 
   -- What refuses them by the store refuses the first edits of all.
   pub conditions_same : front ≡ [] → (own_stored : StoredRows) → IsAt old c.0 own_stored
-      → edit_conditions mid c.0 own_stored c.1 ≡ edits_conditions old own_stored c done
+      → conditions_of mid c.0 own_stored c.1 ≡ edits_conditions old own_stored c done
   conditions_same none own_stored at =
       let whole : all ≡ c ∷ done = split ∙ ap (λ (xs : List PlacedEdits). xs ++ c ∷ done) none in
-      let referred : makes_orphans mid c.0 own_stored.key (edit_pairs (slot_at own_stored.places) c.1) ≡ leaves_orphans old (c ∷ done) =
-      ap (λ (s : StoredRows). makes_orphans mid c.0 s.key (edit_pairs (slot_at s.places) c.1)) (one_relation own_stored stored (sym at ∙ there))
+      let referred : makes_orphans mid c.0 own_stored.key (pairs_of (slot_at own_stored.places) c.1) ≡ leaves_orphans old (c ∷ done) =
+      ap (λ (s : StoredRows). makes_orphans mid c.0 s.key (pairs_of (slot_at s.places) c.1)) (one_relation own_stored stored (sym at ∙ there))
       ∙ (makes_is ∙ (or_none leaves
       ∙ (ap (λ b. leaves || b) (sym gone.clear)
       ∙ ap (λ (changes : List PlacedEdits). list_any (λ (d : PlacedEdits). list_any (leaves_orphan old changes d) old.links) (c ∷ done)) whole))) in
-      λ i. table_rows_conditions own_stored.key (rows_with own_stored c.1)
-      (targets_same old front c done mid before gone.partly stored there behind (rows_with own_stored c.1) back i) (referred i)
+      λ i. table_rows_conditions own_stored.key (rows_after own_stored c.1)
+      (targets_same old front c done mid before gone.partly stored there behind (rows_after own_stored c.1) back i) (referred i)
     where
       or_none : (b : Bool) → b ≡ (b || false)
       or_none true = refl
       or_none false = refl
 
   -- Where rows only go, ..
-  module _ (removable : AreRemovable mid c.0) (removals : new_rows c.1 ≡ []) where
+  module _ (removable : AreRemovable mid c.0) (removals : BringNone c.1) where
     answered : (result : Result Unit Refusal) → IsAnswered mid c result → AnswersDue (referred_due leaves) result
     answered result due =
         subst (λ (d : Option Refusal). AnswersDue d result)
-        (removable stored here c.1 (can_go.fit stored here) removals (makes_orphans mid c.0 stored.key (edit_pairs (slot_at stored.places) c.1))
+        (removable stored here c.1 (can_go.ready stored here) removals (makes_orphans mid c.0 stored.key (pairs_of (slot_at stored.places) c.1))
         ∙ ap referred_due makes_is)
         (due stored here)
 
@@ -196,7 +197,7 @@ module _ (old : Tables) (own : RelationEdits) (cascaded : List RelationEdits) (a
       let first = All-head (FitsAt old) (placed own) (map placed cascaded) are.fit in
       record {
         there = slice_get_within old.tables own.table first.0 first.1;
-        fit = λ stored at. subst (λ (s : StoredRows). AreFit s own.edits) (one_relation first.0 stored (sym first.1 ∙ at)) first.2;
+        ready = λ stored at. subst (λ (s : StoredRows). AreReady s own.edits) (one_relation first.0 stored (sym first.1 ∙ at)) first.2.ready;
       }
 
   -- What is answered to all edits by the rows.
@@ -226,14 +227,14 @@ module _ (old : Tables) (own : RelationEdits) (cascaded : List RelationEdits) (a
       next_can = can_go old all (placed own ∷ map placed front) (placed next) (map placed now.done) three are back mid now.gone
 
       module _ (removable : AreRemovable mid next.table) where
-        removals : new_rows next.edits ≡ []
+        removals : BringNone next.edits
         removals = only_removes old all (placed own ∷ map placed front) (placed next) (map placed now.done) three are back mid now.gone many
 
         pub next_refused : AreRemovable old own.table → (refusal : Refusal) → IsAnswered mid (placed next) (Err refusal) → IsDueOfAll (Err refusal)
         next_refused own_removable refusal due = λ stored at.
             subst (λ (d : Option Refusal). AnswersDue {T = Unit {0}} d (Err refusal))
-            (sym (own_removable stored at own.edits (own_can.fit stored at)
-            (All-head (λ (d : PlacedEdits). new_rows d.1 ≡ []) (placed own) (map placed cascaded) (are.removals many)) (leaves_orphans old all)))
+            (sym (own_removable stored at own.edits (own_can.ready stored at)
+            (All-head (λ (d : PlacedEdits). BringNone d.1) (placed own) (map placed cascaded) (are.removals many)) (leaves_orphans old all)))
             (refused_all old all (placed own ∷ map placed front) (placed next) (map placed now.done) three are back mid now.gone removable removals
             refusal due)
 

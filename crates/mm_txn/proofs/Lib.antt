@@ -35,6 +35,8 @@ mod Placed
 mod PlanReads
 mod WatchSteps
 mod Showing
+mod StagedChanges
+mod StagedRows
 mod TestedQueries
 mod TypedBags
 mod TypedEdits

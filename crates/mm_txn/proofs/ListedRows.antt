@@ -19,7 +19,8 @@ use Rattle.mm_schema.specs.Instance.{Instance}
 use Rattle.mm_schema.specs.Schema.{Schema}
 use Rattle.mm_standing.specs.Queries.{IsServed, RowsByPlace, StandingQuery, bag_over, change_conditions, is_too_large}
 use Rattle.mm_standing.specs.State.{AreServed}
-use Rattle.mm_store.specs.Tables.{AreFit, HasRows, IsAt, SameForm, Tables, rows_with}
+use Rattle.mm_store.specs.Edits.{AreReady, rows_after}
+use Rattle.mm_store.specs.Tables.{HasRows, IsAt, SameForm, Tables}
 use Rattle.mm_store.proofs.Forms.{forms_same}
 use Rattle.mm_store.proofs.Joining.{one_relation}
 use Rattle.mm_value.specs.declared.refusal.Refusal.TheVariants.{StandingListTooLarge}
@@ -77,27 +78,27 @@ same_edits (c ∷ cs) place = by (c.table == place) (same_edits cs place)
 -- Those after it are those with the edits made.
 pub after_is : (store : Tables) (changes : List TableChange) → after_at store changes ≡ rows_edited store (map placed_change changes)
 after_is store changes =
-    λ i place. option_map_or (λ (stored : StoredRows). rows_with stored (same_edits changes place i)) (slice_get store.tables place) []
+    λ i place. option_map_or (λ (stored : StoredRows). rows_after stored (same_edits changes place i)) (slice_get store.tables place) []
 
 fit_found : (store : Tables) (changes : List PlacedEdits) → All (FitsAt store) changes → (place : ℕ) (stored : StoredRows) → IsAt store place stored
-    → AreFit stored (edits_at changes place)
+    → AreReady stored (edits_at changes place)
 fit_found store [] fit place stored there = fit_nothing stored
 fit_found store (c ∷ cs) fit place stored there =
     by (c.0 == place) refl (fit_found store cs (All-tail (FitsAt store) c cs fit) place stored there)
   where
-    by : (b : Bool) → (c.0 == place) ≡ b → AreFit stored (edits_at cs place)
-        → AreFit stored (option_map_or (λ (d : PlacedEdits). d.1) (cond b (Some c) (find (λ (d : PlacedEdits). d.0 == place) cs)) [])
+    by : (b : Bool) → (c.0 == place) ≡ b → AreReady stored (edits_at cs place)
+        → AreReady stored (option_map_or (λ (d : PlacedEdits). d.1) (cond b (Some c) (find (λ (d : PlacedEdits). d.0 == place) cs)) [])
     by true own rest =
         let first = All-head (FitsAt store) c cs fit in
         let same : first.0 ≡ stored =
         one_relation first.0 stored (sym first.1 ∙ (ap (slice_get store.tables) (eqb-true c.0 place own) ∙ there)) in
-        subst (λ (s : StoredRows). AreFit s c.1) same first.2
+        subst (λ (s : StoredRows). AreReady s c.1) same first.2.ready
     by false other rest = rest
 
 -- Edits that fit their tables fit each.
 pub fit_each : (store : Tables) (changes : List TableChange) → All (FitsAt store) (map placed_change changes) → EachFit store changes
 fit_each store changes fit = λ place stored there.
-    subst (AreFit stored) (sym (same_edits changes place)) (fit_found store (map placed_change changes) fit place stored there)
+    subst (AreReady stored) (sym (same_edits changes place)) (fit_found store (map placed_change changes) fit place stored there)
 
 -- ---- the rows of all tables after a change
 

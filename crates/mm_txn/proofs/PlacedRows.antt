@@ -12,13 +12,13 @@ use Rattle.std.proofs.lemmas.List.Elements.{All-head, All-tail, All-weaker}
 use Rattle.std.proofs.lemmas.Option.{slice_get_past, slice_get_within}
 use Rattle.mm_partition.specs.Places.{slot_at}
 use Rattle.mm_indexed.specs.Kept.{StoredRows}
-use Rattle.mm_store.specs.RowEdits.{edit_pairs}
 use Rattle.mm_indexed.specs.RowLists.{rows_of}
-use Rattle.mm_store.specs.declared.edit.Edit.{Edit}
+use Rattle.mm_tables.specs.declared.edit.Edit.{Edit}
 use Rattle.mm_schema.specs.References.{lacks_target_row, lose_targets}
 use Rattle.mm_schema.specs.Rows.{Pair}
 use Rattle.mm_schema.specs.declared.reference.Reference.{Reference}
-use Rattle.mm_store.specs.Tables.{HasRows, IsAt, Tables, Turns, finds_orphan, has_orphans, key_at, makes_orphan, makes_orphans, rows_at, rows_with}
+use Rattle.mm_store.specs.Edits.{pairs_of, rows_after}
+use Rattle.mm_store.specs.Tables.{HasRows, IsAt, Tables, Turns, finds_orphan, has_orphans, key_at, makes_orphan, makes_orphans, rows_at}
 use Rattle.mm_value.specs.declared.values.Value.{Value}
 use Rattle.mm_store.proofs.Joining.{get_set_other, get_set_same, one_relation, some_at}
 use Rattle.mm_standing.specs.Queries.{RowsByPlace}
@@ -76,7 +76,7 @@ pub edited_have : (old new : Tables) (changes : List PlacedEdits) → HaveRows (
     → rows_at new.tables place ≡ rows_edited old changes place
 edited_have old new changes have place =
     rows_have (rows_edited old changes) old new have place
-    (λ gone. ap (λ (f : Option StoredRows). option_map_or (λ (s : StoredRows). rows_with s (edits_at changes place)) f []) gone)
+    (λ gone. ap (λ (f : Option StoredRows). option_map_or (λ (s : StoredRows). rows_after s (edits_at changes place)) f []) gone)
 
 -- ---- tables whose edits are made
 
@@ -94,7 +94,7 @@ IsPartly-none old = record {
       stored,
       there,
       record {
-        rows_are = sym (ap (λ (f : Option StoredRows). option_map_or (λ (s : StoredRows). rows_with s []) f []) there);
+        rows_are = sym (ap (λ (f : Option StoredRows). option_map_or (λ (s : StoredRows). rows_after s []) f []) there);
         types = refl;
         key = refl;
         indexes = record { size = refl; each = λ k d below. (refl, refl) };
@@ -117,15 +117,15 @@ module _ (old : Tables) (c : PlacedEdits) (done : List PlacedEdits) (mid : Table
   within : c.0 < length mid.tables
   within = slice_get_within mid.tables c.0 stored still_there
 
-  module _ (new : Tables) (next : StoredRows) (turned : Turns mid c.0 next new) (has : HasRows stored (rows_with stored c.1) next)
+  module _ (new : Tables) (next : StoredRows) (turned : Turns mid c.0 next new) (has : HasRows stored (rows_after stored c.1) next)
       (links : new.links ≡ mid.links) where
     own_place : (place : ℕ) → c.0 ≡ place → (s : StoredRows) → IsAt old place s
         → (now : StoredRows) × IsAt new place now × HasRows s (rows_edited old (c ∷ done) place) now
     own_place place same s at =
         let is : stored ≡ s = one_relation stored s (sym there ∙ (ap (slice_get old.tables) same ∙ at)) in
-        let rows : rows_with stored c.1 ≡ rows_edited old (c ∷ done) place =
-        ap (rows_with stored) (sym (edits_own place c done same))
-        ∙ sym (ap (λ (f : Option StoredRows). option_map_or (λ (k : StoredRows). rows_with k (edits_at (c ∷ done) place)) f [])
+        let rows : rows_after stored c.1 ≡ rows_edited old (c ∷ done) place =
+        ap (rows_after stored) (sym (edits_own place c done same))
+        ∙ sym (ap (λ (f : Option StoredRows). option_map_or (λ (k : StoredRows). rows_after k (edits_at (c ∷ done) place)) f [])
         (sym (ap (slice_get old.tables) same) ∙ there)) in (
           next,
           ap (λ (ts : List StoredRows). slice_get ts place) turned
@@ -141,7 +141,7 @@ module _ (old : Tables) (c : PlacedEdits) (done : List PlacedEdits) (mid : Table
           now.0,
           ap (λ (ts : List StoredRows). slice_get ts place) turned
               ∙ (get_set_other mid.tables c.0 place next (λ same. apart (sym same)) ∙ now.1),
-          subst (λ (es : List Edit). HasRows s (option_map_or (λ (k : StoredRows). rows_with k es) (slice_get old.tables place) []) now.0)
+          subst (λ (es : List Edit). HasRows s (option_map_or (λ (k : StoredRows). rows_after k es) (slice_get old.tables place) []) now.0)
               (sym (edits_other place c done apart)) now.2,
         )
 
@@ -184,13 +184,13 @@ module _ (old : Tables) (front : List PlacedEdits) (c : PlacedEdits) (done : Lis
   all = front ++ c ∷ done
 
   abbrev pairs : List Pair
-  pairs = edit_pairs (slot_at stored.places) c.1
+  pairs = pairs_of (slot_at stored.places) c.1
 
   -- Tables behind have their rows after all edits.
   rows_behind : (from : ℕ) → c.0 < from → rows_at mid.tables from ≡ rows_edited old all from
   rows_behind from past =
       edited_have old mid done partly.have from
-      ∙ ap (λ (es : List Edit). option_map_or (λ (s : StoredRows). rows_with s es) (slice_get old.tables from) [])
+      ∙ ap (λ (es : List Edit). option_map_or (λ (s : StoredRows). rows_after s es) (slice_get old.tables from) [])
       (sym (edits_behind from front (c ∷ done) (All-weaker (λ (d : PlacedEdits). d.0 < c.0) (λ (d : PlacedEdits). d.0 < from)
       (λ d less. omega (arith, less, past)) front before)
       ∙ edits_other from c done (λ same. absurd (omega (arith, same, past)))))
@@ -203,7 +203,7 @@ module _ (old : Tables) (front : List PlacedEdits) (c : PlacedEdits) (done : Lis
       let key : stored.key ≡ key_at old.tables c.0 = sym (ap (λ (f : Option StoredRows). option_map_or (λ (s : StoredRows). s.key) f 0) there) in
       let rows : rows_at mid.tables r.from ≡ rows_edited old all r.from = rows_behind r.from (omega (arith, is, back)) in
       let gone : pairs ≡ pairs_at old.tables c =
-      sym (ap (λ (f : Option StoredRows). option_map_or (λ (s : StoredRows). edit_pairs (slot_at s.places) c.1) f []) there) in
+      sym (ap (λ (f : Option StoredRows). option_map_or (λ (s : StoredRows). pairs_of (slot_at s.places) c.1) f []) there) in
       λ i. lose_targets r.column (key i) (rows i) (gone i))
 
   -- What the store finds once the edits of the tables behind are made is what all edits leave.

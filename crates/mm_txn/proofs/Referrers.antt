@@ -13,14 +13,14 @@ use Rattle.std.proofs.lemmas.List.Sorted.{Contains-permutation, IsPermutation-sy
 use Rattle.mm_partition.specs.Places.{IsLive, slot_at}
 use Rattle.mm_tables.proofs.Slots.{same_from_test, test_from_same}
 use Rattle.mm_indexed.proofs.RefTests.{same_or_apart}
-use Rattle.mm_tables.specs.Edits.{same_ref}
-use Rattle.mm_store.specs.RowEdits.{Standing, edit_pairs, old_ref, old_refs}
+use Rattle.mm_tables.specs.Edits.{Fits, same_ref}
+use Rattle.mm_store.specs.Edits.{old_slot, pairs_of}
 use Rattle.mm_indexed.specs.Kept.{StoredRows}
 use Rattle.mm_indexed.specs.Twins.{AreApart}
 use Rattle.mm_indexed.specs.Reads.{AreMatches, has_value}
 use Rattle.mm_row_order.specs.Refs.{HasRow, Slots, row_at}
-use Rattle.mm_store.specs.declared.edit.Edit.{Edit}
-use Rattle.mm_store.specs.declared.edit.Edit.TheVariants.{Add, Gone, Swap}
+use Rattle.mm_tables.specs.declared.edit.Edit.{Edit}
+use Rattle.mm_tables.specs.declared.edit.Edit.TheVariants.{Delete, Insert, Move, Stage, Update}
 use Rattle.mm_schema.proofs.StrictOrder.{Contains-from_IsIn, IsIn, IsIn-from_Contains}
 use Rattle.mm_schema.proofs.Duplicates.{Row}
 use Rattle.mm_schema.specs.References.{refers}
@@ -81,23 +81,29 @@ matched column now value refs found are at here =
 -- ---- rows that edits take away
 
 abbrev pub rows_taken : Slots → List Edit → List Row
-rows_taken now edits = filter_map (λ (p : Pair). p.0) (edit_pairs now edits)
+rows_taken now edits = filter_map (λ (p : Pair). p.0) (pairs_of now edits)
 
 pub rows_taken-append : (now : Slots) (xs ys : List Edit) → rows_taken now (xs ++ ys) ≡ rows_taken now xs ++ rows_taken now ys
 rows_taken-append now [] ys = refl
-rows_taken-append now (Add row ∷ xs) ys = rows_taken-append now xs ys
-rows_taken-append now (Swap at row ∷ xs) ys = ap (λ rows. row_at now at ∷ rows) (rows_taken-append now xs ys)
-rows_taken-append now (Gone at ∷ xs) ys = ap (λ rows. row_at now at ∷ rows) (rows_taken-append now xs ys)
+rows_taken-append now (Stage at ∷ xs) ys = rows_taken-append now xs ys
+rows_taken-append now (Insert at ∷ xs) ys = rows_taken-append now xs ys
+rows_taken-append now (Update at other ∷ xs) ys = ap (λ rows. row_at now at ∷ rows) (rows_taken-append now xs ys)
+rows_taken-append now (Move at other ∷ xs) ys = ap (λ rows. row_at now at ∷ rows) (rows_taken-append now xs ys)
+rows_taken-append now (Delete at ∷ xs) ys = ap (λ rows. row_at now at ∷ rows) (rows_taken-append now xs ys)
 
-pub one_taken : (now : Slots) (edit : Edit) (at : RowRef) → old_ref edit ≡ Some at → rows_taken now (edit ∷ []) ≡ row_at now at ∷ []
-one_taken now (Add row) at is = cc
-one_taken now (Swap other row) at is = let same : other ≡ at = cc in ap (λ r. row_at now r ∷ []) same
-one_taken now (Gone other) at is = let same : other ≡ at = cc in ap (λ r. row_at now r ∷ []) same
+pub one_taken : (now : Slots) (edit : Edit) (at : RowRef) → old_slot edit ≡ Some at → rows_taken now (edit ∷ []) ≡ row_at now at ∷ []
+one_taken now (Stage other) at is = cc
+one_taken now (Insert other) at is = cc
+one_taken now (Update taken other) at is = let same : taken ≡ at = cc in ap (λ r. row_at now r ∷ []) same
+one_taken now (Move taken other) at is = let same : taken ≡ at = cc in ap (λ r. row_at now r ∷ []) same
+one_taken now (Delete taken) at is = let same : taken ≡ at = cc in ap (λ r. row_at now r ∷ []) same
 
-pub none_taken : (now : Slots) (edit : Edit) → old_ref edit ≡ None → rows_taken now (edit ∷ []) ≡ []
-none_taken now (Add row) is = refl
-none_taken now (Swap other row) is = cc
-none_taken now (Gone other) is = cc
+pub none_taken : (now : Slots) (edit : Edit) → old_slot edit ≡ None → rows_taken now (edit ∷ []) ≡ []
+none_taken now (Stage other) is = refl
+none_taken now (Insert other) is = refl
+none_taken now (Update taken other) is = cc
+none_taken now (Move taken other) is = cc
+none_taken now (Delete taken) is = cc
 
 -- ---- added along an index
 
@@ -112,7 +118,7 @@ module _ (stored : StoredRows) where
     tests_push row = ap (list_any (refers column key row)) (rows_taken-append then done (edit ∷ []))
         ∙ list_any-append (refers column key row) (rows_taken then done) (rows_taken then (edit ∷ []))
 
-    pub skipped : old_ref edit ≡ None → AddsReferrers stored (tests column key (rows_taken then (done ++ edit ∷ []))) old mid
+    pub skipped : old_slot edit ≡ None → AddsReferrers stored (tests column key (rows_taken then (done ++ edit ∷ []))) old mid
     skipped none = record {
       live = adds.live;
       found = λ at here. adds.found at here ∙ ap (λ b. list_any (same_ref at) old || b) (sym (tests_push (row_at (slot_at stored.places) at)
@@ -125,7 +131,7 @@ module _ (stored : StoredRows) where
         or_false true = refl
         or_false false = refl
 
-    pub matches_added : (gone : RowRef) → old_ref edit ≡ Some gone → (value : Value) → slice_get (row_at then gone) key ≡ Some value
+    pub matches_added : (gone : RowRef) → old_slot edit ≡ Some gone → (value : Value) → slice_get (row_at then gone) key ≡ Some value
         → (found new : List RowRef) → new ≡ mid ++ found → AreMatches column (slot_at stored.places) value stored.refs found
         → (All (IsLive stored.places) mid → All (IsLive stored.places) new)
         → AddsReferrers stored (tests column key (rows_taken then (done ++ edit ∷ []))) old new
@@ -194,16 +200,18 @@ module _ (column : ℕ) (target : StoredRows) (apart : AreApart target.key (slot
       ⊎_elim (λ (same : x ≡ to). test_from_same x to same)
       (λ (differ : x ≢ to). absurd (apart to refers_to.live (x, live, differ, tie))) (same_or_apart x to))
 
-  goes_as_told : (edits : List Edit) → AllByRecursion (HasRow then) (old_refs edits)
+  goes_as_told : (edits : List Edit) → AllByRecursion (Fits target.key then) edits
       → list_any (takes to) edits ≡ tests column target.key (rows_taken then edits) row
-  goes_as_told [] live = refl
-  goes_as_told (Add new ∷ edits) live = goes_as_told edits live
-  goes_as_told (Swap x new ∷ edits) live = λ i. same_key x live.0 i || goes_as_told edits live.1 i
-  goes_as_told (Gone x ∷ edits) live = λ i. same_key x live.0 i || goes_as_told edits live.1 i
+  goes_as_told [] fits = refl
+  goes_as_told (Stage x ∷ edits) fits = goes_as_told edits fits.1
+  goes_as_told (Insert x ∷ edits) fits = goes_as_told edits fits.1
+  goes_as_told (Update x other ∷ edits) fits = λ i. same_key x fits.0.0 i || goes_as_told edits fits.1 i
+  goes_as_told (Move x other ∷ edits) fits = λ i. same_key x fits.0.0 i || goes_as_told edits fits.1 i
+  goes_as_told (Delete x ∷ edits) fits = λ i. same_key x fits.0 i || goes_as_told edits fits.1 i
 
   -- The row that a row refers to goes just where this has the key of one that does.
-  pub target_goes : (edits : List Edit) → Standing then edits → list_any (takes to) edits ≡ tests column target.key (rows_taken then edits) row
-  target_goes edits standing = goes_as_told edits (recursion_from_All (HasRow then) (old_refs edits) standing.live)
+  pub target_goes : (edits : List Edit) → All (Fits target.key then) edits → list_any (takes to) edits ≡ tests column target.key (rows_taken then edits) row
+  target_goes edits fits = goes_as_told edits (recursion_from_All (Fits target.key then) edits fits)
 
 -- ---- added by several tests
 

@@ -1,5 +1,5 @@
 -- What fits each other still does through changes of rows, and where they are taken back or final.
-use Rattle.std.proofs.Common.{◌≡◌, ℕ, Result, Ok, Err, OnOk, OnErr, List, [], drop, sym, subst}
+use Rattle.std.proofs.Common.{◌≡◌, ℕ, Result, Ok, Err, OnOk, OnErr, List, [], drop, refl, sym, subst}
 use Rattle.mm_indexed.specs.Index.{EachTurns}
 use Rattle.mm_schema.specs.Instance.{Instance}
 use Rattle.mm_schema.specs.Schema.{Schema}
@@ -10,6 +10,7 @@ use Rattle.mm_value.specs.declared.refusal.Refusal.{Refusal}
 use Rattle.mm_value.specs.declared.values.Value.{Value}
 use Rattle.mm_txn.specs.Contents.{Makes}
 use Rattle.mm_plan.specs.Kept.{instance_of}
+use Rattle.mm_txn.specs.Kept.{KeepsState}
 use Rattle.mm_txn.specs.Rest.{AreAtRest}
 use Rattle.mm_txn.specs.Saved.{AreSaved}
 use Rattle.mm_txn.specs.PlacedEdits.{HaveRows}
@@ -40,6 +41,16 @@ module _ (schema : Schema) (store newer : Tables) (lists new : Lists) (rest : Ar
       → AreAtRest schema newer new
   rest_back form mark rows is saved counts log ready =
       at_rest form (subst (λ (r : Instance). AreListed r new) (sym is) (listed_back rows lists new queries mark saved counts log ready))
+
+-- What fits still does where the rows in use stay.
+pub rest_same : (schema : Schema) (store newer : Tables) (lists : Lists) → AreAtRest schema store lists → newer.links ≡ store.links
+    → EachTurns SameForm store.tables newer.tables → instance_of newer.tables ≡ instance_of store.tables → AreAtRest schema newer lists
+rest_same schema store newer lists rest links form rows =
+    at_rest schema store newer lists lists rest links refl form (subst (λ (r : Instance). AreListed r lists) (sym rows) rest.listed)
+
+pub rest_staged : (schema : Schema) (store newer : Tables) (lists : Lists) → AreAtRest schema store lists → KeepsState store newer
+    → AreAtRest schema newer lists
+rest_staged schema store newer lists rest kept = rest_same schema store newer lists rest kept.links kept.form kept.rows
 
 -- What edits make fits.
 pub rest_made : (schema : Schema) (rows : RowsByPlace) (store newer : Tables) (lists new : Lists) (result : Result Unit Refusal)

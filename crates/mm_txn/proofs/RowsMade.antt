@@ -9,7 +9,7 @@ use Rattle.std.proofs.lemmas.List.Elements.{All-tail, recursion_from_All}
 use Rattle.std.proofs.lemmas.Option.{slice_get_within}
 use Rattle.mm_partition.specs.Places.{slot_at}
 use Rattle.mm_indexed.specs.Kept.{StoredRows}
-use Rattle.mm_store.specs.RowEdits.{edit_pairs}
+use Rattle.mm_store.specs.Edits.{pairs_of as edit_pairs}
 use Rattle.mm_indexed.specs.RowLists.{rows_of}
 use Rattle.mm_schema.specs.Columns.{key_place}
 use Rattle.mm_schema.specs.Instance.{Instance, TableEdits as NamedEdits, changed_instance, pairs_of}
@@ -22,7 +22,8 @@ use Rattle.mm_schema.proofs.NameLemmas.{same_bytes, same_name_refl}
 use Rattle.mm_query.specs.Machine.{after_edits}
 use Rattle.mm_laws.proofs.StillFound.{beside_still}
 use Rattle.mm_standing.specs.Queries.{RowsByPlace}
-use Rattle.mm_store.specs.Tables.{Tables, rows_with}
+use Rattle.mm_store.specs.Edits.{rows_after}
+use Rattle.mm_store.specs.Tables.{Tables}
 use Rattle.mm_plan.specs.Kept.{AreOf, instance_of}
 use Rattle.mm_txn.specs.PlacedEdits.{AreEdits, FitsAt, HaveRows, PlacedEdits, edits_at, named, pairs_at, rows_edited}
 use Rattle.mm_txn.specs.Listed.{rows_by_place}
@@ -149,24 +150,24 @@ module _ (schema : Schema) (distinct : HasDistinctNames schema) where
 
   module _ (store : Tables) (are : AreOf schema.tables store.tables) (changes : List PlacedEdits) (turn : InTurn (length schema.tables) changes) where
     -- The rows of all tables once the edits are made.
-    abbrev pub rows_after : Instance
-    rows_after = after_edits schema.tables (map (named schema store.tables) changes) (instance_of store.tables)
+    abbrev pub all_after : Instance
+    all_after = after_edits schema.tables (map (named schema store.tables) changes) (instance_of store.tables)
 
-    pub beside_rows_after : AreBeside schema.tables rows_after
+    pub beside_rows_after : AreBeside schema.tables all_after
     beside_rows_after =
         beside_after schema.tables (map (named schema store.tables) changes) (instance_of store.tables) (are_beside schema.tables store.tables are)
 
-    pub many_after : length rows_after ≡ length store.tables
-    many_after = as_many schema.tables rows_after beside_rows_after ∙ sym (as_many_rows schema.tables store.tables are)
+    pub many_after : length all_after ≡ length store.tables
+    many_after = as_many schema.tables all_after beside_rows_after ∙ sym (as_many_rows schema.tables store.tables are)
 
     -- At each place they are those with its edits made.
-    pub after_edited : rows_by_place rows_after ≡ rows_edited store changes
+    pub after_edited : rows_by_place all_after ≡ rows_edited store changes
     after_edited = λ i k. by k (slice_get store.tables k) refl i
       where
-        by : (k : ℕ) (found : Option StoredRows) → slice_get store.tables k ≡ found → rows_by_place rows_after k ≡ rows_edited store changes k
+        by : (k : ℕ) (found : Option StoredRows) → slice_get store.tables k ≡ found → rows_by_place all_after k ≡ rows_edited store changes k
         by k None none =
-            past_end rows_after k (let past = none_past store.tables k none in omega (arith, many_after, past))
-            ∙ sym (ap (λ (s : Option StoredRows). option_map_or (λ stored. rows_with stored (edits_at changes k)) s []) none)
+            past_end all_after k (let past = none_past store.tables k none in omega (arith, many_after, past))
+            ∙ sym (ap (λ (s : Option StoredRows). option_map_or (λ stored. rows_after stored (edits_at changes k)) s []) none)
         by k (Some stored) at =
             let there = beside schema.tables store.tables k stored are at in
             let key : key_place there.table.definition.columns ≡ stored.key = sym there.is_of.key in
@@ -174,7 +175,7 @@ module _ (schema : Schema) (distinct : HasDistinctNames schema) where
             sym (rows_at_place store.tables k) ∙ ap (λ (s : Option StoredRows). option_map_or rows_of s []) at in
             made_at store.tables k there.table there.there stored at changes turn (instance_of store.tables) (are_beside schema.tables store.tables are)
             ∙ ((λ i. changed (key i) (edit_pairs (slot_at stored.places) (edits_at changes k)) (before i))
-            ∙ sym (ap (λ (s : Option StoredRows). option_map_or (λ stored. rows_with stored (edits_at changes k)) s []) at))
+            ∙ sym (ap (λ (s : Option StoredRows). option_map_or (λ stored. rows_after stored (edits_at changes k)) s []) at))
 
 -- ---- relations that have rows for each place
 

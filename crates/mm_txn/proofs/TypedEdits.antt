@@ -1,17 +1,14 @@
 -- The rows that a change brings have the types of the columns of its table.
-use Rattle.std.proofs.Common.{◌≡◌, ℕ, suc, not, List, [], ◌∷◌, Some, None, filter, get_or, slice_get, refl, sym, ap, subst, ◌∙◌}
+use Rattle.std.proofs.Common.{◌≡◌, ℕ, suc, not, List, [], ◌∷◌, Some, None, filter, get_or, map, slice_get, refl, sym, ap, subst, ◌∙◌}
 use Rattle.std.specs.List.{All, list_any}
 use Rattle.std.proofs.lemmas.List.Elements.{All-map, All-nil, All-weaker, Contains-get_or}
 use Rattle.std.proofs.lemmas.List.Sorted.{All-permutation, IsPermutation-sym}
 use Rattle.mm_order.proofs.Pairs.{All-append_right}
 use Rattle.mm_partition.specs.Places.{slot_at, row_in}
 use Rattle.mm_partition.specs.Types.{HasTypes}
-use Rattle.mm_store.specs.RowEdits.{new_rows, edit_pairs}
 use Rattle.mm_indexed.specs.Kept.{IsKept, StoredRows}
-use Rattle.mm_row_order.specs.Refs.{Slots, row_at}
+use Rattle.mm_row_order.specs.Refs.{row_at}
 use Rattle.mm_indexed.specs.RowLists.{rows_of}
-use Rattle.mm_store.specs.declared.edit.Edit.{Edit}
-use Rattle.mm_store.specs.declared.edit.Edit.TheVariants.{Add, Gone, Swap}
 use Rattle.mm_schema.specs.Refused.{first_refusal}
 use Rattle.mm_schema.specs.Rows.{Pair, changed, column_cmp, goes, unsorted}
 use Rattle.mm_schema.specs.Schema.{HasDistinctNames, Schema, columns_named, key_named}
@@ -19,6 +16,7 @@ use Rattle.mm_schema.specs.declared.column.Column.{Column}
 use Rattle.mm_schema.specs.declared.table.Table.{Table}
 use Rattle.mm_schema.proofs.Duplicates.{Row}
 use Rattle.mm_schema.proofs.InOrder.{IsPermutation-in_order}
+use Rattle.mm_query.specs.Atoms.{updated_row}
 use Rattle.mm_query.specs.Binding.{Binds, binding_conditions, has_other_length, has_type_mismatch}
 use Rattle.mm_query.specs.Edits.{changed_table, own_pairs}
 use Rattle.mm_query.specs.Machine.{after_change}
@@ -37,6 +35,8 @@ use Rattle.mm_laws.proofs.TypedRows.{coming, tuples_typed}
 use Rattle.mm_laws.proofs.TypedTables.{named_typed}
 use Rattle.mm_plan.specs.Kept.{AreOf, instance_of}
 use Rattle.mm_txn.specs.Kept.{state_of}
+use Rattle.mm_txn.specs.RowEdits.{updates_of}
+use Rattle.mm_txn.proofs.EditsMade.{updated_come}
 use Rattle.mm_txn.proofs.RowsBeside.{are_beside, types_of}
 
 -- ---- rows by columns, and by their types
@@ -91,13 +91,6 @@ held_by_coming P key (p ∷ ps) rows all =
     (All-permutation P (changed key (p ∷ ps) rows) mixed
     (IsPermutation-sym mixed (changed key (p ∷ ps) rows) (IsPermutation-in_order (column_cmp key) mixed)) all)
 
--- The rows that the pairs of edits bring are those of the edits.
-new_rows_come : (now : Slots) (edits : List Edit) → coming (edit_pairs now edits) ≡ new_rows edits
-new_rows_come now [] = refl
-new_rows_come now (Add row ∷ edits) = ap (λ rows. row ∷ rows) (new_rows_come now edits)
-new_rows_come now (Swap at row ∷ edits) = ap (λ rows. row ∷ rows) (new_rows_come now edits)
-new_rows_come now (Gone at ∷ edits) = new_rows_come now edits
-
 -- The tuples of an INSERT have the types of the columns of its table, ..
 pub inserted_typed : (schema : Schema) (mutation : Mutation) (place : ℕ) (rows : List Row) → Binds schema mutation (bound.Insert place rows)
     → first_refusal (binding_conditions mutation schema) ≡ None → (table : Table) → slice_get schema.tables place ≡ Some table
@@ -132,13 +125,12 @@ module _ (schema : Schema) (rs : List StoredRows) (are : AreOf schema.tables rs)
       (typed_by_change (state_of schema rs) (instance_typed schema.tables rs are kept) mutation distinct none)))
   updated_typed (written.Delete name named_tests) place assignments tests binds none = absurd binds
 
-  -- So have those of edits that make its pairs.
-  pub swaps_typed : (mutation : Mutation) (place : ℕ) (assignments : List (Assignment ℕ)) (tests : List (Atom FieldPlace))
+  -- So have those that it makes of the rows that meet its tests.
+  pub rows_updated_typed : (mutation : Mutation) (place : ℕ) (assignments : List (Assignment ℕ)) (tests : List (Atom FieldPlace))
       → Binds schema mutation (bound.Update place assignments tests) → first_refusal (binding_conditions mutation schema) ≡ None
-      → (now : Slots) (edits : List Edit) → edit_pairs now edits ≡ own_pairs mutation (state_of schema rs)
-      → All (HasTypes (types_of (columns_named (changed_table mutation) schema))) (new_rows edits)
-  swaps_typed mutation place assignments tests binds none now edits pairs =
+      → (rows : List Row) → own_pairs mutation (state_of schema rs) ≡ updates_of assignments rows
+      → All (HasTypes (types_of (columns_named (changed_table mutation) schema))) (map (updated_row assignments) rows)
+  rows_updated_typed mutation place assignments tests binds none rows owns =
       let columns = columns_named (changed_table mutation) schema in
-      subst (All (HasTypes (types_of columns))) (new_rows_come now edits)
-      (All-weaker (OfColumns columns) (HasTypes (types_of columns)) (by_types columns) (coming (edit_pairs now edits))
-      (subst (λ ps. All (OfColumns columns) (coming ps)) (sym pairs) (updated_typed mutation place assignments tests binds none)))
+      All-weaker (OfColumns columns) (HasTypes (types_of columns)) (by_types columns) (map (updated_row assignments) rows)
+      (subst (All (OfColumns columns)) (ap coming owns ∙ updated_come assignments rows) (updated_typed mutation place assignments tests binds none))

@@ -11,7 +11,7 @@ use Rattle.mm_schema.specs.References.{refers}
 use Rattle.mm_schema.specs.Rows.{Pair}
 use Rattle.mm_schema.specs.Schema.{Schema, table_place}
 use Rattle.mm_schema.specs.declared.column.Column.{Column}
-use Rattle.mm_store.specs.declared.edit.Edit.{Edit}
+use Rattle.mm_tables.specs.declared.edit.Edit.{Edit}
 use Rattle.mm_base.specs.Columns.{IsReference}
 use Rattle.mm_store.specs.Tables.{IsAt, Tables, key_at}
 use Rattle.mm_value.specs.declared.row_ref.RowRef.{RowRef}

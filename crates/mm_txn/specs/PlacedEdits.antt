@@ -3,9 +3,9 @@ use Rattle.std.specs.Prelude.{◌≡◌, ◌==◌, ◌&&◌, ℕ, ◌<◌, Bool,
 use Rattle.std.specs.List.{list_any}
 use Rattle.std.specs.Option.{option_map_or}
 use Rattle.mm_partition.specs.Places.{slot_at}
-use Rattle.mm_store.specs.RowEdits.{new_rows, edit_pairs}
+use Rattle.mm_store.specs.Edits.{AreFit, pairs_of, rows_after}
 use Rattle.mm_indexed.specs.Kept.{StoredRows}
-use Rattle.mm_store.specs.declared.edit.Edit.{Edit}
+use Rattle.mm_tables.specs.declared.edit.Edit.{Edit}
 use Rattle.mm_schema.specs.Instance.{TableEdits as NamedEdits}
 use Rattle.mm_schema.specs.References.{lose_targets}
 use Rattle.mm_schema.specs.Refused.{Condition}
@@ -13,12 +13,13 @@ use Rattle.mm_schema.specs.Rows.{Pair, table_rows_conditions}
 use Rattle.mm_schema.specs.Schema.{Schema, table_place}
 use Rattle.mm_schema.specs.declared.reference.Reference.{Reference}
 use Rattle.mm_schema.specs.declared.table.Table.{Table}
-use Rattle.mm_store.specs.Tables.{AreFit, HasRows, IsAt, Tables, has_orphans, key_at, rows_with}
+use Rattle.mm_store.specs.Tables.{HasRows, IsAt, Tables, has_orphans, key_at}
 use Rattle.mm_query.specs.Edits.{changed_table, edits, own_pairs}
 use Rattle.mm_query.specs.declared.command.Mutation.{Mutation}
 use Rattle.mm_delta.specs.declared.edited.TableChange.{TableChange}
 use Rattle.mm_standing.specs.Queries.{RowsByPlace}
 use Rattle.mm_txn.specs.Kept.{state_of}
+use Rattle.mm_txn.specs.RowEdits.{BringNone}
 use Rattle.mm_txn.specs.declared.edits.RelationEdits.{RelationEdits}
 
 -- Edits of the relation of the table at a place.
@@ -38,11 +39,11 @@ edits_at changes place = option_map_or (λ (c : PlacedEdits). c.1) (find (λ (c 
 
 -- The rows of the table at each place once all edits are made.
 abbrev pub rows_edited : Tables → List PlacedEdits → RowsByPlace
-rows_edited store changes place = option_map_or (λ stored. rows_with stored (edits_at changes place)) (slice_get store.tables place) []
+rows_edited store changes place = option_map_or (λ stored. rows_after stored (edits_at changes place)) (slice_get store.tables place) []
 
 -- The rows that edits take away, with those that come in their place.
 abbrev pub pairs_at : List StoredRows → PlacedEdits → List Pair
-pairs_at relations change = option_map_or (λ stored. edit_pairs (slot_at stored.places) change.1) (slice_get relations change.0) []
+pairs_at relations change = option_map_or (λ stored. pairs_of (slot_at stored.places) change.1) (slice_get relations change.0) []
 
 -- The same by the name of the table.
 abbrev pub named : Schema → List StoredRows → PlacedEdits → NamedEdits
@@ -59,15 +60,15 @@ FitsAt store change = (stored : StoredRows) × IsAt store change.0 stored × Are
 pub record AreEdits (store : Tables) (changes : List PlacedEdits) : Type 0 where
   pub fit : All (FitsAt store) changes
   pub ascend : AllPairs (λ (a b : PlacedEdits). a.0 < b.0) changes
-  pub removals : 1 < length changes → All (λ (c : PlacedEdits). new_rows c.1 ≡ []) changes
+  pub removals : 1 < length changes → All (λ (c : PlacedEdits). BringNone c.1) changes
 
--- Edits are for the relation of the table that a change names; each names another row of it and brings a row of the types of
--- its columns; and the rows that go and come are the pairs of that table.
+-- Edits are for the relation of the table that a change names; they may be made together, and each brings a row of the types of its
+-- columns, if any; and the rows that go and come are the pairs of that table.
 pub record AreOwnEditsOf (mutation : Mutation) (schema : Schema) (relations : List StoredRows) (place : ℕ) (edits : List Edit) : Type 0 where
   pub placed : table_place (changed_table mutation) schema ≡ Some place
   pub fit : (stored : StoredRows) → slice_get relations place ≡ Some stored → AreFit stored edits
   pub pairs : (stored : StoredRows) → slice_get relations place ≡ Some stored
-      → edit_pairs (slot_at stored.places) edits ≡ own_pairs mutation (state_of schema relations)
+      → pairs_of (slot_at stored.places) edits ≡ own_pairs mutation (state_of schema relations)
 
 -- The first edits are for the table that a change names, and all of them together are those of the change.
 pub record AreEditsOf (mutation : Mutation) (schema : Schema) (store : Tables) (own : PlacedEdits) (cascaded : List PlacedEdits) : Type 0 where
@@ -91,7 +92,7 @@ leaves_orphans store changes = list_any (λ (change : PlacedEdits). list_any (le
 -- What refuses edits, of which the first are for this relation, in the one order.
 abbrev pub edits_conditions : Tables → StoredRows → PlacedEdits → List PlacedEdits → List Condition
 edits_conditions store stored own cascaded =
-    table_rows_conditions stored.key (rows_with stored own.1) (has_orphans store own.0 (rows_with stored own.1)) (leaves_orphans store (own ∷ cascaded))
+    table_rows_conditions stored.key (rows_after stored own.1) (has_orphans store own.0 (rows_after stored own.1)) (leaves_orphans store (own ∷ cascaded))
 
 -- ---- what they make
 

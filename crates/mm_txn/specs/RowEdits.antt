@@ -1,11 +1,18 @@
--- Edits of the rows that meet atoms.
-use Rattle.std.specs.Prelude.{ℕ, List, Some, map}
+-- Edits of the rows of one table, and the rows that are staged for them.
+use Rattle.std.specs.Prelude.{◌≡◌, ℕ, List, Option, Some, None, All, map}
+use Rattle.std.specs.Option.{option_map}
+use Rattle.mm_indexed.specs.Kept.{StoredRows}
+use Rattle.mm_link.specs.Targets.{pair_of}
+use Rattle.mm_partition.specs.Places.{Free, slot_at}
 use Rattle.mm_query.specs.Atoms.{updated_row}
 use Rattle.mm_query.specs.declared.atom.Assignment.{Assignment}
 use Rattle.mm_row_order.specs.Refs.{Slots, row_at}
-use Rattle.mm_store.specs.declared.edit.Edit.{Edit}
-use Rattle.mm_store.specs.declared.edit.Edit.TheVariants.{Swap}
 use Rattle.mm_schema.specs.Rows.{Pair}
+use Rattle.mm_store.specs.Edits.{AreFit, new_slot, old_slot, pairs_of}
+use Rattle.mm_store.specs.Staging.{HasStaged}
+use Rattle.mm_store.specs.Tables.{IsAt, Tables}
+use Rattle.mm_tables.specs.Edits.{Fits, came_by}
+use Rattle.mm_tables.specs.declared.edit.Edit.{Edit}
 use Rattle.mm_value.specs.declared.row_ref.RowRef.{RowRef}
 use Rattle.mm_value.specs.declared.values.Value.{Value}
 
@@ -13,6 +20,23 @@ use Rattle.mm_value.specs.declared.values.Value.{Value}
 abbrev pub updates_of : List (Assignment ℕ) → List (List Value) → List Pair
 updates_of assignments rows = map (λ (row : List Value). (Some row, Some (updated_row assignments row))) rows
 
--- The edit that puts in place of the row of a reference the one that assignments make of it.
-abbrev pub swap_of : Slots → List (Assignment ℕ) → RowRef → Edit
-swap_of now assignments at = Swap at (updated_row assignments (row_at now at))
+-- The row that assignments make of the row of a reference.
+abbrev pub updated_at : Slots → List (Assignment ℕ) → RowRef → List Value
+updated_at now assignments at = updated_row assignments (row_at now at)
+
+-- A row was staged in a slot that was free, and the edit brings it, in the place of the row of a reference if there is one.
+pub record Brings (old new : StoredRows) (at : Option RowRef) (row : List Value) (edit : Edit) : Type 0 where
+  pub fits : Fits new.key (slot_at new.places) edit
+  pub fresh : (other : RowRef) → new_slot edit ≡ Some other → slot_at old.places other ≡ Free
+  pub takes : old_slot edit ≡ at
+  pub pair : pair_of (slot_at new.places) edit ≡ (option_map (row_at (slot_at old.places)) at, Some row)
+
+-- Rows of a table were staged since, and edits that fit it bring them: they change its rows by these pairs.
+pub record Stages (table : ℕ) (old new : Tables) (edits : List Edit) (pairs : List Pair) : Type 0 where
+  pub kept : HasStaged table old new
+  pub fit : (stored : StoredRows) → IsAt new table stored → AreFit stored edits
+  pub pairs_are : (stored : StoredRows) → IsAt new table stored → pairs_of (slot_at stored.places) edits ≡ pairs
+
+-- No edit brings a row.
+abbrev pub BringNone : List Edit → Type 0
+BringNone edits = All (λ (e : Edit). came_by e ≡ None) edits

@@ -1,7 +1,6 @@
 //! The rows that a DELETE cascades to (the CASCADE of SQL's referential actions).
 ghost use Rattle.std.specs.Prelude.{◌≡◌, ◌<◌, ◌∷◌, [], All, filter, length, map, slice_get, IfOk, OnOk, None, Some};
 ghost use Rattle.std.specs.Option.{option_copied, option_map};
-ghost use Rattle.mm_store.specs.RowEdits.{new_rows};
 ghost use Rattle.mm_indexed.specs.Kept.{StoredRows};
 ghost use Rattle.mm_schema.specs.Columns.{cascading_target};
 ghost use Rattle.mm_schema.specs.Schema.{HasDistinctNames};
@@ -12,12 +11,14 @@ ghost use Rattle.mm_query.specs.Edits.{is_cascaded, removals_of, with_cascades};
 ghost use Rattle.mm_txn.specs.Cascades.{AddsCascaded, IsCascade, cascade_to, cascades_from, placed_cascade};
 ghost use Rattle.mm_plan.specs.Kept.{AreKept, instance_of};
 ghost use Rattle.mm_txn.specs.PlacedEdits.{AreEdits, FitsAt, edits_at, named, pairs_at, placed};
+ghost use Rattle.mm_txn.specs.RowEdits.{BringNone};
 
 use crate::edits::RelationEdits;
 use crate::row_edits::removals_at;
 use mm_delta::{references_of_gone, row_gone};
 use mm_schema::{Catalog, Column, Name};
-use mm_store::{Edit, IndexRef, Store, View};
+use mm_store::{IndexRef, Store, View};
+use mm_tables::Edit;
 use mm_value::{Few, RowRef};
 use std::alloc::{AllocError, Global};
 
@@ -44,7 +45,7 @@ pub(crate) fn cascades(
     requires kept { AreKept catalog.now store.now }
     requires distinct { HasDistinctNames catalog.now }
     requires fit { FitsAt store.now (placed own.now) }
-    requires removals { new_rows own.now.edits ≡ [] }
+    requires removals { BringNone own.now.edits }
     ensures are { IfOk result (λ cascaded. AreEdits store.now (placed own.now ∷ map placed cascaded.items)) }
     ensures cascades { IfOk result (λ cascaded. map (named catalog.now store.now.tables) (placed own.now ∷ map placed cascaded.items)
         ≡ with_cascades catalog.now catalog.now.tables (instance_of store.now.tables) (named catalog.now store.now.tables (placed own.now) ∷ [])) }
@@ -76,7 +77,7 @@ fn cascaded_edits(
     requires there { table < length catalog.now.tables }
     requires are { AreEdits store.now (placed own.now ∷ map placed cascaded.now) }
     ensures fit { IfOk result (λ edits. FitsAt store.now (table, edits)) }
-    ensures removals { IfOk result (λ edits. new_rows edits ≡ []) }
+    ensures removals { IfOk result (λ edits. BringNone edits) }
     ensures pairs { IfOk result (λ edits. (t : Table) → slice_get catalog.now.tables table ≡ Some t
         → pairs_at store.now.tables (table, edits)
         ≡ removals_of (filter (is_cascaded catalog.now (map (named catalog.now store.now.tables) (placed own.now ∷ map placed cascaded.now))

@@ -24,7 +24,7 @@ use std::alloc::{AllocError, Global};
 
 impl Contents {
     /// Makes all edits of a change that its rows and the standing queries allow, and logs them, or none. Each list
-    /// follows its query. The refusals are those of [`Store::apply`] for the table that the change names, and then those
+    /// follows its query. The refusals are those of [`Store::make`] for the table that the change names, and then those
     /// of [`Standing::prepare`]. `RowIsReferenced` is also due if a row that stays refers to a deleted row of another table. Sets
     /// `reads` to the number of rows read for the lists.
     pub(crate) fn make_edits(
@@ -91,12 +91,12 @@ fn apply_each(
     ensures longer { mark_of store.old ≤ mark_of store.new }
     ensures marks { (mark : ℕ) → mark ≤ mark_of store.old → KeepsMarks store.old store.new mark }
 {
-    store.removals_may_be_made(own.table);
+    store.deletions_may_be_made(own.table);
     while let Some(removals) = cascaded.pop() {
-        store.removals_may_be_made(removals.table);
-        store.apply(alloc, removals.table, removals.edits)?;
+        store.deletions_may_be_made(removals.table);
+        store.make(alloc, removals.table, removals.edits.as_slice())?;
     }
-    store.apply(alloc, own.table, own.edits)
+    store.make(alloc, own.table, own.edits.as_slice())
 }
 
 /// Makes ready what edits of tables change of the lists. `StandingListTooLarge` where a list would have more than 1,048,576 rows;

@@ -1,7 +1,9 @@
 //! What a database holds: a catalog, the rows of its tables, and the lists of its standing queries.
 ghost use Rattle.std.specs.Prelude.{◌≡◌, ℕ, ◌≤◌, true, false, List, [], length, take};
 ghost use Rattle.mm_standing.specs.State.{count_at};
-ghost use Rattle.mm_store.specs.Marks.{KeepsMarks, mark_of, rows_at_mark};
+ghost use Rattle.mm_indexed.specs.Index.{EachTurns};
+ghost use Rattle.mm_store.specs.Marks.{IsMark, KeepsMarks, mark_of, rows_at_mark};
+ghost use Rattle.mm_store.specs.Tables.{SameForm};
 ghost use Rattle.mm_value.specs.declared.values.Value.{Value};
 ghost use Rattle.mm_txn.specs.Contents.{IsAtRest};
 ghost use Rattle.mm_plan.specs.Kept.{instance_of};
@@ -80,6 +82,21 @@ impl Contents {
     {
         self.store.revert(commands);
         self.standing.revert(changes);
+    }
+
+    /// Takes back what was done of the rows since their log was so long: rows were staged, and all else was as it is. It takes no memory.
+    pub(crate) fn unstage(&mut self, mark: usize)
+        requires mark { IsMark self.old.store mark }
+        requires rows { rows_at_mark mark self.old.store ≡ instance_of self.old.store.tables }
+        ensures schema { self.new.schema ≡ self.old.schema }
+        ensures rows { instance_of self.new.store.tables ≡ rows_at_mark mark self.old.store }
+        ensures mark { mark_of self.new.store ≡ mark }
+        ensures marks { (earlier : ℕ) → earlier ≤ mark → KeepsMarks self.old.store self.new.store earlier }
+        ensures links { self.new.store.links ≡ self.old.store.links }
+        ensures form { EachTurns SameForm self.old.store.tables self.new.store.tables }
+        ensures lists { self.new.lists ≡ self.old.lists }
+    {
+        self.store.revert(mark);
     }
 
     /// Makes what was done final, unless a transaction is open.

@@ -1,13 +1,14 @@
 //! What a change of rows asks of its table.
-ghost use Rattle.std.specs.Prelude.{◌≡◌, ◌++◌, ◌∷◌, map, IfOk};
+ghost use Rattle.std.specs.Prelude.{◌≡◌, ◌++◌, ◌∷◌, map, IfOk, OnErr};
 ghost use Rattle.mm_schema.specs.Refused.{AnswersDue, first_refusal};
-ghost use Rattle.mm_schema.specs.Schema.{Schema};
+ghost use Rattle.mm_schema.specs.Schema.{HasDistinctNames, Schema};
 ghost use Rattle.mm_query.specs.Binding.{binding_conditions};
 ghost use Rattle.mm_query.specs.Edits.{value_conditions};
 ghost use Rattle.mm_query.specs.declared.command.Mutation.{Mutation};
 ghost use Rattle.mm_plan.specs.Kept.{AreKept, AreOf};
+ghost use Rattle.mm_store.specs.Marks.{mark_of};
 ghost use Rattle.mm_txn.specs.Bound.{IsBoundChange, bound_of};
-ghost use Rattle.mm_txn.specs.Kept.{state_of};
+ghost use Rattle.mm_txn.specs.Kept.{KeepsState, state_of};
 ghost use Rattle.mm_txn.specs.PlacedEdits.{AreEditsOf, AreOwnEditsOf, placed, placed_change};
 
 use crate::bound::ChangeToRun;
@@ -15,7 +16,9 @@ use crate::cascades::cascades;
 use crate::contents::Contents;
 use crate::row_edits::{additions, removals, updates};
 use mm_delta::TableChange;
-use mm_store::{Edit, Store};
+use mm_schema::Catalog;
+use mm_store::Store;
+use mm_tables::Edit;
 use mm_value::{Few, Refusal};
 use std::alloc::Global;
 
@@ -24,7 +27,7 @@ use std::alloc::Global;
 pub(crate) struct RelationEdits {
     /// The table's place in the order of creation.
     pub(crate) table: usize,
-    /// The edits, of which each names another row.
+    /// The edits, of which no two have a slot in common. The rows that they bring are staged.
     pub(crate) edits: Few<Edit>,
 }
 
@@ -51,46 +54,77 @@ pub(crate) struct ChangeEdits {
 }
 
 impl Contents {
-    /// The edits that a bound change asks for. The refusals are those of [`updates`]; or `Memory` in their place or in that of
-    /// success.
+    /// The edits that a bound change asks for. The rows that they bring are staged, and all else is as before. The refusals are those of
+    /// [`updates`]; or `Memory` in their place or in that of success. Then nothing has changed.
     pub(crate) fn edits_of(
-        &self,
+        &mut self,
         alloc: Global,
         change: ChangeToRun<'_>,
     ) -> Result<ChangeEdits, Refusal>
-        requires { (mutation : Mutation) × IsBoundChange self.now.schema mutation (bound_of change) }
-        ensures due { (mutation : Mutation) → IsBoundChange self.now.schema mutation (bound_of change.entry)
-            → AnswersDue (first_refusal (binding_conditions mutation self.now.schema
-            ++ value_conditions mutation (state_of self.now.schema self.now.store.tables))) result }
-        ensures ok { IfOk result (λ e. (mutation : Mutation) → IsBoundChange self.now.schema mutation (bound_of change.entry)
-            → AreEditsOf mutation self.now.schema self.now.store (placed e.own) (map placed e.cascaded.items)) }
+        requires { (mutation : Mutation) × IsBoundChange self.old.schema mutation (bound_of change) }
+        ensures due { (mutation : Mutation) → IsBoundChange self.old.schema mutation (bound_of change.entry)
+            → AnswersDue (first_refusal (binding_conditions mutation self.old.schema
+            ++ value_conditions mutation (state_of self.old.schema self.old.store.tables))) result }
+        ensures ok { IfOk result (λ e. (mutation : Mutation) → IsBoundChange self.old.schema mutation (bound_of change.entry)
+            → AreEditsOf mutation self.new.schema self.new.store (placed e.own) (map placed e.cascaded.items)) }
+        ensures schema { self.new.schema ≡ self.old.schema }
+        ensures store { KeepsState self.old.store self.new.store }
+        ensures lists { self.new.lists ≡ self.old.lists }
+        ensures err { OnErr result (mark_of self.new.store ≡ mark_of self.old.store) }
     {
-        let cascades_rows = matches!(change, ChangeToRun::Delete { .. });
-        let own = own_edits(alloc, &self.store, change)?;
-        let cascaded = if cascades_rows {
-            cascades(alloc, &self.catalog, &self.store, &own)?
-        } else {
-            Vec::new(alloc)
-        };
-        Ok(ChangeEdits { own, cascaded })
+        let mark = self.store.mark();
+        match staged_edits(alloc, &self.catalog, &mut self.store, change) {
+            Ok(edits) => Ok(edits),
+            Err(refusal) => {
+                self.store.revert(mark);
+                Err(refusal)
+            }
+        }
     }
 }
 
-/// The edits of the table that a bound change is for. It refuses what [`Contents::edits_of`] does.
+/// The edits that a bound change asks for. It refuses what [`Contents::edits_of`] does; then some of the rows may be staged.
+fn staged_edits(
+    alloc: Global,
+    catalog: &Catalog,
+    store: &mut Store,
+    change: ChangeToRun<'_>,
+) -> Result<ChangeEdits, Refusal>
+    requires kept { AreKept catalog.now store.old }
+    requires bound { (mutation : Mutation) × IsBoundChange catalog.now mutation (bound_of change) }
+    ensures due { (mutation : Mutation) → IsBoundChange catalog.now mutation (bound_of change.entry)
+        → AnswersDue (first_refusal (binding_conditions mutation catalog.now
+        ++ value_conditions mutation (state_of catalog.now store.old.tables))) result }
+    ensures ok { IfOk result (λ e. (mutation : Mutation) → IsBoundChange catalog.now mutation (bound_of change.entry)
+        → AreEditsOf mutation catalog.now store.new (placed e.own) (map placed e.cascaded.items)) }
+    ensures store { KeepsState store.old store.new }
+{
+    let cascades_rows = matches!(change, ChangeToRun::Delete { .. });
+    let own = own_edits(alloc, store, change)?;
+    let cascaded = if cascades_rows {
+        cascades(alloc, catalog, store, &own)?
+    } else {
+        Vec::new(alloc)
+    };
+    Ok(ChangeEdits { own, cascaded })
+}
+
+/// The edits of the table that a bound change is for. It refuses what [`Contents::edits_of`] does; then some of the rows may be staged.
 fn own_edits(
     alloc: Global,
-    store: &Store,
+    store: &mut Store,
     change: ChangeToRun<'_>,
 ) -> Result<RelationEdits, Refusal>
-    requires { (schema : Schema) × (mutation : Mutation) × AreOf schema.tables store.now.tables × IsBoundChange schema mutation (bound_of change) }
-    ensures due { (schema : Schema) (mutation : Mutation) → AreOf schema.tables store.now.tables → IsBoundChange schema mutation (bound_of change.entry)
-        → AnswersDue (first_refusal (binding_conditions mutation schema ++ value_conditions mutation (state_of schema store.now.tables))) result }
-    ensures ok { IfOk result (λ e. (schema : Schema) (mutation : Mutation) → AreOf schema.tables store.now.tables
-        → IsBoundChange schema mutation (bound_of change.entry) → AreOwnEditsOf mutation schema store.now.tables e.table e.edits) }
+    requires { (schema : Schema) × (mutation : Mutation) × AreOf schema.tables store.old.tables × IsBoundChange schema mutation (bound_of change) }
+    ensures due { (schema : Schema) (mutation : Mutation) → AreOf schema.tables store.old.tables → IsBoundChange schema mutation (bound_of change.entry)
+        → AnswersDue (first_refusal (binding_conditions mutation schema ++ value_conditions mutation (state_of schema store.old.tables))) result }
+    ensures ok { IfOk result (λ e. (schema : Schema) (mutation : Mutation) → AreOf schema.tables store.old.tables
+        → IsBoundChange schema mutation (bound_of change.entry) → AreOwnEditsOf mutation schema store.new.tables e.table e.edits) }
+    ensures store { KeepsState store.old store.new }
 {
     match change {
         ChangeToRun::Insert { table, tuples } => {
-            let edits = additions(alloc, tuples.into_rows())?;
+            let edits = additions(alloc, store, table, tuples.into_rows())?;
             Ok(RelationEdits { table, edits })
         }
         ChangeToRun::Update {
@@ -98,8 +132,8 @@ fn own_edits(
             assignments,
             tests,
         } => {
-            let mut view = store.view();
-            let edits = updates(alloc, &mut view, table, assignments, tests)?;
+            store.keeps_tables();
+            let edits = updates(alloc, store, table, assignments, tests)?;
             Ok(RelationEdits { table, edits })
         }
         ChangeToRun::Delete { table, tests } => {

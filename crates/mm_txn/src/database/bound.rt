@@ -152,9 +152,13 @@ impl Db {
     {
         *reads = 0;
         self.contents.is_at_rest();
+        let (mark, _) = self.contents.lengths();
         let edits = self.contents.edits_of(alloc, change)?;
         let count = edits.own.edits.as_slice().len();
-        self.contents.make_edits(alloc, edits, reads)?;
+        if let Err(refusal) = self.contents.make_edits(alloc, edits, reads) {
+            self.contents.unstage(mark);
+            return Err(refusal);
+        }
         self.contents.settle_outside(self.is_open);
         Ok(count)
     }

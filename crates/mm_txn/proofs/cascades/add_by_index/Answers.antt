@@ -1,10 +1,11 @@
 -- For each row that goes those are found that have its key.
-use Rattle.std.proofs.Common.{◌<◌, ◌++◌, [], ◌∷◌, length, slice_get, take, ap, ◌∙◌, subst, sym, arith}
-use Rattle.std.proofs.lemmas.List.{take_all, take_more}
+use Rattle.std.proofs.Common.{◌<◌, length, get_or, slice_get, take, ap, ◌∙◌, subst, sym, arith}
+use Rattle.std.proofs.lemmas.List.{get_or_default, take_all, take_more}
 use Rattle.mm_partition.specs.Places.{slot_at, row_in}
 use Rattle.mm_partition.specs.Views.{viewed}
 use Rattle.mm_indexed.proofs.Typed.{HasTypes-length}
-use Rattle.mm_store.specs.declared.edit.Edit.{Edit}
+use Rattle.mm_tables.specs.declared.edit.Edit.{Edit}
+use Rattle.mm_tables.specs.declared.edit.Edit.TheVariants.{Stage}
 use Rattle.mm_store.specs.Tables.{IsAt, Tables}
 use Rattle.mm_value.specs.Views.{value_of}
 use Rattle.mm_txn.specs.Cascades.{AddsReferrers}
@@ -13,6 +14,9 @@ use Rattle.mm_txn.proofs.CascadeTables.{fits_within}
 use Rattle.mm_txn.proofs.Referrers.{adds_same, matches_added, rows_taken, skipped, tests}
 use Rattle.mm_txn.proofs.cascades.add_by_index.Goals.{in-Some+in_ok-matches, in_default}
 use Rattle.mm_txn.proofs.cascades.add_by_index.Goals as goal
+
+abbrev none : Edit
+none = Stage (record { slot = 0 })
 
 pub row-requires-clause-there : goal.row-requires-clause-there
 row-requires-clause-there c =
@@ -23,7 +27,7 @@ pub row-requires-clause-live : goal.row-requires-clause-live
 row-requires-clause-live c = λ target at.
     gone_live c.args.view.now.store (c.args.cascade.now.to, c.args.cascade.now.gone.now) c.requires.cascade.fit target
     (subst (λ (s : Tables). IsAt s c.args.cascade.now.to target) c.loop-edit.invariant.same at)
-    c.loop-edit.edit-index c.edit-item.result c.loop-edit-test.true c.edit-item.is c.in-Some.at (sym c.row_gone.ensures ∙ c.in-Some.is)
+    c.loop-edit.edit-index none c.loop-edit-test.true c.in-Some.at (sym c.row_gone.ensures ∙ c.in-Some.is)
 
 pub value-key-requires : goal.value-key-requires
 value-key-requires c =
@@ -56,8 +60,8 @@ loop-edit-preserved c = record {
   added = λ stored target at there.
       let cascade = c.args.cascade.now in
       let k = c.loop-edit.edit-index in
-      let more = take_more cascade.gone.now k c.edit-item.result c.loop-edit-test.true
-      ∙ ap (λ (e : Edit). take k cascade.gone.now ++ e ∷ []) (sym c.edit-item.is) in
+      let edit : Edit = get_or cascade.gone.now k none in
+      let more = take_more cascade.gone.now k none c.loop-edit-test.true in
       let was = c.loop-edit.invariant.added stored target at there in
       elim c.match-row_gone.branch [
         | in-Some+in_ok-matches w ↦
@@ -72,14 +76,14 @@ loop-edit-preserved c = record {
             c.match-row_gone.found.items)
             (sym more)
             (rw w.found-is (matches_added stored cascade.column target.key (slot_at target.places) (take k cascade.gone.now)
-            c.edit-item.result c.args.found.now.items c.loop-edit.found.items was w.in-Some.at (sym c.row_gone.ensures ∙ w.in-Some.is)
+            edit c.args.found.now.items c.loop-edit.found.items was w.in-Some.at (sym c.row_gone.ensures ∙ w.in-Some.is)
             (value_of w.value-key.result) has told.0 _ told.1 told.2 (w.in_ok-matches.ensures.live stored seen)))
         | in_default w ↦
             subst (λ es. AddsReferrers stored (tests cascade.column target.key (rows_taken (slot_at target.places) es)) c.args.found.now.items
             c.match-row_gone.found.items)
             (sym more)
             (rw w.found-is (skipped stored cascade.column target.key (slot_at target.places) (take k cascade.gone.now)
-            c.edit-item.result c.args.found.now.items c.loop-edit.found.items was (sym c.row_gone.ensures ∙ w.in_default.is)))
+            edit c.args.found.now.items c.loop-edit.found.items was (sym c.row_gone.ensures ∙ w.in_default.is)))
       ];
 }
 

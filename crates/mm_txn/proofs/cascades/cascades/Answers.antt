@@ -5,8 +5,8 @@ use Rattle.std.proofs.lemmas.Bool.{eqb-true, false≢true}
 use Rattle.std.proofs.lemmas.Grind.{common_steps}
 use Rattle.std.proofs.lemmas.List.{map-append, nil_from_length}
 use Rattle.std.proofs.lemmas.List.Elements.{All-cons, All-nil, All-push, All-weaker}
-use Rattle.mm_store.specs.RowEdits.{new_rows}
-use Rattle.mm_store.specs.declared.edit.Edit.{Edit}
+use Rattle.mm_txn.specs.RowEdits.{BringNone}
+use Rattle.mm_tables.specs.declared.edit.Edit.{Edit}
 use Rattle.mm_schema.specs.declared.table.Table.{Table}
 use Rattle.mm_query.specs.Edits.{is_cascaded, removals_of, with_cascades}
 use Rattle.mm_store.specs.Tables.{rows_at}
@@ -35,8 +35,8 @@ loop-table-init c =
       are = subst (λ cs. AreEdits store (own ∷ cs)) (sym none) (one_edited store own c.requires.fit);
       before = subst (λ cs. All (λ (d : PlacedEdits). d.0 < own.0 + 1) (own ∷ cs)) (sym none)
           (All-cons (λ (d : PlacedEdits). d.0 < own.0 + 1) own [] (omega arith) (All-nil (λ (d : PlacedEdits). d.0 < own.0 + 1)));
-      removals = subst (λ cs. All (λ (d : PlacedEdits). new_rows d.1 ≡ []) (own ∷ cs)) (sym none)
-          (All-cons (λ (d : PlacedEdits). new_rows d.1 ≡ []) own [] c.requires.removals (All-nil (λ (d : PlacedEdits). new_rows d.1 ≡ [])));
+      removals = subst (λ cs. All (λ (d : PlacedEdits). BringNone d.1) (own ∷ cs)) (sym none)
+          (All-cons (λ (d : PlacedEdits). BringNone d.1) own [] c.requires.removals (All-nil (λ (d : PlacedEdits). BringNone d.1)));
       rest = rest_at_first schema store c.requires.kept c.requires.distinct own c.requires.fit
           ∙ ap (λ cs. with_cascades schema (drop (own.0 + 1) schema.tables) (drop (own.0 + 1) (instance_of store.tables))
           (map (named schema store.tables) (own ∷ cs))) (sym none);
@@ -73,8 +73,8 @@ loop-table-preserved c =
                 c.in_ok-edits.ensures.removals);
             before = subst (All (λ (d : PlacedEdits). d.0 < table + 1)) (sym more)
                 (All-push (λ (d : PlacedEdits). d.0 < table + 1) cs (table, edits) before (omega arith));
-            removals = subst (All (λ (d : PlacedEdits). new_rows d.1 ≡ [])) (sym more)
-                (All-push (λ (d : PlacedEdits). new_rows d.1 ≡ []) cs (table, edits) c.loop-table.invariant.removals c.in_ok-edits.ensures.removals);
+            removals = subst (All (λ (d : PlacedEdits). BringNone d.1)) (sym more)
+                (All-push (λ (d : PlacedEdits). BringNone d.1) cs (table, edits) c.loop-table.invariant.removals c.in_ok-edits.ensures.removals);
             rest = c.loop-table.invariant.rest ∙ some_more schema store c.requires.kept c.requires.distinct table within edits cs pairs some
                 ∙ ap (λ (xs : List PlacedEdits). with_cascades schema (drop (table + 1) schema.tables) (drop (table + 1) (instance_of store.tables))
                 (map (named schema store.tables) xs)) (sym more);
@@ -87,7 +87,7 @@ loop-table-preserved c =
           record {
             are = subst (AreEdits store) (sym same) c.loop-table.invariant.are;
             before = subst (All (λ (d : PlacedEdits). d.0 < table + 1)) (sym same) before;
-            removals = subst (All (λ (d : PlacedEdits). new_rows d.1 ≡ [])) (sym same) c.loop-table.invariant.removals;
+            removals = subst (All (λ (d : PlacedEdits). BringNone d.1)) (sym same) c.loop-table.invariant.removals;
             rest = c.loop-table.invariant.rest ∙ none_more schema store c.requires.kept c.requires.distinct table within edits cs pairs none
                 ∙ ap (λ (xs : List PlacedEdits). with_cascades schema (drop (table + 1) schema.tables) (drop (table + 1) (instance_of store.tables))
                 (map (named schema store.tables) xs)) (sym same);

@@ -1,19 +1,23 @@
-use Rattle.std.proofs.Common.{◌≡◌, false, map, take}
+use Rattle.std.proofs.Common.{◌≡◌, ◌-◌, false, Some, length, map, take}
 use Rattle.std.specs.List.{list_any}
+use Rattle.mm_indexed.specs.Kept.{StoredRows}
 use Rattle.mm_partition.specs.Places.{slot_at}
 use Rattle.mm_query.specs.Atoms.{is_past_range}
-use Rattle.mm_indexed.specs.Kept.{StoredRows}
+use Rattle.mm_row_order.specs.Refs.{row_at}
+use Rattle.mm_store.specs.Edits.{old_slot}
+use Rattle.mm_store.specs.Staging.{CanStage}
 use Rattle.mm_store.specs.Tables.{IsAt}
-use Rattle.mm_txn.specs.RowEdits.{swap_of}
+use Rattle.mm_txn.specs.RowEdits.{Stages, updates_of}
 use Rattle.mm_txn.proofs.NewValues.{values_of}
 use Rattle.mm_txn.proofs.row_edits.swaps.Given as goal
 
--- the edits of the references so far were made, and no value of theirs is past the range
+-- the rows for the references so far were staged, no value of theirs is past the range, and there is capacity for those to come
 abbrev pub invariant-loop-at : goal.invariant-loop-at
 invariant-loop-at l = record {
-  same : l.view.store ≡ l.fn.view.store;
-  made : (stored : StoredRows) → IsAt l.fn.view.store l.table stored
-      → l.edits ≡ map (swap_of (slot_at stored.places) l.assignments) (take l.at-index l.refs);
-  in_range : (stored : StoredRows) → IsAt l.fn.view.store l.table stored
+  made : (stored : StoredRows) → IsAt l.fn.store l.table stored
+      → Stages l.table l.fn.store l.store l.edits (updates_of l.assignments (map (row_at (slot_at stored.places)) (take l.at-index l.refs)));
+  names : map old_slot l.edits ≡ map Some (take l.at-index l.refs);
+  in_range : (stored : StoredRows) → IsAt l.fn.store l.table stored
       → list_any is_past_range (values_of (slot_at stored.places) l.assignments (take l.at-index l.refs)) ≡ false;
+  room : CanStage (length l.refs - l.at-index) l.table l.store;
 }
