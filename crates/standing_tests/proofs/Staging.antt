@@ -26,7 +26,7 @@ use Rattle.store_tests.specs.RowEdits.{IsLiveAt}
 use Rattle.store_tests.specs.SampleStore.{ArePlain, plain_types}
 use Rattle.store_tests.proofs.PlainStores.{at_place, plain_at}
 use Rattle.store_tests.proofs.StagedRows.{plain_staged, size_staged}
-use Rattle.standing_tests.specs.Cases.{AreFitAt, IsCase, IsHiddenNumber, IsMark}
+use Rattle.standing_tests.specs.Cases.{AreFitAt, IsCase, IsHiddenNumber, IsMark, IsMarked}
 use Rattle.standing_tests.proofs.CaseSteps.{case_still, mark_still}
 use Rattle.standing_tests.proofs.TableRows.{rows_kept}
 
@@ -44,13 +44,21 @@ module _ (table : ℕ) (old new : Tables) (within : table < length old.tables) (
   -- A case is one still, ..
   pub case_staged : (lists : Lists) → IsCase old lists → IsCase new lists
   case_staged lists was =
-      case_still old new lists lists refl was (size_staged table old new within staged) (plain_staged table old new within staged was.plain) (before_at old)
-      rows_staged was.typed was.fits was.ready
+      case_still old new lists lists refl was (size_staged table old new within staged) (plain_staged table old new within staged was.plain)
+      (before_at old) rows_staged was.typed was.fits was.ready
 
   -- .. and so is a mark.
   pub mark_staged : (lists : Lists) (commands changes : ℕ) → IsMark old lists commands changes → IsMark new lists commands changes
   mark_staged lists commands changes was =
       mark_still old new lists lists refl commands changes (staged.marks commands was.commands_there.within) was.changes_there (λ list row. refl) was
+
+  -- So it is with both marks of a case.
+  pub marked_staged : (lists : Lists) (commands changes : ℕ) → IsMarked old lists commands changes → IsMarked new lists commands changes
+  marked_staged lists commands changes marked = record {
+    case = case_staged lists marked.case;
+    start = mark_staged lists 0 0 marked.start;
+    mark = mark_staged lists commands changes marked.mark;
+  }
 
   -- The table as it is now was another one before.
   was : (now : StoredRows) → IsAt new table now → (stored : StoredRows) × IsAt old table stored × KeepsSlots stored now
@@ -63,9 +71,10 @@ module _ (table : ℕ) (old new : Tables) (within : table < length old.tables) (
       )
 
   -- A row that was staged is hidden.
-  pub hidden_staged : (at : RowRef) (row : List Value) → HasTypes plain_types row
-      → ((stored now : StoredRows) → IsAt old table stored → IsAt new table now → IsStaged at row stored now) → IsHiddenNumber new table at
-  hidden_staged at row typed each now here =
+  pub hidden_staged : (at : RowRef) (row : List Value)
+      → ((stored now : StoredRows) → IsAt old table stored → IsAt new table now → IsStaged at row stored now) → HasTypes plain_types row
+      → IsHiddenNumber new table at
+  hidden_staged at row each typed now here =
       let before = was now here in (
         row,
         ap (λ (s : Slots). s at) (each before.0 now before.1 here).slots ∙ put_here at at (Hidden row) (slot_at before.0.places) refl,

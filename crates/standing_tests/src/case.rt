@@ -5,8 +5,8 @@ ghost use Rattle.standing_tests.specs.Cases.{is_unshifted};
 
 use crate::samples::are_shown;
 use crate::steps::{
-    add, are_there, changes_of, go_back, is_first_empty, is_unshifted, prepare_and_drop, remove,
-    renumber, settle, tables, watch,
+    add, are_there, changes_of_addition, go_back, is_first_empty, is_unshifted, prepare_and_drop,
+    remove, renumber, settle, tables, watch,
 };
 use mm_delta::Signed;
 use mm_plan::run_query;
@@ -275,7 +275,15 @@ impl Case {
         if table >= 2 {
             return Err(Refusal::NoSuchTable);
         }
-        let changes = changes_of(alloc, &mut self.store, query, tables, table, key, number)?;
+        let changes = changes_of_addition(
+            alloc,
+            &mut self.store,
+            query,
+            tables,
+            table,
+            key,
+            number,
+        )?;
         Ok(changes)
     }
 

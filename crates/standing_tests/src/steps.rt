@@ -3,11 +3,9 @@ ghost use Rattle.std.specs.Prelude.{◌≡◌, ℕ, ◌<◌, ◌≤◌, All, Lis
 ghost use Rattle.mm_multiset.specs.Counts.{Counts};
 ghost use Rattle.mm_delta.specs.Edited.{before_at};
 ghost use Rattle.mm_query.specs.Queries.{bag_of};
-ghost use Rattle.mm_indexed.specs.Kept.{StoredRows};
-ghost use Rattle.mm_partition.specs.Places.{IsLive};
 ghost use Rattle.mm_standing.specs.State.{AreServed, FitNow, FitPrepared, count_at, count_now};
 ghost use Rattle.mm_store.specs.Staging.{HasStaged};
-ghost use Rattle.mm_store.specs.Tables.{IsAt, rows_at};
+ghost use Rattle.mm_store.specs.Tables.{rows_at};
 ghost use Rattle.standing_tests.specs.Cases.{AreFitAt, HaveNumbers, IsCase, IsHiddenNumber, IsMark, IsWhole, adds_none, is_unshifted, rows_edited};
 ghost use Rattle.mm_value.specs.declared.values.Value.{Value as Val};
 ghost use Rattle.store_tests.specs.RowEdits.{IsLiveAt};
@@ -308,7 +306,7 @@ fn prepare(
 }
 
 /// By how much the count of each row of a query changes with the addition of a row to a table, which is not made.
-pub fn changes_of(
+pub fn changes_of_addition(
     alloc: Global,
     store: &mut Store,
     query: &BoundQuery,
@@ -326,12 +324,26 @@ pub fn changes_of(
     ensures staged { HasStaged table store.old store.new }
 {
     let edit = addition(alloc, store, table, key, number)?;
+    changes_of(alloc, store, query, tables, table, &[edit])
+}
+
+/// By how much the count of each row of a query changes with edits of a table.
+fn changes_of(
+    alloc: Global,
+    store: &Store,
+    query: &BoundQuery,
+    tables: &[usize],
+    table: usize,
+    edits: &[Edit],
+) -> Result<Vec<Signed>, AllocError>
+    requires fit { AreFitAt store.now table edits.now }
+    requires there { All (λ place. place < length store.now.tables) tables.now }
+    requires few { length tables.now ≤ 4 }
+    requires whole { length tables.now ≡ length query.now.from }
+    requires unshifted { is_unshifted query.now ≡ true }
+{
     let mut view = store.view();
-    let edits = [edit];
-    let changes = [TableChange {
-        table,
-        edits: &edits,
-    }];
+    let changes = [TableChange { table, edits }];
     delta(alloc, &mut view, query, tables, &changes)
 }
 

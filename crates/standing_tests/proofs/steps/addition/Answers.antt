@@ -6,4 +6,4 @@ pub returns-clause-fit : goal.returns-clause-fit
 returns-clause-fit c =
     insertion_fit c.stage.new.store c.args.table
     (plain_staged c.args.table c.args.store.now c.stage.new.store c.requires.there c.stage.ensures.staged c.requires.plain)
-    c.in_ok-stage.at c.in_ok-stage.ensures.hidden
+    c.in_ok-stage.field-0 c.in_ok-stage.ensures.hidden
