@@ -96,8 +96,9 @@ typedef struct mmdb_column {
 
 /*
  * The status that a call returns. The numbers from 10 to 90 are the refusals of the language, "error 40 duplicate key" and so on. After
- * such a status nothing has changed, except that mmdb_execute, mmdb_run, mmdb_query, mmdb_run_many and mmdb_explain keep the refusal as
- * the reply. All other calls leave the reply unchanged, whether they fail or not. mmdb_run_many says which of its runs stay done.
+ * such a status nothing has changed, except that mmdb_execute, mmdb_load, mmdb_run, mmdb_query, mmdb_run_many and mmdb_explain keep the
+ * refusal as the reply. All other calls leave the reply unchanged, whether they fail or not. mmdb_load and mmdb_run_many say what stays
+ * done.
  */
 enum {
     MMDB_NOTHING = 0,                   /* the line was empty or a comment: there is no reply */
@@ -155,6 +156,17 @@ void mmdb_close(mmdb *db);
  * MMDB_MISUSE if the handle is closed.
  */
 uint8_t mmdb_execute(mmdb *db, const uint8_t *line, size_t length);
+
+/*
+ * Executes the lines of a script one after another, each as mmdb_execute does. A line ends with a line feed, which the last line may lack,
+ * and a carriage return before it is not part of the line. Stops at the first line that is refused. Writes the number of lines that were
+ * executed before it to *lines, empty lines and comments included, so the refused line has the number *lines + 1. Returns MMDB_DONE if no
+ * line was refused, and otherwise the status of the refused line, which changed nothing. The lines before it stay done, so a program that
+ * wants all or none begins a transaction first. The reply is that of the last line that was executed; without a line it is unchanged. The
+ * difference of mmdb_total_changes before and after is the number of rows that all lines changed. Returns MMDB_MISUSE, and writes 0 to
+ * *lines, if the handle is closed.
+ */
+uint8_t mmdb_load(mmdb *db, const uint8_t *script, size_t length, size_t *lines);
 
 /*
  * Prepares a statement: a line in which a ? may replace a literal. Each run passes a value for each ?, from left to right. A line without
@@ -295,6 +307,46 @@ bool mmdb_in_transaction(mmdb *db);
  * MMDB_SYNTAX if the bytes are not a name, MMDB_NO_TRANSACTION, or MMDB_NO_SUCH_SAVEPOINT. Returns MMDB_MISUSE if the handle is closed.
  */
 uint8_t mmdb_release(mmdb *db, const uint8_t *name, size_t length);
+
+/* The least room for a piece of a dump, in bytes: a line of 4,096 bytes and its line feed. */
+enum { MMDB_DUMP_ROOM = 4097 };
+
+/* A place in a dump. Its fields belong to mmdb. */
+typedef struct mmdb_dump_place {
+    size_t part;
+    size_t row;
+    uint64_t version;
+} mmdb_dump_place;
+
+/* The place where a dump starts. */
+#ifdef __cplusplus
+#define MMDB_DUMP_START mmdb_dump_place()
+#else
+#define MMDB_DUMP_START {0, 0, 0}
+#endif
+
+/*
+ * Copies the next piece of the dump into bytes, writes its length to *length, and advances *place past it. The dump is a script that
+ * rebuilds the database: its tables, rows, indexes and standing queries. A program initializes *place with MMDB_DUMP_START and calls
+ * mmdb_dump until the length is 0. The pieces, one after another, are the script. A piece is at least one whole line, with its line feed,
+ * and as many as fit into room bytes. The reply stays as it is. If a transaction is open, its changes are in the dump. Questions may be
+ * asked between two calls. Any other command that succeeds ends the dump, and so does mmdb_load if it executes a line. A place is valid
+ * for its own handle until that is closed; any other use is not detected, and the pieces are then no script.
+ * Returns MMDB_DONE; MMDB_MEMORY; or MMDB_MISUSE if room is less than MMDB_DUMP_ROOM, a command may have changed the database since the
+ * dump started, or the handle is closed. If it fails, bytes, *place and *length are unchanged. So after MMDB_MEMORY the dump can go on.
+ */
+uint8_t mmdb_dump(mmdb *db, mmdb_dump_place *place, uint8_t *bytes, size_t room, size_t *length);
+
+/*
+ * Copies the line that defines a table, an index or a standing query into bytes: the TABLE, INDEX or WATCH that a dump has for it, without
+ * a line feed, as mmdb_execute takes it. A table and an index may have the same name, and a standing query too, so kind says which one is
+ * meant: MMDB_KIND_TABLE, MMDB_KIND_INDEX or MMDB_KIND_WATCH. Copies at most room bytes and no terminating 0. Writes the full length to
+ * *needed, so a call with room 0 returns the room that a second call needs. No such line is longer than 4,096 bytes.
+ * Returns MMDB_DONE; MMDB_SYNTAX if the bytes of name are not a name; MMDB_NO_SUCH_TABLE, MMDB_NO_SUCH_INDEX or
+ * MMDB_NO_SUCH_STANDING_QUERY if nothing of this kind has the name; MMDB_MEMORY; or MMDB_MISUSE if kind is another number or the handle is
+ * closed. If it fails, bytes and *needed are unchanged.
+ */
+uint8_t mmdb_definition(mmdb *db, uint8_t kind, const uint8_t *name, size_t length, uint8_t *bytes, size_t room, size_t *needed);
 
 #ifdef __cplusplus
 }

@@ -1,4 +1,4 @@
--- The order by key, and the places of references in it.
+-- The order by key, and the positions of references in it.
 use Rattle.std.proofs.Common.{◌≡◌, ◌≢◌, ◌<◌, All, List, ℕ, get_or, arith}
 use Rattle.std.specs.Cmp.{IsTotalOrder, then_total, on_total, nat_cmp_total}
 use Rattle.std.proofs.lemmas.Map.Lookups.{exact_unsigned}
@@ -14,7 +14,7 @@ use Rattle.bench_structures.specs.Keys.{key_in, by_key}
 by_key_total : (keys : List ℕ) → IsTotalOrder (by_key keys)
 by_key_total keys = then_total (on_total (key_in keys) nat_cmp_total) (on_total (λ (r : RowRef). r.slot) nat_cmp_total)
 
--- the places of a reference rise
+-- the positions of a reference are non-decreasing
 pub monotone_by_key : (keys : List ℕ) (at : RowRef) → IsMonotone (λ _. Unit {0}) (by_key keys) (λ _. Unit {0} × Unit {0}) (λ a. by_key keys a at)
 monotone_by_key keys at = IsMonotone-at (λ _. Unit {0}) (by_key keys) (IsTotalOrderOn-from_total _ _ (by_key_total keys)) at tt
 
@@ -23,7 +23,7 @@ second_equal Less p equal = absurd (cc)
 second_equal Equal p equal = equal
 second_equal Greater p equal = absurd (cc)
 
--- a reference lies apart from those of the slots before
+-- a reference differs from those of the slots before
 pub apart_from_earlier : (keys : List ℕ) (refs : List RowRef) (added : RowRef) → All (λ a. a.slot < added.slot) refs
     → All (λ a. by_key keys a added ≢ Equal) refs
 apart_from_earlier keys refs added earlier k d below equal =

@@ -1,4 +1,4 @@
-//! The bag of references by hash.
+//! Measures the hash table of references.
 ghost use Rattle.std.specs.Prelude.{◌≡◌};
 
 use crate::entries::{Entry, after, key_of};
@@ -8,19 +8,19 @@ use mm_value::RowRef;
 use std::alloc::{AllocError, Global};
 use std::time::Instant;
 
-/// How many hashes the entries of the second bag share.
+/// The number of hashes that the entries of the second table share.
 const FEW: u32 = 25;
 
-/// The hashes of the entries of a bag.
+/// The hashes of the entries of a table.
 #[derive(Clone, Copy, Drop)]
 enum Hashes {
     /// A hash for each entry.
     Distinct,
-    /// As many entries of one hash as of another, of few hashes.
+    /// Few hashes, each for the same number of entries.
     Few,
 }
 
-/// Fills, asks and empties a bag of `n` entries, and fills and empties one of few hashes.
+/// Fills, searches and empties a table of `n` entries, and fills and empties one of few hashes.
 pub(crate) fn measure(rt: &HostRuntime, n: u32) -> anyhow::Result<()> {
     measure_distinct(rt, n)?;
     measure_few(rt, n)
@@ -43,7 +43,7 @@ fn measure_few(rt: &HostRuntime, n: u32) -> anyhow::Result<()> {
     time_empty(rt, "HashRefs_of_25", &mut bag, sought.as_slice())
 }
 
-/// The entry of a number.
+/// Returns the entry of a number.
 fn entry_of(number: u32, hashes: Hashes) -> Entry
     ensures { result.reference.slot ≡ number }
 {
@@ -56,7 +56,7 @@ fn entry_of(number: u32, hashes: Hashes) -> Entry
     }
 }
 
-/// The entries of the numbers below `n`, shuffled.
+/// Returns the entries of the numbers below `n`, shuffled.
 fn shuffled(alloc: Global, n: u32, hashes: Hashes) -> Result<Vec<Entry>, AllocError> {
     let mut entries = Vec::with_capacity(alloc, n as usize)?;
     let mut number = 0;

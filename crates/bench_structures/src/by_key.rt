@@ -10,7 +10,7 @@ use mm_order::RefOrder;
 use mm_value::RowRef;
 use std::cmp::Ordering;
 
-/// References by the keys of their slots, those of one key by slot.
+/// References by the keys of their slots, and those of equal keys by slot.
 #[derive(Drop)]
 pub(crate) struct ByKey<'a> {
     pub(crate) keys: &'a [u64],

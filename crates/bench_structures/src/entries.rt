@@ -1,11 +1,11 @@
-//! What is put in: number n has a key that looks random and the reference of slot n.
+//! The inserted entries: number n has a pseudorandom key and the reference of slot n.
 ghost use Rattle.std.specs.Prelude.{◌<◌};
 
 use mm_value::RowRef;
 use std::alloc::{AllocError, Global};
 
-/// The factor and the addend of a shuffle that meets each number below 10^k or 2^k once (Hull and
-/// Dobell, SIAM Review 1962: 4 and 5 divide the factor less 1, and neither 2 nor 5 the addend).
+/// The factor and the addend of a shuffle that visits each number below 10^k or 2^k once (Hull and Dobell, SIAM Review 1962: 4 and 5 divide
+/// the factor minus 1, and neither 2 nor 5 divides the addend).
 const FACTOR: usize = 1_664_521;
 
 const ADDEND: usize = 1_013_904_223;
@@ -17,7 +17,7 @@ pub(crate) struct Entry {
     pub(crate) reference: RowRef,
 }
 
-/// The key of a number (the finalizer of SplitMix64).
+/// Returns the key of a number (the finalizer of SplitMix64).
 pub(crate) fn key_of(n: u32) -> u64 {
     let a = u64::from(n).wrapping_add(0x9E37_79B9_7F4A_7C15);
     let b = (a ^ (a >> 30)).wrapping_mul(0xBF58_476D_1CE4_E5B9);
@@ -25,7 +25,7 @@ pub(crate) fn key_of(n: u32) -> u64 {
     c ^ (c >> 31)
 }
 
-/// The number below `n` that follows in the shuffle.
+/// Returns the number below `n` that follows in the shuffle.
 pub(crate) fn after(number: usize, n: usize) -> usize
     requires { 0 < n }
     ensures { result < n }
@@ -33,7 +33,7 @@ pub(crate) fn after(number: usize, n: usize) -> usize
     number.wrapping_mul(FACTOR).wrapping_add(ADDEND) % n
 }
 
-/// The entries of the numbers below `n`, shuffled.
+/// Returns the entries of the numbers below `n`, shuffled.
 pub(crate) fn shuffled(alloc: Global, n: u32) -> Result<Vec<Entry>, AllocError> {
     let mut entries = Vec::with_capacity(alloc, n as usize)?;
     let mut number = 0;

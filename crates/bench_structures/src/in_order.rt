@@ -1,4 +1,4 @@
-//! The ordered lists of references.
+//! Measures the ordered lists of references.
 ghost use Rattle.std.specs.Prelude.{◌≡◌, [], OnOk};
 ghost use Rattle.mm_order.specs.Order.{IsOrdered};
 ghost use Rattle.bench_structures.specs.Keys.{by_key};
@@ -12,10 +12,10 @@ use std::alloc::{AllocError, Global};
 use std::time::Instant;
 use ttree::TTree;
 
-/// The most references that a tree gives one after the other.
+/// The most references that a tree iterates over.
 const MAX_WALKED: usize = 1_048_576;
 
-/// Fills a T-tree with `n` references, asks for each, walks them and takes them out.
+/// Fills a T-tree with `n` references, searches each, walks along them and removes them.
 pub(crate) fn measure_tree(rt: &HostRuntime, n: u32) -> anyhow::Result<()> {
     let alloc = rt.alloc();
     measure_ascending(rt, "TTree", &mut TTree::new(alloc), n)?;
@@ -27,7 +27,7 @@ pub(crate) fn measure_tree(rt: &HostRuntime, n: u32) -> anyhow::Result<()> {
     time_tree(rt, &mut TTree::new(alloc), &order, n, sought.as_slice())
 }
 
-/// Fills a sorted vector with `n` references, asks for each and takes them out.
+/// Fills a sorted vector with `n` references, searches each and removes them.
 pub(crate) fn measure_vector(rt: &HostRuntime, n: u32) -> anyhow::Result<()> {
     let alloc = rt.alloc();
     measure_ascending(rt, "SortedRefs", &mut SortedRefs::new(alloc), n)?;
@@ -160,7 +160,7 @@ fn time_empty<L: OrderedRefs>(
     Ok(())
 }
 
-/// The sum of the slots of a tree's references, which are asked for in order; 0 where a tree has too many.
+/// Returns the sum of the slots of a tree's references, read in order, or 0 if the tree has too many.
 fn walk(tree: &TTree) -> usize {
     if tree.len() > MAX_WALKED {
         return 0;
@@ -172,7 +172,7 @@ fn walk(tree: &TTree) -> usize {
     sum
 }
 
-/// The numbers below `n`.
+/// Returns the numbers below `n`.
 fn ascending_below(alloc: Global, n: u32) -> Result<Vec<u64>, AllocError> {
     let mut keys = Vec::with_capacity(alloc, n as usize)?;
     for number in 0..n {

@@ -1,4 +1,4 @@
-//! The rows by reference.
+//! Measures the rows by reference.
 ghost use Rattle.std.specs.Prelude.{◌≡◌, [], IfOk, All};
 ghost use Rattle.mm_partition.specs.Places.{IsLive};
 ghost use Rattle.bench_structures.specs.Apart.{AreApart};
@@ -10,7 +10,7 @@ use mm_value::RowRef;
 use std::alloc::{AllocError, Global};
 use std::time::Instant;
 
-/// Fills partitions with `n` rows of no values, asks for each in shuffled order, and takes them out, the last one first.
+/// Fills partitions with `n` rows without values, reads each in shuffled order, and removes them, the last one first.
 pub(crate) fn measure(rt: &HostRuntime, n: usize) -> anyhow::Result<()> {
     let mut rows = Partitions::new(rt.alloc(), &[])?;
     let refs = time_fill(rt, &mut rows, n)?;

@@ -1,4 +1,4 @@
-//! The search for inequalities that show that a row cannot change what a query gives.
+//! Measures the search for inequalities that prove that a row cannot change a query's result.
 use crate::report::{Pass, print};
 use mm_query::{Atom, BoundQuery, Comparison, FieldPlace, FromItem, Operand, ShortList};
 use mm_relevance::irrelevant;
@@ -7,13 +7,13 @@ use mm_value::{Few, Row, Value};
 use std::alloc::Global;
 use std::time::Instant;
 
-/// How often each row is asked about.
+/// The number of searches for each row.
 const TIMES: usize = 100_000;
 
-/// How many columns a ring of equalities has.
+/// The number of columns in a ring of equalities.
 const RING: usize = 16;
 
-/// Asks about a row that may fit and one that cannot, under two atoms and under a ring of sixteen equalities.
+/// Searches for a row that may match and for one that cannot, with two atoms and with a ring of sixteen equalities.
 pub(crate) fn measure(rt: &HostRuntime) -> anyhow::Result<()> {
     time_two_atoms(rt, "relevant", 1)?;
     time_two_atoms(rt, "irrelevant", 7)?;
@@ -51,7 +51,7 @@ fn time(
     Ok(())
 }
 
-/// How many edges the cycle of a row has.
+/// Returns the number of edges of the cycle of a row.
 fn edges_for(alloc: Global, query: &BoundQuery, row: &Row) -> anyhow::Result<usize> {
     match irrelevant(alloc, query, 0, row)? {
         Some(cycle) => Ok(cycle.edges.len()),
@@ -59,7 +59,7 @@ fn edges_for(alloc: Global, query: &BoundQuery, row: &Row) -> anyhow::Result<usi
     }
 }
 
-/// `a.c0 < b.c0 AND b.c0 < 3`: an atom between two rows, and a range of the second that is narrow.
+/// Returns `a.c0 < b.c0 AND b.c0 < 3`: an atom between two rows, and a narrow range of the second.
 fn narrow(alloc: Global) -> anyhow::Result<BoundQuery> {
     let mut atoms = Vec::with_capacity(alloc, 2)?;
     atoms.push(Atom {
@@ -75,7 +75,7 @@ fn narrow(alloc: Global) -> anyhow::Result<BoundQuery> {
     query(alloc, atoms)
 }
 
-/// `b.c0 = b.c1 + 1 AND b.c1 = b.c2 + 1 AND .. AND b.c15 = b.c0 + last`. It can hold where all that is added comes to 0.
+/// Returns `b.c0 = b.c1 + 1 AND b.c1 = b.c2 + 1 AND .. AND b.c15 = b.c0 + last`. It can hold only if the numbers add up to 0.
 fn ring(alloc: Global, last: i64) -> anyhow::Result<BoundQuery> {
     let mut atoms = Vec::with_capacity(alloc, RING)?;
     for column in 0..RING {
@@ -93,7 +93,7 @@ fn field(place: usize, column: usize) -> FieldPlace {
     FieldPlace { place, column }
 }
 
-/// A query over two tables.
+/// Returns a query over two tables.
 fn query(alloc: Global, atoms: Vec<Atom<FieldPlace>>) -> anyhow::Result<BoundQuery> {
     let Some(name) = Name::new(b"t") else {
         return Err(anyhow::Error::msg("no name"));
@@ -116,7 +116,7 @@ fn query(alloc: Global, atoms: Vec<Atom<FieldPlace>>) -> anyhow::Result<BoundQue
     })
 }
 
-/// A row of one number.
+/// Returns a row of one number.
 fn row_of(alloc: Global, number: i64) -> anyhow::Result<Row> {
     let mut values = Vec::with_capacity(alloc, 1)?;
     values.push(Value::Int(number))?;

@@ -1,8 +1,7 @@
-//! Times inserts, look-ups and removes of the structures that hold references, or the search that shows rows to be
-//! irrelevant.
+//! Times inserts, look-ups and removals of the structures that contain references, or the search that proves rows irrelevant.
 //!
-//! It does the one where it is given a word, and the other where this is `irrelevance`, and prints a line for each structure and
-//! number of entries, or for each search. With no word it does nothing, since no two runs print the same times.
+//! With the word `irrelevance` as its argument, times the search, and with any other word, the structures. Prints a line for each structure
+//! and number of entries, or for each search. Without a word it does nothing, since no two runs print the same times.
 #![tactic(auto)]
 
 mod by_hash;
@@ -15,8 +14,7 @@ mod report;
 
 use std::env;
 
-/// The most references of a vector that is filled and emptied in random order, since each edit
-/// moves half of it.
+/// The most references of a vector that is filled and emptied in random order, since each edit moves half of it.
 const MOST_IN_A_VECTOR: u32 = 100_000;
 
 fn main(rt: HostRuntime) -> anyhow::Result<()> {

@@ -20,8 +20,7 @@ impl<'a> Pass<'a> {
     }
 }
 
-/// Prints the structure, the pass, the number of entries, how many nanoseconds the pass took, and the sum of what it
-/// found.
+/// Prints the structure, the pass, the number of entries, the nanoseconds of the pass, and the sum of the values found.
 pub(crate) fn print(rt: &HostRuntime, pass: &Pass, spent: Duration, sum: usize) -> io::Result<()> {
     let structure = pass.structure;
     let name = pass.name;

@@ -1,4 +1,4 @@
-//! Growths of memory that are refused to deletes that cascade.
+//! Failed allocations of deletes that cascade.
 use crate::assertions::assert_that;
 use crate::samples::{command, database, give};
 use crate::steps::{end_refused, give_each, look, roll_back, tell_refused};
@@ -7,7 +7,7 @@ use mm_value::Refusal;
 use std::process::Abort;
 use std::test::Fail;
 
-/// Departments with their employees and what these are paid, for a department that may be another one. One of the two columns that
+/// Departments with their employees, and salaries of these, each for a department that may be another one. One of the two columns that
 /// cascade has an index.
 const FILLED: [&str; 8] = [
     "TABLE dept (id INT KEY)",
@@ -20,7 +20,7 @@ const FILLED: [&str; 8] = [
     "INSERT pay (100, 10, 2), (101, 11, 2), (102, 12, 2), (103, 12, 1)",
 ];
 
-/// What tells of all rows, along the index too.
+/// Questions that show all rows, also along the index.
 const QUESTIONS: [&str; 4] = [
     "SELECT e.id FROM emp e",
     "SELECT e.id FROM emp e WHERE e.d = 1",
@@ -57,7 +57,7 @@ fn rolled_back_cascade_growths(rt: HostRuntime) -> Result<(), Fail> {
     )
 }
 
-/// Gives a DELETE that is refused, by the rows or for want of memory, and looks at all rows.
+/// Makes a DELETE that is refused, by the rows or because an allocation fails, and checks all rows.
 fn hinder(rt: &(impl Abort + AllocGlobal + Print), database: &mut Db) -> Result<(), Fail> {
     let outcome = match command(rt.alloc(), "DELETE dept WHERE id = 2") {
         Ok(given) => give(rt.alloc(), database, given),

@@ -1,8 +1,8 @@
-//! Calls whose growths of memory are refused, as `tests/refused_growths.py` does: in each run of a test one growth, or
-//! all from one to the line that tells of a refused call. Then the call has changed nothing, and is given again.
+//! Calls whose allocations fail, as `tests/refused_growths.py` lets them: in each run of a test one allocation, or all from one to the line
+//! that reports a failed call. Then the call has changed nothing, and is repeated.
 //!
-//! So whatever else may be refused before that line ends the test, as passed. `SCAN`, `DROP` and `UNWATCH` ask for no memory, nor
-//! do `BEGIN`, `COMMIT`, `ROLLBACK` and `ROLLBACK TO`. Tests of savepoints stand in `savepoints.rt`.
+//! Any other allocation that fails before that line ends the test, as passed. `SCAN`, `DROP` and `UNWATCH` allocate nothing, nor do
+//! `BEGIN`, `COMMIT`, `ROLLBACK` and `ROLLBACK TO`. Tests of savepoints are in `savepoints.rt`.
 use crate::assertions::{assert_same, assert_that};
 use crate::samples::{
     bound_query, catalog, change, command, index, inserted, reading, selected, sizes_of_bound,
@@ -20,7 +20,7 @@ use std::alloc::{AllocError, Global};
 use std::process::Abort;
 use std::test::Fail;
 
-/// Tables of which the first is referred to.
+/// Tables, the first of which is referred to.
 const TABLES: [&str; 5] = [
     "TABLE a (id INT KEY)",
     "TABLE b (id INT KEY, r INT REF a, s TEXT)",
@@ -47,14 +47,14 @@ pub const FILLED: [&str; 9] = [
     "WATCH seen SELECT DISTINCT e.d FROM log l, emp e WHERE l.e = e.id",
 ];
 
-/// What there is in the log, what an index finds there, and what a standing query shows of it.
+/// Questions that show the log, what an index finds there, and a standing query over it.
 const OF_LOG: [&str; 3] = [
     "SELECT l.at, l.e FROM log l",
     "SELECT l.at FROM log l WHERE l.e = 10",
     "SHOW seen",
 ];
 
-/// What an index finds of the employees, and what a standing query shows of them.
+/// Questions that show what an index finds among the employees, and a standing query over them.
 pub const OF_EMP: [&str; 2] = ["SELECT e.id, e.name FROM emp e WHERE e.d = 2", "SHOW names"];
 
 const EMPTY_LOG: &str = "rows 0\nrows 0\nrows 0\n";
@@ -67,8 +67,8 @@ pub const FIRST_EMP: &str = "(11, 'bob')\nrows 1\n('sales', 'ann')\n('stock', 'b
 pub const MOVED_EMP: &str =
     "(10, 'ann of the second floor')\n(11, 'bob')\nrows 2\n('stock', 'ann of the second floor')\n('stock', 'bob')\nrows 2\n";
 
-/// Adds a table, again where memory is refused, and looks at its place. Whether that came so far: not where memory was refused in front
-/// of the call.
+/// Adds a table, again if an allocation fails, and checks its place. Returns whether the call was reached: false if an earlier allocation
+/// failed.
 fn add_table_again(
     rt: &(impl Abort + AllocGlobal + Print),
     catalog: &mut Catalog,
@@ -85,7 +85,7 @@ fn add_table_again(
     }
 }
 
-/// Adds the table of a line again where memory was refused to it, and looks at its place.
+/// Adds the table of a line again if an allocation failed, and checks its place.
 fn expect_table(
     rt: &(impl Abort + AllocGlobal + Print),
     catalog: &mut Catalog,
@@ -104,7 +104,7 @@ fn expect_table(
     Ok(true)
 }
 
-/// Adds the tables, each again where memory is refused.
+/// Adds the tables, each again if an allocation fails.
 fn add_tables_again(
     rt: &(impl Abort + AllocGlobal + Print),
     catalog: &mut Catalog,
@@ -123,7 +123,7 @@ fn catalog_table_growths(rt: HostRuntime) -> Result<(), Fail> {
     add_tables_again(&rt, &mut catalog)
 }
 
-/// Adds an index of a name on the keys of the table a.
+/// Adds an index with a name on the keys of the table a.
 fn add_index(catalog: &mut Catalog, name: &Name) -> Result<(), Refusal> {
     match index(name) {
         Some(index) => catalog.add_index(index),
@@ -131,7 +131,7 @@ fn add_index(catalog: &mut Catalog, name: &Name) -> Result<(), Refusal> {
     }
 }
 
-/// Adds an index, again where memory is refused, and looks at the table that has it.
+/// Adds an index, again if an allocation fails, and checks the table that has it.
 fn add_index_again(
     rt: &(impl Abort + Print),
     catalog: &mut Catalog,
@@ -146,7 +146,7 @@ fn add_index_again(
     Ok(())
 }
 
-/// Adds an index of each name, again where memory is refused.
+/// Adds an index with each name, again if an allocation fails.
 fn add_indexes_again(rt: &(impl Abort + Print), catalog: &mut Catalog) -> Result<(), Fail> {
     for bytes in NAMES {
         let name = Name::new(bytes).ok_or(NO_NAME)?;
@@ -169,8 +169,8 @@ fn add_standing(alloc: Global, catalog: &mut Catalog, name: &Name) -> Result<(),
     catalog.add_standing(name.copy(), tables)
 }
 
-/// Adds a standing query over a table, again where memory is refused, and looks at its place. Whether that came so far: not where
-/// memory was refused in front of the call.
+/// Adds a standing query over a table, again if an allocation fails, and checks its place. Returns whether the call was reached: false if
+/// an earlier allocation failed.
 fn add_standing_again(
     rt: &(impl Abort + AllocGlobal + Print),
     catalog: &mut Catalog,
@@ -190,7 +190,7 @@ fn add_standing_again(
     Ok(true)
 }
 
-/// Adds a standing query of each name, again where memory is refused.
+/// Adds a standing query with each name, again if an allocation fails.
 fn add_each_standing_again(
     rt: &(impl Abort + AllocGlobal + Print),
     catalog: &mut Catalog,
@@ -212,7 +212,7 @@ fn catalog_standing_growths(rt: HostRuntime) -> Result<(), Fail> {
     }
 }
 
-/// A query of all clauses but DISTINCT, with more fields, tests and positions than a bound query has without a block.
+/// A query with all clauses except DISTINCT, with more fields, tests and positions than a bound query stores inline.
 const QUERY: &str =
     "SELECT b.s, a.id, b.id, b.r, a.id FROM a a, b b WHERE a.id = b.r AND b.s = 'of eighteen bytes.' AND b.id > 0 ORDER 2, 1, 3, 4, 5";
 
@@ -248,7 +248,7 @@ fn assert_bound(rt: &impl Abort, bound: &BoundQuery) {
     assert_same(rt, sizes, [2, 3]);
 }
 
-/// Binds the query of all clauses but DISTINCT, again where memory is refused, and looks at it.
+/// Binds the query with all clauses except DISTINCT, again if an allocation fails, and checks it.
 fn bind_the_query_again(
     rt: &(impl Abort + AllocGlobal + Print),
     catalog: &Catalog,
@@ -278,8 +278,8 @@ fn bind_query_growths(rt: HostRuntime) -> Result<(), Fail> {
     }
 }
 
-/// Binds a change, again where memory is refused, and looks at the sizes of its lists. Whether that came so far: not where memory was
-/// refused in front of the call.
+/// Binds a change, again if an allocation fails, and checks the lengths of its lists. Returns whether the call was reached: false if an
+/// earlier allocation failed.
 fn bind_again(
     rt: &(impl Abort + AllocGlobal + Print),
     catalog: &Catalog,
@@ -302,8 +302,8 @@ fn bind_again(
     Ok(true)
 }
 
-/// Changes, with the place of the table that each is bound to, and the sizes of its lists: more assignments and tests than a bound
-/// change has without a block.
+/// Changes, with the place of the table that each is bound to, and the lengths of its lists: more assignments and tests than a bound change
+/// stores inline.
 const CHANGES: [(&str, [usize; 3]); 3] = [
     (
         "UPDATE b SET s = 'of eighteen bytes.', r = r + 1, id = id + 1 WHERE id > 5 AND id < 9 AND r > 0",
@@ -316,7 +316,7 @@ const CHANGES: [(&str, [usize; 3]); 3] = [
     ("INSERT a (7)", [0, 1, 0]),
 ];
 
-/// Binds the changes, each again where memory is refused.
+/// Binds the changes, each again if an allocation fails.
 fn bind_changes_again(
     rt: &(impl Abort + AllocGlobal + Print),
     catalog: &Catalog,
@@ -337,7 +337,7 @@ fn bind_change_growths(rt: HostRuntime) -> Result<(), Fail> {
     }
 }
 
-/// Adds the same rows twice, again where memory is refused.
+/// Adds the same rows twice, again if an allocation fails.
 fn add_twice<'a>(
     rt: &(impl Abort + Print),
     lists: &mut PlainRows<'a>,
@@ -352,7 +352,7 @@ fn add_twice<'a>(
     Ok(())
 }
 
-/// Evaluates a query, again where memory is refused, and looks at its rows.
+/// Evaluates a query, again if an allocation fails, and checks its rows.
 fn eval_again(
     rt: &(impl Abort + AllocGlobal + Print),
     bound: &BoundQuery,
@@ -368,7 +368,7 @@ fn eval_again(
     Ok(())
 }
 
-/// Looks at the rows of the query, unless memory is refused to their text.
+/// Checks the rows of the query, unless an allocation for their text fails.
 fn expect_found(rt: &(impl Abort + AllocGlobal), found: &[Row]) {
     match text_of_rows(rt.alloc(), found) {
         Ok(told) => {
@@ -390,7 +390,7 @@ fn eval_over(
     eval_again(rt, bound, &lists)
 }
 
-/// Rows of the same values as tuples. `AllocError` where memory is refused.
+/// Returns rows with the values of tuples. Fails with `AllocError` if an allocation fails.
 fn rows_of(alloc: Global, tuples: &RowList) -> Result<Vec<Row>, AllocError> {
     let mut rows = Vec::new(alloc);
     for tuple in tuples.as_slice() {
@@ -399,7 +399,7 @@ fn rows_of(alloc: Global, tuples: &RowList) -> Result<Vec<Row>, AllocError> {
     Ok(rows)
 }
 
-/// The same with the rows of an `INSERT`.
+/// Adds the rows of an `INSERT` twice and evaluates a query over them.
 fn eval_over_tuples(
     rt: &(impl Abort + AllocGlobal + Print),
     bound: &BoundQuery,
@@ -411,7 +411,7 @@ fn eval_over_tuples(
     }
 }
 
-/// The same with the rows of a line.
+/// Adds the rows of a line twice and evaluates a query over them.
 fn eval_over_inserted(
     rt: &(impl Abort + AllocGlobal + Print),
     bound: &BoundQuery,

@@ -1,7 +1,7 @@
-//! Tests of the database, and of the calls that read and bind its commands, in which memory is refused: what a refused call could
-//! have changed is as before, and the call given again answers as it should.
+//! Tests of the database, and of the calls that parse and bind its commands, with failed allocations: everything that a failed call could
+//! have changed is as before, and the call succeeds when it is repeated.
 //!
-//! They stand apart from the crates that they test, since a crate with tests is proved twice.
+//! The tests have a crate of their own, since a crate with tests is proved twice.
 #![tactic(auto)]
 
 #[cfg(test)]

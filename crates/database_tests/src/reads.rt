@@ -1,15 +1,14 @@
-//! The numbers of rows read that a database tells.
+//! The numbers of rows read that a database reports.
 use crate::assertions::assert_that;
-use crate::samples::{change, database, question};
+use crate::samples::{ask, command, database, execute};
 use crate::steps::end_refused;
-use mm_query::Reply;
-use mm_txn::{Answer, Change, Db};
+use mm_txn::Db;
 use mm_value::Refusal;
 use std::alloc::Global;
 use std::process::Abort;
 use std::test::Fail;
 
-/// Two tables of four rows each, and an index of the second one. A standing query joins them.
+/// Two tables of four rows each, and an index on the second one. A standing query joins them.
 const FILLED: [&str; 6] = [
     "TABLE t (id INT KEY, k INT)",
     "TABLE u (id INT KEY, k INT)",
@@ -19,8 +18,8 @@ const FILLED: [&str; 6] = [
     "WATCH w SELECT a.id, b.id FROM t a, u b WHERE b.k = a.k",
 ];
 
-/// Questions, and how many rows each reads at least and at most: a scan all of its table, a look-up those with the value, and both
-/// then those of the result once more.
+/// Questions, with the least and the largest number of rows that each reads. A scan reads all rows of its table, a look-up those with the
+/// value, and both then those of the result once more.
 const QUESTIONS: [(&str, u64, u64); 7] = [
     ("SCAN t", 0, 0),
     ("TABLES", 0, 0),
@@ -31,35 +30,26 @@ const QUESTIONS: [(&str, u64, u64); 7] = [
     ("SELECT a.id, b.id FROM t a, u b WHERE b.k = a.k", 12, 32),
 ];
 
-/// Changes, and how many rows each reads at most for the list of the standing query: each row that comes or goes, and its matches.
+/// Changes, with the largest number of rows that each reads for the list of the standing query: each deleted and each new row, and its
+/// matches.
 const CHANGES: [(&str, u64); 3] = [
     ("INSERT t (5, 0)", 3),
     ("UPDATE t SET k = 1 WHERE id = 5", 6),
     ("DELETE t WHERE id = 5", 3),
 ];
 
-/// The number of rows that a question reads.
+/// Returns the number of rows that a question reads.
 fn asked(alloc: Global, database: &Db, line: &str) -> Result<u64, Refusal> {
     let mut reads = u64::MAX;
-    match database.ask(alloc, question(alloc, line)?, &mut reads) {
-        Answer::Refused(refusal) => Err(refusal),
-        answer => {
-            drop(answer);
-            Ok(reads)
-        }
-    }
+    drop(ask(alloc, database, command(alloc, line)?, &mut reads)?);
+    Ok(reads)
 }
 
-/// The number of rows that a change reads for the lists.
+/// Returns the number of rows that a change reads for the lists.
 fn changed(alloc: Global, database: &mut Db, line: &str) -> Result<u64, Refusal> {
     let mut reads = u64::MAX;
-    match database.execute(alloc, Change::Edit(change(alloc, line)?), &mut reads) {
-        Reply::Refused(refusal) => Err(refusal),
-        reply => {
-            drop(reply);
-            Ok(reads)
-        }
-    }
+    execute(alloc, database, command(alloc, line)?, &mut reads)?;
+    Ok(reads)
 }
 
 /// Compares the number of rows that each question reads with its bounds.

@@ -1,7 +1,7 @@
-//! Catalogs, rows and databases that lines make, and what they tell.
+//! Catalogs, rows and databases made from lines, and their replies as text.
 //!
-//! A command, an answer or a database is let go by a call of `drop`, here and in the other modules: that is proved once, where the
-//! end of a scope is proved at each place.
+//! Here and in the other modules, a command, an answer or a database is dropped by a call of `drop`: its proof is needed once, that of the
+//! end of a scope at each place.
 ghost use Rattle.std.specs.Prelude.{◌≡◌, false, IfOk};
 ghost use Rattle.mm_schema.specs.Standing.{lacks_some_table};
 
@@ -10,27 +10,16 @@ use mm_query::{
     BoundChange, BoundQuery, Command, Definition, Mutation, Query, RowList, bind_query,
 };
 use mm_schema::{Catalog, Columns, IndexDef, IndexKind, Name, TableDef, TableNames};
-use mm_txn::{Answer, Change, Db, Question, Request, RowReader, Rows, ShownRows, StoredRows};
+use mm_txn::{Answer, Db, RowReader, Rows, ShownRows, StoredRows, is_question};
 use mm_value::{Refusal, Row, Watched, WriteError};
 use std::alloc::{AllocError, Global};
 
-/// The command of a line.
+/// Returns the command of a line.
 pub fn command(alloc: Global, line: &str) -> Result<Command<'_>, Refusal> {
     parse(alloc, line.as_bytes())
 }
 
-/// The question of a line.
-pub fn question(alloc: Global, line: &str) -> Result<Question<'_>, Refusal> {
-    match Request::of(command(alloc, line)?) {
-        Request::Ask(question) => Ok(question),
-        other => {
-            drop(other);
-            Err(Refusal::Syntax)
-        }
-    }
-}
-
-/// The table of a `TABLE`.
+/// Returns the table of a `TABLE`.
 pub fn table(alloc: Global, line: &str) -> Result<TableDef, Refusal> {
     match command(alloc, line)? {
         Command::Define(Definition::Table(table)) => Ok(table),
@@ -41,7 +30,7 @@ pub fn table(alloc: Global, line: &str) -> Result<TableDef, Refusal> {
     }
 }
 
-/// An index of a name on the keys of the table a.
+/// Returns an index with a name on the keys of the table a.
 pub fn index(name: &Name) -> Option<IndexDef> {
     Some(IndexDef {
         name: name.copy(),
@@ -51,7 +40,7 @@ pub fn index(name: &Name) -> Option<IndexDef> {
     })
 }
 
-/// The query of a `SELECT`.
+/// Returns the query of a `SELECT`.
 pub fn selected(alloc: Global, line: &str) -> Result<Query<'_>, Refusal> {
     match command(alloc, line)? {
         Command::Select(query) => Ok(query),
@@ -62,7 +51,7 @@ pub fn selected(alloc: Global, line: &str) -> Result<Query<'_>, Refusal> {
     }
 }
 
-/// The change of an `INSERT`, an `UPDATE` or a `DELETE`.
+/// Returns the change of an `INSERT`, an `UPDATE` or a `DELETE`.
 pub fn change(alloc: Global, line: &str) -> Result<Mutation<'_>, Refusal> {
     match command(alloc, line)? {
         Command::Change(mutation) => Ok(mutation),
@@ -73,7 +62,7 @@ pub fn change(alloc: Global, line: &str) -> Result<Mutation<'_>, Refusal> {
     }
 }
 
-/// The rows of an `INSERT`.
+/// Returns the rows of an `INSERT`.
 pub fn inserted<'c>(command: &'c Command<'_>) -> Result<&'c RowList, Refusal> {
     match command {
         Command::Change(Mutation::Insert { tuples, .. }) => Ok(tuples),
@@ -81,7 +70,7 @@ pub fn inserted<'c>(command: &'c Command<'_>) -> Result<&'c RowList, Refusal> {
     }
 }
 
-/// The catalog of these tables.
+/// Returns the catalog of these tables.
 pub fn catalog(alloc: Global, lines: &[&str]) -> Result<Catalog, Refusal> {
     let mut catalog = Catalog::new(alloc);
     add_tables(alloc, &mut catalog, lines)?;
@@ -96,7 +85,7 @@ fn add_tables(alloc: Global, catalog: &mut Catalog, lines: &[&str]) -> Result<()
     Ok(())
 }
 
-/// The tables of a standing query that reads one table. `NoSuchTable` where that is not there.
+/// Returns the tables of a standing query that reads one table. Fails with `NoSuchTable` if there is no such table.
 pub fn reading(alloc: Global, catalog: &Catalog, table: &Name) -> Result<TableNames, Refusal>
     ensures { IfOk result (λ names. lacks_some_table names catalog.now ≡ false) }
 {
@@ -108,7 +97,7 @@ pub fn reading(alloc: Global, catalog: &Catalog, table: &Name) -> Result<TableNa
     Ok(TableNames::new(names))
 }
 
-/// The query of a join of a table of keys with itself, whose result holds each two keys that differ by two.
+/// Returns the query of a join of a table of keys with itself, whose result has each two keys that differ by two.
 pub fn bound_query(alloc: Global) -> Result<BoundQuery, Refusal> {
     let catalog = catalog(alloc, &["TABLE a (id INT KEY)"])?;
     bind_line(
@@ -124,7 +113,7 @@ fn bind_line(alloc: Global, catalog: &Catalog, line: &str) -> Result<BoundQuery,
     Ok(bind_query(alloc, catalog, query)?.query)
 }
 
-/// The place of the table of a change, and how many items its lists have.
+/// Returns the place of the table of a change, and the lengths of its lists.
 pub fn sizes_of_bound(bound: &BoundChange) -> [usize; 3] {
     match bound {
         BoundChange::Insert { table, tuples } => [*table, tuples.as_slice().len(), 0],
@@ -137,7 +126,7 @@ pub fn sizes_of_bound(bound: &BoundChange) -> [usize; 3] {
     }
 }
 
-/// The lines of rows, and how many they are. `AllocError` where memory is refused.
+/// Returns the lines of rows, and their number, as text. Fails with `AllocError` if an allocation fails.
 pub fn text_of_rows(alloc: Global, rows: &[Row]) -> Result<Vec<u8>, AllocError> {
     let mut text = Vec::new(alloc);
     match write_rows(rows, &mut text) {
@@ -146,7 +135,7 @@ pub fn text_of_rows(alloc: Global, rows: &[Row]) -> Result<Vec<u8>, AllocError> 
     }
 }
 
-/// Writes the lines of rows, and how many they are.
+/// Writes the lines of rows, and their number.
 fn write_rows(rows: &[Row], told: &mut Vec<u8>) -> Result<(), WriteError> {
     let mut lines = RowLines::new();
     for row in rows {
@@ -155,12 +144,12 @@ fn write_rows(rows: &[Row], told: &mut Vec<u8>) -> Result<(), WriteError> {
     lines.finish(rows.len(), &mut Watched::new(told))
 }
 
-/// The database to which these lines were given.
+/// Returns the database after these lines.
 pub fn database(alloc: Global, lines: &[&str]) -> Result<Db, Refusal> {
     opened(alloc, lines, &[])
 }
 
-/// The database to which lines were given, and then others.
+/// Returns the database after some lines, and then others.
 pub fn opened(alloc: Global, lines: &[&str], inside: &[&str]) -> Result<Db, Refusal> {
     let mut database = Db::new(alloc);
     match give_both(alloc, &mut database, lines, inside) {
@@ -172,7 +161,7 @@ pub fn opened(alloc: Global, lines: &[&str], inside: &[&str]) -> Result<Db, Refu
     }
 }
 
-/// Gives lines to a database, and then others.
+/// Executes lines on a database, and then others.
 fn give_both(
     alloc: Global,
     database: &mut Db,
@@ -183,7 +172,7 @@ fn give_both(
     give_all(alloc, database, inside)
 }
 
-/// Gives lines to a database.
+/// Executes lines on a database.
 fn give_all(alloc: Global, database: &mut Db, lines: &[&str]) -> Result<(), Refusal> {
     for line in lines {
         give_line(alloc, database, line)?;
@@ -191,29 +180,33 @@ fn give_all(alloc: Global, database: &mut Db, lines: &[&str]) -> Result<(), Refu
     Ok(())
 }
 
-/// Gives a line that is no question to a database, and tells how many rows it changed.
+/// Executes a line that is not a question on a database, and returns the number of rows that it changed.
 pub fn give_line(alloc: Global, database: &mut Db, line: &str) -> Result<usize, Refusal> {
     give(alloc, database, command(alloc, line)?)
 }
 
-/// Gives a command that is no question to a database, and tells how many rows it changed.
+/// Executes a command that is not a question on a database, and returns the number of rows that it changed.
 pub fn give(alloc: Global, database: &mut Db, command: Command<'_>) -> Result<usize, Refusal> {
-    match Request::of(command) {
-        Request::Change(change) => make(alloc, database, change),
-        other => {
-            drop(other);
-            Err(Refusal::Syntax)
-        }
-    }
-}
-
-/// Makes a change of a database, and tells how many rows it changed.
-pub fn make(alloc: Global, database: &mut Db, change: Change<'_>) -> Result<usize, Refusal> {
     let mut reads = 0;
-    match database.execute(alloc, change, &mut reads) {
-        Reply::Done => Ok(0),
-        Reply::Count(count) => Ok(count),
-        Reply::Refused(refusal) => Err(refusal),
+    execute(alloc, database, command, &mut reads)
+}
+
+/// Executes a command on a database, and returns the number of rows that it changed. Sets `reads` to the number of rows that it read for
+/// the lists. Fails with `Syntax` if the command is a question.
+pub fn execute(
+    alloc: Global,
+    database: &mut Db,
+    command: Command<'_>,
+    reads: &mut u64,
+) -> Result<usize, Refusal> {
+    if is_question(&command) {
+        drop(command);
+        return Err(Refusal::Syntax);
+    }
+    match database.execute(alloc, command, reads) {
+        None | Some(Reply::Done) => Ok(0),
+        Some(Reply::Count(count)) => Ok(count),
+        Some(Reply::Refused(refusal)) => Err(refusal),
         other => {
             drop(other);
             Err(Refusal::Syntax)
@@ -221,27 +214,38 @@ pub fn make(alloc: Global, database: &mut Db, change: Change<'_>) -> Result<usiz
     }
 }
 
-/// Asks a database a question.
+/// Returns the answer of a database to a question. Sets `reads` to the number of rows that it read. Fails with `Syntax` if the command is
+/// not a question.
 pub fn ask<'s>(
     alloc: Global,
     database: &'s Db,
-    question: Question<'_>,
+    question: Command<'_>,
+    reads: &mut u64,
 ) -> Result<Answer<'s>, Refusal> {
-    let mut reads = 0;
-    match database.ask(alloc, question, &mut reads) {
+    if !is_question(&question) {
+        drop(question);
+        return Err(Refusal::Syntax);
+    }
+    match database.ask(alloc, question, reads) {
         Answer::Refused(refusal) => Err(refusal),
         answer => Ok(answer),
     }
 }
 
-/// What a database answers to these questions, one behind the other.
+/// Returns the answer of a database to the question of a line.
+pub fn ask_line<'s>(alloc: Global, database: &'s Db, line: &str) -> Result<Answer<'s>, Refusal> {
+    let mut reads = 0;
+    ask(alloc, database, command(alloc, line)?, &mut reads)
+}
+
+/// Returns the answers of a database to these questions, one after another, as text.
 pub fn told(alloc: Global, database: &Db, questions: &[&str]) -> Result<Vec<u8>, Refusal> {
     let mut told = Vec::new(alloc);
     tell_each(alloc, database, questions, &mut told)?;
     Ok(told)
 }
 
-/// Writes what a database answers to these questions behind what was told.
+/// Appends the answers of a database to these questions to a text.
 fn tell_each(
     alloc: Global,
     database: &Db,
@@ -254,21 +258,20 @@ fn tell_each(
     Ok(())
 }
 
-/// The same of the question of a line.
+/// Appends the answer of a database to the question of a line to a text.
 fn tell_line(alloc: Global, database: &Db, line: &str, told: &mut Vec<u8>) -> Result<(), Refusal> {
-    let question = question(alloc, line)?;
-    write(ask(alloc, database, question)?, told)?;
+    write(ask_line(alloc, database, line)?, told)?;
     Ok(())
 }
 
-/// The text of an answer. `AllocError` where memory is refused.
+/// Returns the text of an answer. Fails with `AllocError` if an allocation fails.
 pub fn text_of(alloc: Global, answer: Answer<'_>) -> Result<Vec<u8>, AllocError> {
     let mut text = Vec::new(alloc);
     write(answer, &mut text)?;
     Ok(text)
 }
 
-/// Writes an answer behind what was told. `AllocError` where memory is refused.
+/// Appends an answer to a text. Fails with `AllocError` if an allocation fails.
 fn write(answer: Answer<'_>, told: &mut Vec<u8>) -> Result<(), AllocError> {
     let written = match answer {
         Answer::Rows(rows) => write_answered(&rows, told),
@@ -282,7 +285,7 @@ fn write(answer: Answer<'_>, told: &mut Vec<u8>) -> Result<(), AllocError> {
     }
 }
 
-/// Writes the rows of an answer, and how many they are.
+/// Writes the rows of an answer, and their number.
 fn write_answered(rows: &Rows<'_>, told: &mut Vec<u8>) -> Result<(), WriteError> {
     match rows.reader() {
         RowReader::Stored(stored) => write_stored(stored, rows.len(), told),
@@ -290,7 +293,7 @@ fn write_answered(rows: &Rows<'_>, told: &mut Vec<u8>) -> Result<(), WriteError>
     }
 }
 
-/// Writes rows of a table, and how many they are.
+/// Writes rows of a table, and their number.
 fn write_stored(
     mut rows: StoredRows<'_>,
     count: usize,
@@ -306,7 +309,7 @@ fn write_stored(
     lines.finish(count, &mut Watched::new(told))
 }
 
-/// Writes rows that are shown, and how many they are.
+/// Writes the rows of a result, and their number.
 fn write_shown(rows: &ShownRows<'_>, told: &mut Vec<u8>) -> Result<(), WriteError> {
     let mut lines = RowLines::new();
     for i in 0..rows.len() {
@@ -315,7 +318,7 @@ fn write_shown(rows: &ShownRows<'_>, told: &mut Vec<u8>) -> Result<(), WriteErro
     lines.finish(rows.len(), &mut Watched::new(told))
 }
 
-/// How many items the lists of a command have, from left to right.
+/// Returns the lengths of the lists of a command, from left to right.
 pub fn sizes(command: &Command<'_>) -> [usize; 4] {
     match command {
         Command::Define(Definition::Table(table)) => [count(&table.columns), 0, 0, 0],

@@ -1,10 +1,11 @@
-//! Growths of memory that are refused in a transaction with savepoints, and to indexes that are made in one.
+//! Failed allocations in a transaction with savepoints, and for indexes that are created in one.
 use crate::assertions::assert_that;
 use crate::growths::{FILLED, FIRST_EMP, MOVED_EMP, NAMES, NO_NAME, OF_EMP};
-use crate::samples::{make, opened};
+use crate::samples::{give, opened};
 use crate::steps::{end_refused, give_each, roll_back, tell_refused};
+use mm_query::Command;
 use mm_schema::Name;
-use mm_txn::{Change, Db};
+use mm_txn::Db;
 use mm_value::Refusal;
 use std::process::Abort;
 use std::test::Fail;
@@ -15,23 +16,23 @@ const PLAN_AND_ANSWER: [&str; 2] = [
     "SELECT e.id FROM emp e WHERE e.name = 'bob'",
 ];
 
-/// Makes a savepoint, again where memory is refused, and goes back to it.
+/// Sets a savepoint, again if an allocation fails, and rolls back to it.
 fn save_again(
     rt: &(impl Abort + AllocGlobal + Print),
     database: &mut Db,
     name: &Name,
 ) -> Result<(), Fail> {
-    if let Err(refusal) = make(rt.alloc(), database, Change::Savepoint(name.copy())) {
+    if let Err(refusal) = give(rt.alloc(), database, Command::Savepoint(name.copy())) {
         tell_refused(rt, refusal)?;
-        let gone = make(rt.alloc(), database, Change::RollbackTo(name.copy()));
+        let gone = give(rt.alloc(), database, Command::RollbackTo(name.copy()));
         assert_that(rt, matches!(gone, Err(Refusal::NoSuchSavepoint)));
-        make(rt.alloc(), database, Change::Savepoint(name.copy()))?;
+        give(rt.alloc(), database, Command::Savepoint(name.copy()))?;
     }
-    make(rt.alloc(), database, Change::RollbackTo(name.copy()))?;
+    give(rt.alloc(), database, Command::RollbackTo(name.copy()))?;
     Ok(())
 }
 
-/// Makes a savepoint of each name, again where memory is refused, and goes back to it.
+/// Sets a savepoint with each name, again if an allocation fails, and rolls back to it.
 fn save_each(rt: &(impl Abort + AllocGlobal + Print), database: &mut Db) -> Result<(), Fail> {
     for bytes in NAMES {
         let name = Name::new(bytes).ok_or(NO_NAME)?;

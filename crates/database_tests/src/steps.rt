@@ -1,7 +1,7 @@
-//! Calls to which memory is refused, and the same calls given again.
+//! Calls whose allocations fail, and the same calls repeated.
 use crate::assertions::assert_same;
 use crate::samples::{
-    ask, command, database, give, give_line, opened, question, sizes, text_of, told,
+    ask, ask_line, command, database, give, give_line, opened, sizes, text_of, told,
 };
 use mm_query::Command;
 use mm_txn::{Answer, Db};
@@ -11,30 +11,30 @@ use std::io;
 use std::process::Abort;
 use std::test::Fail;
 
-/// Tests that it was memory that was refused.
+/// Asserts that the refusal is `Memory`.
 pub fn expect_memory(rt: &impl Abort, refusal: Refusal) {
     assert_same(rt, refusal, Refusal::Memory);
 }
 
-/// Ends a test to whose beginning memory was refused, as passed. No other refusal is due.
+/// Ends a test, as passed, because an allocation before its calls failed. No other refusal is due.
 pub fn end_refused(rt: &impl Abort, refusal: Refusal) -> Result<(), Fail> {
     expect_memory(rt, refusal);
     Ok(())
 }
 
-/// The same in front of one of its calls, which did not come so far.
+/// Ends a test, as passed, because an allocation failed before one of its calls was reached.
 pub fn not_so_far(rt: &impl Abort, refusal: Refusal) -> Result<bool, Fail> {
     expect_memory(rt, refusal);
     Ok(false)
 }
 
-/// Tells that memory was refused to a call that is tested. No other refusal is due.
+/// Writes that an allocation of a tested call failed. No other refusal is due.
 pub fn tell_refused(rt: &(impl Abort + Print), refusal: Refusal) -> io::Result<()> {
     expect_memory(rt, refusal);
     println!(rt; "refused")
 }
 
-/// Reads a line, and once more where memory is refused.
+/// Parses a line, again if an allocation fails.
 fn read_again<'l>(
     rt: &(impl Abort + AllocGlobal + Print),
     line: &'l str,
@@ -48,7 +48,7 @@ fn read_again<'l>(
     }
 }
 
-/// The sizes of the lists in the command of a line, which is read once more where memory is refused.
+/// Returns the lengths of the lists in the command of a line, which is parsed again if an allocation fails.
 fn sizes_in(rt: &(impl Abort + AllocGlobal + Print), line: &str) -> Result<[usize; 4], Fail> {
     let command = read_again(rt, line)?;
     let sizes = sizes(&command);
@@ -56,7 +56,7 @@ fn sizes_in(rt: &(impl Abort + AllocGlobal + Print), line: &str) -> Result<[usiz
     Ok(sizes)
 }
 
-/// Reads lines, each once more where memory is refused, and looks at the sizes of the lists in their commands.
+/// Parses lines, each again if an allocation fails, and checks the lengths of the lists in their commands.
 pub fn read_each(
     rt: &(impl Abort + AllocGlobal + Print),
     lines: &[(&str, [usize; 4])],
@@ -68,8 +68,8 @@ pub fn read_each(
     Ok(())
 }
 
-/// Gives a line to a database, and once more where memory is refused to it; then the database has told the same as before. Whether
-/// it was given: not where memory was refused in front of the call.
+/// Executes a line on a database, again if an allocation fails; then the database answered as before. Returns whether the line was
+/// executed: false if an earlier allocation failed.
 pub fn give_again(
     rt: &(impl Abort + AllocGlobal + Print),
     database: &mut Db,
@@ -82,7 +82,7 @@ pub fn give_again(
     }
 }
 
-/// The same with what the database told before.
+/// Executes a line on a database, again if an allocation fails, given what the database answered before.
 fn give_beside(
     rt: &(impl Abort + AllocGlobal + Print),
     database: &mut Db,
@@ -102,7 +102,7 @@ fn give_beside(
     Ok(true)
 }
 
-/// Tests that a database tells the same as before a line that was refused.
+/// Asserts that a database answers as before a line that was refused.
 fn look_again(
     rt: &(impl Abort + AllocGlobal),
     database: &Db,
@@ -115,7 +115,7 @@ fn look_again(
     Ok(())
 }
 
-/// Looks at what a database tells, unless memory is refused to that.
+/// Checks the answers of a database, unless an allocation for them fails.
 pub fn look(rt: &(impl Abort + AllocGlobal), database: &Db, questions: &[&str], expected: &str) {
     match told(rt.alloc(), database, questions) {
         Ok(told) => assert_same(rt, told.as_slice(), expected.as_bytes()),
@@ -123,7 +123,7 @@ pub fn look(rt: &(impl Abort + AllocGlobal), database: &Db, questions: &[&str], 
     }
 }
 
-/// Gives lines to a database, each once more where memory is refused to it, and looks at what the database tells behind each of them.
+/// Executes lines on a database, each again if an allocation fails, and checks the answers of the database after each of them.
 fn give_all_again(
     rt: &(impl Abort + AllocGlobal + Print),
     database: &mut Db,
@@ -139,7 +139,7 @@ fn give_all_again(
     Ok(())
 }
 
-/// The same with the database that other lines have made.
+/// Executes lines on the database after some other lines, each again if an allocation fails, and checks the answers after each of them.
 pub fn give_each(
     rt: &(impl Abort + AllocGlobal + Print),
     made_by: &[&str],
@@ -156,8 +156,8 @@ pub fn give_each(
     }
 }
 
-/// Gives a line to a database, which is refused where memory is. Whether that came so far: not where memory was refused in front of
-/// the call.
+/// Executes a line on a database, which fails if an allocation does. Returns whether the line was reached: false if an earlier allocation
+/// failed.
 fn give_once(
     rt: &(impl Abort + AllocGlobal + Print),
     database: &mut Db,
@@ -173,8 +173,8 @@ fn give_once(
     Ok(true)
 }
 
-/// Gives a database one more line, which is refused where memory is, and rolls back by `back` in either case; then it looks at what
-/// the database tells.
+/// Executes one more line on a database, which fails if an allocation does, and rolls back by `back` in either case. Then checks the
+/// answers of the database.
 fn give_and_roll_back(
     rt: &(impl Abort + AllocGlobal + Print),
     database: &mut Db,
@@ -190,7 +190,8 @@ fn give_and_roll_back(
     Ok(())
 }
 
-/// The same with the database that lines have made, in a transaction that others have opened.
+/// Executes one more line on the database after some lines, in a transaction that others opened, and rolls back by `back`. Then checks the
+/// answers of the database.
 pub fn roll_back(
     rt: &(impl Abort + AllocGlobal + Print),
     made_by: &[&str],
@@ -210,30 +211,31 @@ pub fn roll_back(
     }
 }
 
-/// Asks the question of a line, once more where memory is refused to it, and looks at the answer. Whether that came so far: not where
-/// memory was refused in front of the call, or behind it.
-fn ask_line(
+/// Asks the question of a line, again if an allocation fails, and checks the answer. Returns whether the check was reached: false if an
+/// allocation before or after the call failed.
+fn ask_again(
     rt: &(impl Abort + AllocGlobal + Print),
     database: &Db,
     line: &str,
     expected: &str,
 ) -> Result<bool, Fail> {
     let alloc = rt.alloc();
-    let outcome = match question(alloc, line) {
-        Ok(question) => ask(alloc, database, question),
+    let mut reads = 0;
+    let outcome = match command(alloc, line) {
+        Ok(question) => ask(alloc, database, question, &mut reads),
         Err(refusal) => return not_so_far(rt, refusal),
     };
     let answer = match outcome {
         Ok(answer) => answer,
         Err(refusal) => {
             tell_refused(rt, refusal)?;
-            ask(alloc, database, question(alloc, line)?)?
+            ask_line(alloc, database, line)?
         }
     };
     look_at(rt, answer, line, expected)
 }
 
-/// Looks at the answer to the question of a line. Whether that came so far: not where memory was refused to its text.
+/// Checks the answer to the question of a line. Returns whether the check was reached: false if an allocation for its text failed.
 fn look_at(
     rt: &(impl Abort + AllocGlobal),
     answer: Answer<'_>,
@@ -249,21 +251,21 @@ fn look_at(
     }
 }
 
-/// Asks a database questions, each once more where memory is refused to it, and looks at the answers.
+/// Asks a database questions, each again if an allocation fails, and checks the answers.
 fn ask_all(
     rt: &(impl Abort + AllocGlobal + Print),
     database: &Db,
     questions: &[(&str, &str)],
 ) -> Result<(), Fail> {
     for (line, expected) in questions {
-        if !ask_line(rt, database, line, expected)? {
+        if !ask_again(rt, database, line, expected)? {
             return Ok(());
         }
     }
     Ok(())
 }
 
-/// The same of the database that some lines have made.
+/// Asks the database after some lines questions, each again if an allocation fails, and checks the answers.
 pub fn ask_each(
     rt: &(impl Abort + AllocGlobal + Print),
     made_by: &[&str],

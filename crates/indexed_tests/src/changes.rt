@@ -1,9 +1,11 @@
-//! Changes of rows, and the way back: what the indexes show after each.
+//! Changes of rows and their undo, and the contents of the indexes after each.
 ghost use Rattle.std.specs.Prelude.{◌≡◌, ◌∷◌, []};
 ghost use Rattle.mm_value.specs.declared.col_type.ColType.TheVariants.{Int};
 
 use crate::assertions::assert_that;
-use crate::samples::{add_index, exchange, has_twin, hide, release, show, stage, table_of};
+use crate::samples::{
+    add_index, exchange, has_twin, hide, hide_all, release, show, stage, table_of,
+};
 use crate::shows::{assert_hashed, assert_keys};
 use mm_indexed::IndexedRows;
 use mm_schema::IndexKind;
@@ -19,7 +21,7 @@ struct Pair {
     other: RowRef,
 }
 
-/// Stages the rows of two keys, which have the digits 9 and 8.
+/// Stages two rows with these keys and the digits 9 and 8.
 fn stage_two(
     rt: &impl AllocGlobal,
     table: &mut IndexedRows,
@@ -34,7 +36,7 @@ fn stage_two(
     Ok(Pair { one, other })
 }
 
-/// Shows two rows, the second first.
+/// Uses two hidden rows, the second first.
 fn show_two(
     rt: &(impl Abort + AllocGlobal),
     table: &mut IndexedRows,
@@ -54,7 +56,7 @@ fn assert_twins(rt: &impl Abort, table: &IndexedRows, rows: Pair, twins: bool) {
     assert_that(rt, has_twin(rt, table, rows.other) == twins);
 }
 
-/// Raises the keys of two rows by one, the lower key first: for a while both are 2.
+/// Increases the keys of two rows by one, the lower key first. In between, both keys are 2.
 fn raise_keys(
     rt: &(impl Abort + AllocGlobal),
     table: &mut IndexedRows,
@@ -72,7 +74,7 @@ fn raise_keys(
     Ok(())
 }
 
-/// Lowers the keys again, in the same order of the rows, and drops the rows that had the higher keys.
+/// Decreases the keys again, in the same order of the rows, and drops the rows that had the higher keys.
 fn lower_keys(
     rt: &(impl Abort + AllocGlobal),
     table: &mut IndexedRows,
@@ -87,7 +89,7 @@ fn lower_keys(
     assert_keys(rt, table, &[Some(1), Some(2)], &[Some(2), Some(1)])
 }
 
-/// Raises the keys 1 and 2, and lowers them again.
+/// Increases the keys 1 and 2, and decreases them again.
 fn raise_and_lower(
     rt: &(impl Abort + AllocGlobal),
     table: &mut IndexedRows,
@@ -109,7 +111,7 @@ fn exchanges_keys_through_twins(rt: HostRuntime) -> Result<(), Fail> {
     Ok(())
 }
 
-/// Hides a row of key 1 and digit 9, shows another row of key 1, and takes both back.
+/// Hides a row of key 1 and digit 9, uses another row of key 1, and undoes both.
 fn hide_and_show(
     rt: &(impl Abort + AllocGlobal),
     table: &mut IndexedRows,
@@ -143,7 +145,7 @@ fn exchange_and_back(
     assert_hashed(rt, table, 9, &[Some(1)])
 }
 
-/// Changes the row of key 1 of a table that has a HASH index too.
+/// Changes the row of key 1 of a table with a HASH index.
 fn change_hashed(rt: &(impl Abort + AllocGlobal), table: &mut IndexedRows) -> Result<(), AllocError>
     requires { table.old.places.types ≡ Int ∷ Int ∷ [] }
 {
@@ -159,5 +161,39 @@ fn change_hashed(rt: &(impl Abort + AllocGlobal), table: &mut IndexedRows) -> Re
 fn changes_hashed_rows(rt: HostRuntime) -> Result<(), Fail> {
     let mut table = table_of(rt.alloc())?;
     change_hashed(&rt, &mut table)?;
+    Ok(())
+}
+
+/// Hides all rows of a table at once, and uses one of them again.
+fn hide_all_and_show(
+    rt: &(impl Abort + AllocGlobal),
+    table: &mut IndexedRows,
+    rows: Pair,
+) -> Result<(), AllocError> {
+    hide_all(rt, table);
+    assert_that(rt, table.is_hidden(rows.one));
+    assert_that(rt, table.is_hidden(rows.other));
+    assert_keys(rt, table, &[], &[])?;
+    assert_hashed(rt, table, 9, &[])?;
+    show(rt, table, rows.one)?;
+    assert_keys(rt, table, &[Some(1)], &[Some(1)])?;
+    assert_hashed(rt, table, 9, &[Some(1)])?;
+    assert_hashed(rt, table, 8, &[])
+}
+
+/// Hides the two rows of a table with a HASH index.
+fn hide_hashed(rt: &(impl Abort + AllocGlobal), table: &mut IndexedRows) -> Result<(), AllocError>
+    requires { table.old.places.types ≡ Int ∷ Int ∷ [] }
+{
+    add_index(table, rt.alloc(), IndexKind::Hash)?;
+    let rows = stage_two(rt, table, 1, 2)?;
+    show_two(rt, table, rows)?;
+    hide_all_and_show(rt, table, rows)
+}
+
+#[test]
+fn hides_all_rows(rt: HostRuntime) -> Result<(), Fail> {
+    let mut table = table_of(rt.alloc())?;
+    hide_hashed(&rt, &mut table)?;
     Ok(())
 }

@@ -1,5 +1,5 @@
-//! Calls whose allocations fail, as `tests/refused_growths.py` lets them: in each run of a test one allocation, or all from one to the
-//! line that tells of a failed call. Then the table shows what it showed, and the call is made again.
+//! Calls whose allocations fail, as `tests/refused_growths.py` lets them: in each run of a test one allocation, or all from one to the line
+//! that reports a failed call. Then the table is unchanged, and the call is repeated.
 //!
 //! Any other allocation that fails before that line ends the test, as passed.
 ghost use Rattle.std.specs.Prelude.{◌≡◌, ◌∷◌, [], IfOk};
@@ -16,12 +16,12 @@ use std::io;
 use std::process::Abort;
 use std::test::Fail;
 
-/// Tells on standard output that a tested call failed. All that the rest of the run allocates is granted.
+/// Writes to standard output that a tested call failed. All later allocations of the run succeed.
 fn asked_again(rt: &impl Print) -> io::Result<()> {
     rt.println("refused")
 }
 
-/// Appends a HASH index, and shows a row of key 1.
+/// Appends a HASH index, and inserts a row of key 1.
 fn fill(rt: &(impl Abort + AllocGlobal), table: &mut IndexedRows) -> Result<(), AllocError>
     requires { table.old.places.types ≡ Int ∷ Int ∷ [] }
     ensures { table.new.places.types ≡ Int ∷ Int ∷ [] }
@@ -31,7 +31,7 @@ fn fill(rt: &(impl Abort + AllocGlobal), table: &mut IndexedRows) -> Result<(), 
     show(rt, table, one)
 }
 
-/// A table with the row of key 1 in use, and a HASH index at place 1.
+/// Returns a table with the row of key 1 in use, and a HASH index at place 1.
 fn one_row(rt: &(impl Abort + AllocGlobal)) -> Result<IndexedRows, AllocError>
     ensures { IfOk result (λ table. table.places.types ≡ Int ∷ Int ∷ []) }
 {
@@ -40,13 +40,13 @@ fn one_row(rt: &(impl Abort + AllocGlobal)) -> Result<IndexedRows, AllocError>
     Ok(table)
 }
 
-/// Asserts that the table shows the row of key 1, by each index.
+/// Asserts that the table has the row of key 1, by each index.
 fn assert_one(rt: &(impl Abort + AllocGlobal), table: &IndexedRows) -> Result<(), AllocError> {
     assert_keys(rt, table, &[Some(1)], &[Some(1)])?;
     assert_hashed(rt, table, 5, &[Some(1)])
 }
 
-/// Makes capacity for 200 rows more, again if an allocation fails.
+/// Reserves capacity for 200 more rows, again if an allocation fails.
 fn reserve_again(
     rt: &(impl Abort + AllocGlobal + Print),
     table: &mut IndexedRows,
@@ -70,7 +70,7 @@ fn reserve_growths(rt: HostRuntime) -> Result<(), Fail> {
     Ok(())
 }
 
-/// Appends a further TREE index, again if an allocation fails: then the table has the indexes that it had.
+/// Appends a further TREE index, again if an allocation fails: then the table has the same indexes as before.
 fn add_index_again(
     rt: &(impl Abort + AllocGlobal + Print),
     table: &mut IndexedRows,

@@ -1,4 +1,4 @@
-//! Tests of rows with all indexes, changed one slot at a time: of what no contract says.
+//! Tests of rows with all indexes, changed one slot at a time, for what no contract states.
 #![tactic(auto)]
 
 #[cfg(test)]

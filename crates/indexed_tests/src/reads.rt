@@ -1,4 +1,4 @@
-//! Reads along each index, and what they return in a state with two rows of one key.
+//! Reads along each index, and their results in a state with two rows of one key.
 ghost use Rattle.std.specs.Prelude.{◌≡◌, ◌∷◌, [], IfOk};
 ghost use Rattle.mm_value.specs.declared.col_type.ColType.TheVariants.{Int};
 
@@ -13,7 +13,7 @@ use std::alloc::{AllocError, Global};
 use std::process::Abort;
 use std::test::Fail;
 
-/// Stages and shows the row of a key and a digit.
+/// Stages and uses the row of a key and a digit.
 fn add(
     rt: &(impl Abort + AllocGlobal),
     table: &mut IndexedRows,
@@ -28,7 +28,7 @@ fn add(
     Ok(at)
 }
 
-/// Adds the keys 3, 1 and 2, of which 1 and 3 have the digit 7, and 2 has the digit 5.
+/// Inserts rows with the keys 3, 1 and 2. The digit of 1 and 3 is 7, and that of 2 is 5.
 fn add_three(rt: &(impl Abort + AllocGlobal), table: &mut IndexedRows) -> Result<(), AllocError>
     requires { table.old.places.types ≡ Int ∷ Int ∷ [] }
     ensures { table.new.places.types ≡ Int ∷ Int ∷ [] }
@@ -39,7 +39,7 @@ fn add_three(rt: &(impl Abort + AllocGlobal), table: &mut IndexedRows) -> Result
     Ok(())
 }
 
-/// A table of these rows, with a TREE index and a HASH index on the digit.
+/// Returns a table of these rows, with a TREE index and a HASH index on the digit.
 fn three_rows(rt: &(impl Abort + AllocGlobal)) -> Result<IndexedRows, AllocError>
     ensures { IfOk result (λ table. table.places.types ≡ Int ∷ Int ∷ []) }
 {
@@ -49,7 +49,7 @@ fn three_rows(rt: &(impl Abort + AllocGlobal)) -> Result<IndexedRows, AllocError
     Ok(table)
 }
 
-/// The value of an end of a range.
+/// Returns the value of an end of a range.
 fn value_of(end: Option<i64>) -> Option<ValueRef<'static>> {
     match end {
         Some(number) => Some(ValueRef::Int(number)),
@@ -57,7 +57,7 @@ fn value_of(end: Option<i64>) -> Option<ValueRef<'static>> {
     }
 }
 
-/// The keys of the rows between two keys.
+/// Returns the keys of the rows between two keys.
 fn between_keys(
     table: &IndexedRows,
     alloc: Global,
@@ -69,7 +69,7 @@ fn between_keys(
     keys_of_refs(table, alloc, found.as_slice())
 }
 
-/// The keys of the rows between two digits, by the TREE index.
+/// Returns the keys of the rows between two digits, by the TREE index.
 fn between_digits(
     table: &IndexedRows,
     alloc: Global,
@@ -84,7 +84,7 @@ fn between_digits(
     keys_of_refs(table, alloc, found.as_slice())
 }
 
-/// How many rows have a digit, by both reads of the HASH index.
+/// Returns the number of rows with a digit, by both reads of the HASH index.
 fn count_of(table: &IndexedRows, alloc: Global, digit: i64) -> Result<(usize, usize), AllocError> {
     let Some(index) = table.index_of(1, IndexKind::Hash) else {
         return Err(AllocError);
@@ -95,7 +95,7 @@ fn count_of(table: &IndexedRows, alloc: Global, digit: i64) -> Result<(usize, us
     Ok((found.len(), inline.len()))
 }
 
-/// The digit of the row that `find` returns for a key.
+/// Returns the digit of the row that `find` returns for a key.
 fn digit_of(table: &IndexedRows, key: i64) -> Option<i64> {
     match table.find(ValueRef::Int(key)) {
         Some(at) => number_at(table, at, 1),
@@ -157,7 +157,7 @@ fn finds_one_of_two_rows_of_a_key(rt: HostRuntime) -> Result<(), Fail> {
     Ok(())
 }
 
-/// The keys of all rows in the order of a new tree by the digit, and along the TREE index.
+/// Asserts the number of entries of a new tree by the digit, and the keys of all rows along the TREE index.
 fn assert_orders(
     rt: &(impl Abort + AllocGlobal),
     table: &IndexedRows,

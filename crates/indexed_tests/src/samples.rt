@@ -1,4 +1,4 @@
-//! A table of two numbers, and changes of it. Each call makes the capacity that it needs.
+//! A table of two numbers, and changes of it. Each call reserves the capacity that it needs.
 ghost use Rattle.std.specs.Prelude.{◌≡◌, ◌∷◌, [], IfOk};
 ghost use Rattle.std.specs.Bool.{OnTrue};
 ghost use Rattle.mm_value.specs.declared.col_type.ColType.TheVariants.{Int};
@@ -12,7 +12,7 @@ use mm_value::{ColType, Row, RowRef, Value};
 use std::alloc::{AllocError, Global};
 use std::process::Abort;
 
-/// No rows of a key and a digit, with a TREE index on the digit.
+/// Returns a table of a key and a digit without rows, with a TREE index on the digit.
 pub fn table_of(alloc: Global) -> Result<IndexedRows, AllocError>
     ensures { IfOk result (λ table. table.places.types ≡ Int ∷ Int ∷ []) }
 {
@@ -32,7 +32,7 @@ pub fn add_index(table: &mut IndexedRows, alloc: Global, kind: IndexKind) -> Res
     table.add_index(alloc, 1, kind, 0)
 }
 
-/// The row of a key and a digit.
+/// Returns the row of a key and a digit.
 fn row_of(alloc: Global, key: i64, digit: i64) -> Result<Row, AllocError>
     ensures { IfOk result (HasTypes (Int ∷ Int ∷ [])) }
 {
@@ -55,7 +55,7 @@ pub fn stage(
     Ok(table.stage(row.into_values().as_mut_slice()))
 }
 
-/// Whether a row in use has this reference.
+/// Returns whether a row in use has this reference.
 pub fn is_in_use(table: &IndexedRows, at: RowRef) -> bool
     ensures { OnTrue result (IsLive table.now.places at) }
 {
@@ -70,7 +70,7 @@ pub fn is_in_use(table: &IndexedRows, at: RowRef) -> bool
     false
 }
 
-/// Brings a hidden row into use.
+/// Uses a hidden row.
 pub fn show(
     rt: &(impl Abort + AllocGlobal),
     table: &mut IndexedRows,
@@ -85,13 +85,20 @@ pub fn show(
     Ok(())
 }
 
-/// Takes a row out of use.
+/// Hides a row in use.
 pub fn hide(rt: &impl Abort, table: &mut IndexedRows, at: RowRef)
     ensures { table.new.places.types ≡ table.old.places.types }
 {
     assert_that(rt, is_in_use(table, at));
     table.hide(at);
     assert_that(rt, table.is_hidden(at));
+}
+
+/// Hides all rows.
+pub fn hide_all(rt: &impl Abort, table: &mut IndexedRows) {
+    assert_that(rt, table.len() <= MAX_ROWS);
+    table.hide_all();
+    assert_that(rt, table.len() == 0);
 }
 
 /// Drops a hidden row.
@@ -123,7 +130,7 @@ pub fn exchange(
     Ok(())
 }
 
-/// Whether another row in use has the key of a row.
+/// Returns whether another row in use has the key of a row.
 pub fn has_twin(rt: &impl Abort, table: &IndexedRows, at: RowRef) -> bool {
     assert_that(rt, is_in_use(table, at));
     table.has_twin(at)

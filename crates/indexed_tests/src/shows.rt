@@ -1,4 +1,4 @@
-//! What a table shows: its rows by their keys, along a TREE index, and by their hashes.
+//! The contents of a table: its rows by their keys, along a TREE index, and by their hashes.
 use crate::assertions::assert_same;
 use crate::samples::is_in_use;
 use mm_indexed::{Index, IndexedRows};
@@ -9,7 +9,7 @@ use std::alloc::{AllocError, Global};
 use std::process::Abort;
 use ttree::Iter;
 
-/// The number of a row in a column, or `None` if the row is not in use.
+/// Returns the number of a row in a column, or `None` if the row is not in use.
 pub fn number_at(table: &IndexedRows, at: RowRef, column: usize) -> Option<i64> {
     if !is_in_use(table, at) {
         return None;
@@ -20,7 +20,7 @@ pub fn number_at(table: &IndexedRows, at: RowRef, column: usize) -> Option<i64> 
     }
 }
 
-/// The keys of rows, in this order.
+/// Returns the keys of rows, in this order.
 fn keys_of(
     table: &IndexedRows,
     alloc: Global,
@@ -33,7 +33,7 @@ fn keys_of(
     Ok(keys)
 }
 
-/// The keys of the rows of references, in this order.
+/// Returns the keys of the rows of references, in this order.
 pub fn keys_of_refs(
     table: &IndexedRows,
     alloc: Global,
@@ -46,7 +46,7 @@ pub fn keys_of_refs(
     Ok(keys)
 }
 
-/// The keys of all rows, in their order.
+/// Returns the keys of all rows, in their order.
 fn keys(table: &IndexedRows, alloc: Global) -> Result<Vec<Option<i64>>, AllocError> {
     if table.len() > MAX_ROWS {
         return Err(AllocError);
@@ -54,7 +54,7 @@ fn keys(table: &IndexedRows, alloc: Global) -> Result<Vec<Option<i64>>, AllocErr
     keys_of(table, alloc, table.by_key())
 }
 
-/// The keys along the index at a place, which is a TREE index.
+/// Returns the keys along the index at a place, which is a TREE index.
 fn keys_along(
     table: &IndexedRows,
     alloc: Global,
@@ -68,7 +68,7 @@ fn keys_along(
     }
 }
 
-/// The keys of the rows that have a digit, by the index at a place, which is a HASH index.
+/// Returns the keys of the rows that have a digit, by the index at a place, which is a HASH index.
 fn keys_hashed(
     table: &IndexedRows,
     alloc: Global,
@@ -85,7 +85,7 @@ fn keys_hashed(
     Ok(keys)
 }
 
-/// Asserts that a table shows these keys in their order, and along the TREE index at place 0.
+/// Asserts that a table has these keys in their order, and along the TREE index at place 0.
 pub fn assert_keys(
     rt: &(impl Abort + AllocGlobal),
     table: &IndexedRows,

@@ -1,4 +1,4 @@
-//! Tables of texts: which prefixes are kept, and searches among texts of one prefix.
+//! Tables of texts: which prefixes are kept, and searches among texts with the same prefix.
 ghost use Rattle.std.specs.Prelude.{◌≡◌, ◌∷◌, [], IfOk};
 ghost use Rattle.mm_value.specs.declared.col_type.ColType.TheVariants.{Text as OfText};
 ghost use Rattle.mm_partition.specs.Types.{HasTypes};
@@ -12,14 +12,14 @@ use std::alloc::{AllocError, Global};
 use std::process::Abort;
 use std::test::Fail;
 
-/// No rows of two texts, of which the first is the key.
+/// Returns a table of two texts without rows. The first text is the key.
 fn texts_of(alloc: Global) -> Result<IndexedRows, AllocError>
     ensures { IfOk result (λ table. table.places.types ≡ OfText ∷ OfText ∷ []) }
 {
     IndexedRows::new(alloc, &[ColType::Text, ColType::Text], 0)
 }
 
-/// A text of at most 64 bytes.
+/// Returns a text of at most 64 bytes.
 fn text_of(alloc: Global, bytes: &[u8]) -> Result<Text, AllocError> {
     match Text::new(alloc, bytes) {
         Ok(text) => Ok(text),
@@ -27,7 +27,7 @@ fn text_of(alloc: Global, bytes: &[u8]) -> Result<Text, AllocError> {
     }
 }
 
-/// The row of two texts.
+/// Returns the row of two texts.
 fn row_of(alloc: Global, key: &[u8], mark: &[u8]) -> Result<Row, AllocError>
     ensures { IfOk result (HasTypes (OfText ∷ OfText ∷ [])) }
 {
@@ -36,7 +36,7 @@ fn row_of(alloc: Global, key: &[u8], mark: &[u8]) -> Result<Row, AllocError>
     Ok(Row::new(vec![in alloc; Value::Text(key), Value::Text(mark)]?))
 }
 
-/// Adds the row of two texts.
+/// Inserts the row of two texts.
 fn add(
     rt: &(impl Abort + AllocGlobal),
     table: &mut IndexedRows,
@@ -54,7 +54,7 @@ fn add(
     Ok(at)
 }
 
-/// The slot of the row that `find` returns for a key.
+/// Returns the slot of the row that `find` returns for a key.
 fn slot_of(table: &IndexedRows, alloc: Global, key: &[u8]) -> Result<Option<u32>, AllocError> {
     let key = text_of(alloc, key)?;
     match table.find(ValueRef::Text(&key)) {
@@ -63,7 +63,7 @@ fn slot_of(table: &IndexedRows, alloc: Global, key: &[u8]) -> Result<Option<u32>
     }
 }
 
-/// Whether the prefix of the row that has a key is kept in each of the two columns.
+/// Returns whether the prefix of the row that has a key is kept in each of the two columns.
 fn with_prefixes(
     table: &IndexedRows,
     alloc: Global,
@@ -80,7 +80,7 @@ fn with_prefixes(
     }
 }
 
-/// Adds rows whose keys differ after their prefixes alone, and finds each.
+/// Inserts rows whose keys differ only after their prefixes, and finds each.
 fn find_texts(rt: &(impl Abort + AllocGlobal), table: &mut IndexedRows) -> Result<(), AllocError>
     requires { table.old.places.types ≡ OfText ∷ OfText ∷ [] }
     ensures { table.new.places.types ≡ OfText ∷ OfText ∷ [] }
@@ -105,7 +105,7 @@ fn find_texts(rt: &(impl Abort + AllocGlobal), table: &mut IndexedRows) -> Resul
     Ok(())
 }
 
-/// Adds a TREE index on the second column and drops it: only while it exists are the prefixes of its column kept.
+/// Adds a TREE index on the second column and drops it. The prefixes of its column are kept only while the index exists.
 fn add_and_drop_tree(
     rt: &(impl Abort + AllocGlobal),
     table: &mut IndexedRows,
@@ -124,7 +124,7 @@ fn add_and_drop_tree(
     Ok(())
 }
 
-/// Both of these, in a new table.
+/// Makes both tests in a new table.
 fn use_texts(rt: &(impl Abort + AllocGlobal)) -> Result<(), AllocError> {
     let mut table = texts_of(rt.alloc())?;
     find_texts(rt, &mut table)?;

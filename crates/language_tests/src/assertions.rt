@@ -1,4 +1,4 @@
-//! What tests assert, proved once and not at each place that asks.
+//! Assertions of tests, proved once instead of at each use.
 ghost use Rattle.std.specs.Prelude.{◌≡◌, true};
 
 use std::fmt::Debug;

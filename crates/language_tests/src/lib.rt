@@ -1,6 +1,6 @@
-//! Tests of the language and its meaning, from names to whole runs: of what no contract says.
+//! Tests of the language and its meaning, from names to whole runs, for what no contract states.
 //!
-//! They stand apart from the crates that they test, since a crate with tests is proved twice.
+//! The tests have a crate of their own, since a crate with tests is proved twice.
 #![tactic(auto)]
 
 #[cfg(test)]

@@ -1,4 +1,4 @@
-//! Where in a line a person may look for what refused it.
+//! The places in a line that error messages show.
 use crate::assertions::assert_same;
 use mm_lang::{names_in, place_of_limit, place_of_syntax_error};
 use std::process::Abort;

@@ -8,7 +8,7 @@ use mm_schema::NameRef;
 use mm_value::{Refusal, Row, Value};
 use std::process::Abort;
 
-/// Rows of two whole numbers each.
+/// Returns rows of two whole numbers each.
 fn pairs(rt: &(impl Abort + AllocGlobal), pairs: &[(i64, i64)]) -> Vec<Row> {
     let mut rows = Vec::new(rt.alloc());
     for (first, second) in pairs {
@@ -20,7 +20,7 @@ fn pairs(rt: &(impl Abort + AllocGlobal), pairs: &[(i64, i64)]) -> Vec<Row> {
     rows
 }
 
-/// A query that is bound.
+/// Returns a query that is bound.
 fn bound(rt: &(impl Abort + AllocGlobal), query: Query<'_>) -> BoundQuery {
     let catalog = catalog(rt);
     bind_query(rt.alloc(), &catalog, query)
@@ -28,14 +28,14 @@ fn bound(rt: &(impl Abort + AllocGlobal), query: Query<'_>) -> BoundQuery {
         .query
 }
 
-/// Adds the rows of a table, once more where memory was refused.
+/// Adds the rows of a table. Repeats this once if an allocation fails.
 fn add<'a>(rt: &impl Abort, rows: &mut PlainRows<'a>, table: &'a [Row]) {
     if rows.add(table).is_err() {
         let _ = rows.add(table).ok().expect(rt, "memory");
     }
 }
 
-/// The bag of a query over the rows of its tables, asked again where memory was refused.
+/// Returns the multiset of a query's rows over the rows of its tables. Repeats this once if an allocation fails.
 fn bag(rt: &(impl Abort + AllocGlobal), query: &BoundQuery, rows: &PlainRows<'_>) -> Vec<Row> {
     match plain_eval(rt.alloc(), query, rows) {
         Err(Refusal::Memory) => plain_eval(rt.alloc(), query, rows).expect(rt, "rows"),
@@ -43,7 +43,7 @@ fn bag(rt: &(impl Abort + AllocGlobal), query: &BoundQuery, rows: &PlainRows<'_>
     }
 }
 
-/// The bag of a query over the rows of one table or of two.
+/// Returns the multiset of a query's rows over the rows of one table or of two.
 fn found(
     rt: &(impl Abort + AllocGlobal),
     query: &BoundQuery,
@@ -58,7 +58,7 @@ fn found(
     bag(rt, query, &rows)
 }
 
-/// The whole number in a column of a row.
+/// Returns the whole number in a column of a row.
 fn number_in(row: &Row, column: usize) -> Option<i64> {
     match row.values().get(column) {
         Some(Value::Int(number)) => Some(*number),
@@ -66,13 +66,13 @@ fn number_in(row: &Row, column: usize) -> Option<i64> {
     }
 }
 
-/// Tests that a row has these whole numbers in its first two columns.
+/// Asserts that a row has these whole numbers in its first two columns.
 fn expect_row(rt: &impl Abort, row: &Row, first: i64, second: Option<i64>) {
     assert_same(rt, number_in(row, 0), Some(first));
     assert_same(rt, number_in(row, 1), second);
 }
 
-/// Tests that the rows are these, of one or two whole numbers.
+/// Asserts that the rows are these, of one or two whole numbers.
 fn expect_rows(rt: &impl Abort, rows: &[Row], expected: &[(i64, Option<i64>)]) {
     assert_same(rt, rows.len(), expected.len());
     for (row, (first, second)) in rows.iter().zip(expected) {
@@ -80,7 +80,7 @@ fn expect_rows(rt: &impl Abort, rows: &[Row], expected: &[(i64, Option<i64>)]) {
     }
 }
 
-/// Tests the bag of a query over the rows of one table or of two.
+/// Asserts the multiset of a query's rows over the rows of one table or of two.
 fn expect_found(
     rt: &(impl Abort + AllocGlobal),
     query: &BoundQuery,
@@ -91,7 +91,7 @@ fn expect_found(
     expect_rows(rt, &found(rt, query, first, second), expected);
 }
 
-/// The query where the field `a.k` compares so with another.
+/// Returns the query that compares the field `a.k` in this way with another.
 fn asked<'l>(
     rt: &(impl Abort + AllocGlobal),
     query: Query<'l>,
@@ -101,7 +101,7 @@ fn asked<'l>(
     with_atom(rt, query, field(rt, b"a", b"k"), comparison, right)
 }
 
-/// The query of each two rows of a table that have the same k.
+/// Returns the query of all pairs of rows of a table with the same k.
 fn twice(rt: &(impl Abort + AllocGlobal)) -> Query<'static> {
     let pairs = query(
         rt,
@@ -133,7 +133,7 @@ fn adds_shifts_without_bound(rt: HostRuntime) {
     expect_found(&rt, &all, &rows, None, &[(1, None), (2, None)]);
 }
 
-/// The query of the keys of each row of t and each of u.
+/// Returns the query of the keys of all pairs of a row of t and a row of u.
 fn both(rt: &(impl Abort + AllocGlobal)) -> Query<'static> {
     query(
         rt,
@@ -142,7 +142,7 @@ fn both(rt: &(impl Abort + AllocGlobal)) -> Query<'static> {
     )
 }
 
-/// The field v of u.
+/// Returns the field v of u.
 fn v(rt: &impl Abort) -> Operand<FieldName<NameRef<'static>>> {
     Operand::Column(field(rt, b"b", b"v"))
 }
@@ -177,7 +177,7 @@ fn joins_by_equal_and_by_bounds(rt: HostRuntime) {
     joins_by_bounds(&rt, &t, &u);
 }
 
-/// The query of the rows of t whose key is greater by nine than the key 1 of u.
+/// Returns the query of the rows of t whose key is greater by nine than the key 1 of u.
 fn nine_more(rt: &(impl Abort + AllocGlobal)) -> Query<'static> {
     let both = query(rt, &[(b"u", b"b"), (b"t", b"a")], &[(b"a", b"id")]);
     let nine_more = Operand::Shifted(field(rt, b"b", b"id"), 9);
@@ -210,7 +210,7 @@ fn joins_by_a_shift(rt: HostRuntime) {
     );
 }
 
-/// The row of s with the key 1, of 3 and a text.
+/// Returns the row of s with the key 1, the number 3 and a text.
 fn row_with_text(rt: &(impl Abort + AllocGlobal)) -> Row {
     let mut values = Vec::new(rt.alloc());
     put(rt, &mut values, Value::Int(1));
@@ -219,14 +219,14 @@ fn row_with_text(rt: &(impl Abort + AllocGlobal)) -> Row {
     Row::new(values)
 }
 
-/// The rows that the query of the texts and keys of the rows whose k is 3 finds among these.
+/// Returns the rows of the query for the texts and keys of those rows whose k is 3.
 fn found_with_three(rt: &(impl Abort + AllocGlobal), rows: &[Row]) -> Vec<Row> {
     let all = query(rt, &[(b"s", b"a")], &[(b"a", b"s"), (b"a", b"id")]);
     let one = bound(rt, asked(rt, all, Comparison::Equal, number(3)));
     found(rt, &one, rows, None)
 }
 
-/// Tests that a row has the text and then the key 1.
+/// Asserts that a row has the text and then the key 1.
 fn expect_text(rt: &impl Abort, row: &Row) {
     assert_same(rt, number_in(row, 1), Some(1));
     let shown = row.values().first().expect(rt, "a value");

@@ -1,10 +1,10 @@
-//! Growth that is asked for twice.
+//! Pushes that are repeated after a failed allocation.
 ghost use Rattle.std.specs.Prelude.{◌≡◌, ◌++◌, ◌∷◌, [], IfErr, OnErr, OnOk};
 
 use std::alloc::AllocFailed;
 
-/// Puts an item at the end, and once more where memory was refused, as it is for each growth in turn when a test is run
-/// with refusals. `AllocFailed` where it is refused both times; then it gives the item back, and the items are as before.
+/// Appends an item, and tries once more if an allocation fails, as each does in turn when a test runs with failing allocations. Fails with
+/// `AllocFailed` if the second allocation fails too; then returns the item in the error, and the items are unchanged.
 pub fn put_again<T>(items: &mut Vec<T>, item: T) -> Result<(), AllocFailed<T>>
     ensures ok { OnOk result (items.new.items ≡ items.old.items ++ item ∷ []) }
     ensures err { OnErr result (items.new.items ≡ items.old.items) }

@@ -1,4 +1,4 @@
-//! What lines read as.
+//! The commands that lines read as.
 use crate::assertions::assert_same;
 use mm_lang::parse;
 use mm_query::Command;
@@ -7,7 +7,7 @@ use mm_value::Refusal;
 use std::process::Abort;
 use std::test::Fail;
 
-/// The name of the savepoint that a command makes or goes back to, and whether it goes back.
+/// Returns the name of the savepoint that a command sets or rolls back to, and whether it rolls back.
 fn savepoint_of<'c>(command: &'c Command<'_>) -> Option<(&'c Name, bool)> {
     match command {
         Command::Savepoint(name) => Some((name, false)),
@@ -16,7 +16,7 @@ fn savepoint_of<'c>(command: &'c Command<'_>) -> Option<(&'c Name, bool)> {
     }
 }
 
-/// Tests that the command of a line makes the savepoint of a name, or goes back to it.
+/// Asserts that the command of a line sets the savepoint with a name, or rolls back to it.
 fn expect_savepoint(
     rt: &impl Abort,
     command: &Command<'_>,
@@ -30,7 +30,7 @@ fn expect_savepoint(
     Ok(())
 }
 
-/// Tests the same of the line.
+/// Asserts the same for a line.
 fn expect_savepoint_of(
     rt: &(impl Abort + AllocGlobal),
     line: &[u8],
@@ -39,7 +39,7 @@ fn expect_savepoint_of(
 ) -> Result<(), Fail> {
     let command = parse(rt.alloc(), line)?;
     let outcome = expect_savepoint(rt, &command, line, name, goes_back);
-    // A call lets it go, which is proved once.
+    // Dropped in a call, so that this is proved once.
     drop(command);
     outcome
 }
@@ -52,7 +52,7 @@ fn savepoints_have_names(rt: HostRuntime) -> Result<(), Fail> {
     expect_savepoint_of(&rt, b" ROLLBACK\tTO  savepoint", b"savepoint", true)
 }
 
-/// Tests that a line is no command.
+/// Asserts that a line is no command.
 fn expect_no_command(rt: &(impl Abort + AllocGlobal), line: &[u8]) {
     let read = parse(rt.alloc(), line);
     let is_refused = matches!(read, Err(Refusal::Syntax));

@@ -1,4 +1,4 @@
-//! Replies as they are written.
+//! The text of replies.
 use crate::assertions::{assert_same, assert_that};
 use mm_lang::write_reply;
 use mm_query::{Reply, RowList};
@@ -14,7 +14,7 @@ fn two_rows(alloc: Global) -> Result<RowList, AllocError> {
     Ok(RowList::new(Few::from_vec(rows)))
 }
 
-/// Tests what a reply is written as.
+/// Asserts the text of a reply.
 fn expect_written(rt: &(impl Abort + AllocGlobal), reply: &Reply, text: &str) -> Result<(), Fail> {
     let mut written: Vec<u8> = Vec::new(rt.alloc());
     write_reply(reply, &mut Watched::new(&mut written))?;
@@ -22,10 +22,10 @@ fn expect_written(rt: &(impl Abort + AllocGlobal), reply: &Reply, text: &str) ->
     Ok(())
 }
 
-/// Tests the same of a reply that is given away.
+/// Asserts the text of a reply that is passed by value.
 fn expect_text(rt: &(impl Abort + AllocGlobal), reply: Reply, text: &str) -> Result<(), Fail> {
     let outcome = expect_written(rt, &reply, text);
-    // A call lets it go, which is proved once.
+    // Dropped in a call, so that this is proved once.
     drop(reply);
     outcome
 }
@@ -44,7 +44,7 @@ fn writes_each_reply(rt: HostRuntime) -> Result<(), Fail> {
     expect_text(&rt, refused, "error 53 no such savepoint\n")
 }
 
-/// Tests that rows are written up to the end of a device of four bytes.
+/// Asserts that rows are written up to the end of a device of four bytes.
 fn expect_stop(rt: &impl Abort, rows: RowList) {
     let mut room = [0; 4];
     let mut writer = Watched::new(&mut room[..]);

@@ -1,5 +1,5 @@
-//! What no clause says: worked runs with their replies, devices that fail or take little, and that ample memory is
-//! never refused.
+//! Runs, for what no contract states: worked runs with their replies, devices that fail or accept little, and that ample memory never
+//! fails.
 use crate::assertions::{assert_same, assert_that};
 use mm_value::Watched;
 use mmdb_core::{Limits, MAX_MAX_INPUT, RunError, Totals, exit_status, run};
@@ -9,7 +9,7 @@ use std::io::{Read, Write};
 use std::process::Abort;
 use std::test::Fail;
 
-// Gives at most `step` bytes a call, and after the last one an error where it `breaks`.
+// Returns at most `step` bytes per call, and after the last one an error if it `breaks`.
 #[derive(Drop)]
 struct Source<'a> {
     left: &'a [u8],
@@ -30,7 +30,7 @@ impl Read for Source<'_> {
     }
 }
 
-// Takes at most `step` bytes a call and `room` in all, and then answers an error, or takes 0 where it `is_silent`.
+// Accepts at most `step` bytes per call and `room` in all. After that, returns an error, or 0 if it `is_silent`.
 #[derive(Drop)]
 struct Sink {
     taken: Vec<u8>,
@@ -59,7 +59,7 @@ impl Write for Sink {
     }
 }
 
-// Interrupts each read or write `calls` times in a row and each flush `flushes` times, before it is done.
+// Interrupts each read or write `calls` times in a row, and each flush `flushes` times, before it succeeds.
 #[derive(Drop)]
 struct Interrupted<D> {
     device: D,
@@ -107,12 +107,12 @@ impl<W: Write> Write for Interrupted<W> {
     }
 }
 
-// A step within which each script of these tests is taken at once.
+// A step within which each script of these tests is read at once.
 const WHOLE: usize = 1_000_000;
 
 const NO_RUN: &str = "no such limit";
 
-// How a run ended, and what its writer had then.
+// The end of a run, and the contents of its writer then.
 #[derive(Drop)]
 struct Ran {
     ended: Result<Totals, RunError>,
@@ -144,7 +144,7 @@ impl Ran {
     }
 }
 
-// A run whose writer takes as many bytes a call as its reader gives.
+// Runs a source with a writer that accepts as many bytes per call as the reader returns.
 fn run_source(alloc: Global, source: Source, room: usize, max_input: u64) -> Option<Ran> {
     let limits = Limits::new(max_input)?;
     let mut sink = Sink {
@@ -166,7 +166,7 @@ fn run_input(alloc: Global, left: &[u8], step: usize, max_input: u64) -> Option<
     run_source(alloc, Source { left, step, breaks }, WHOLE, max_input)
 }
 
-// Inputs with their replies, how many lines each has, and how many of them are refused.
+// Inputs with their replies, the number of lines of each, and how many of them are refused.
 const ANSWERED: [(&[u8], &[u8], u64, u64); 6] = [
     (b"", b"", 0, 0),
     (
@@ -201,7 +201,7 @@ const ANSWERED: [(&[u8], &[u8], u64, u64); 6] = [
     ),
 ];
 
-// Tests what a run of an input writes and counts.
+// Asserts the output and the counts of a run of an input.
 fn expect_answers(
     rt: &(impl Abort + AllocGlobal),
     input: &[u8],
@@ -236,7 +236,7 @@ fn each_reply_is_flushed(rt: HostRuntime) -> Result<(), Fail> {
     Ok(())
 }
 
-// Fills an input with a first line of so many blanks and an end, and a line that makes a table.
+// Fills an input with a first line of `blanks` blanks and an end, and a line that creates a table.
 fn fill(input: &mut Vec<u8>, blanks: usize, end: &[u8]) -> Result<(), Fail> {
     input.resize(blanks, b' ')?;
     input.extend_from_slice(end)?;
@@ -244,7 +244,7 @@ fn fill(input: &mut Vec<u8>, blanks: usize, end: &[u8]) -> Result<(), Fail> {
     Ok(())
 }
 
-// Tests what a run of an input with a line of so many blanks writes and counts.
+// Asserts the output and the counts of a run of an input with a line of `blanks` blanks.
 fn expect_long_line(
     rt: &(impl Abort + AllocGlobal),
     input: &[u8],
@@ -259,7 +259,7 @@ fn expect_long_line(
     Ok(())
 }
 
-// Tests the same of a line of so many blanks and an end.
+// Asserts the same for a line of that many blanks and an end.
 fn expect_long_line_with(
     rt: &(impl Abort + AllocGlobal),
     blanks: usize,
@@ -320,7 +320,7 @@ const SCRIPT: &[u8] = b"TABLE t (id INT KEY)\nINSERT t (2), (1)\nSCAN t\n";
 
 const OUTPUT: &[u8] = b"ok\nok 2\n(1)\n(2)\nrows 2\n";
 
-// The replies to the whole lines in so many bytes of the script.
+// Returns the replies to the whole lines in the first `given` bytes of the script.
 fn replies_to(given: usize) -> &'static [u8] {
     match given {
         0..=20 => b"",
@@ -330,7 +330,7 @@ fn replies_to(given: usize) -> &'static [u8] {
     }
 }
 
-// Tests a run whose reader fails behind so many bytes of the script.
+// Asserts the result of a run whose reader fails after this many bytes of the script.
 fn expect_read_fault(
     rt: &(impl Abort + AllocGlobal),
     given: usize,
@@ -355,7 +355,7 @@ fn a_read_fault_leaves_the_replies_of_whole_lines(rt: HostRuntime) -> Result<(),
     Ok(())
 }
 
-// Tests a run whose writer fails behind so many bytes of the output.
+// Asserts the result of a run whose writer fails after this many bytes of the output.
 fn expect_write_fault(
     rt: &(impl Abort + AllocGlobal),
     room: usize,
@@ -402,7 +402,7 @@ fn a_writer_that_takes_nothing_ends_a_run(rt: HostRuntime) -> Result<(), Fail> {
     Ok(())
 }
 
-// A run whose reads, writes and flushes are each interrupted so many times in a row.
+// Runs the script with reads, writes and flushes that are each interrupted this many times in a row.
 fn run_interrupted(alloc: Global, reads: u32, writes: u32, flushes: u32) -> Option<Ran> {
     let limits = Limits::new(1_000)?;
     let mut sink = Sink {
@@ -419,7 +419,7 @@ fn run_interrupted(alloc: Global, reads: u32, writes: u32, flushes: u32) -> Opti
     Some(Ran { ended, sink })
 }
 
-// Tests that sixteen interrupts in a row of each call change nothing.
+// Asserts that sixteen interrupts in a row of each call change nothing.
 fn expect_borne(rt: &(impl Abort + AllocGlobal)) -> Result<(), Fail> {
     let borne = run_interrupted(rt.alloc(), 16, 16, 16).ok_or(NO_RUN)?;
     assert_that(rt, borne.wrote(OUTPUT));
@@ -427,7 +427,7 @@ fn expect_borne(rt: &(impl Abort + AllocGlobal)) -> Result<(), Fail> {
     Ok(())
 }
 
-// Tests that seventeen interrupts in a row of a read end a run.
+// Asserts that seventeen interrupts in a row of a read end a run.
 fn expect_unread(rt: &(impl Abort + AllocGlobal)) -> Result<(), Fail> {
     let unread = run_interrupted(rt.alloc(), 17, 0, 0).ok_or(NO_RUN)?;
     assert_that(rt, unread.wrote(b""));
@@ -435,7 +435,7 @@ fn expect_unread(rt: &(impl Abort + AllocGlobal)) -> Result<(), Fail> {
     Ok(())
 }
 
-// Tests that so many interrupts in a row of writes and of flushes end a run behind these replies.
+// Asserts that this many interrupts in a row of writes and of flushes end a run after these replies.
 fn expect_unwritten(
     rt: &(impl Abort + AllocGlobal),
     writes: u32,
@@ -459,7 +459,7 @@ fn interrupted_calls_are_made_again(rt: HostRuntime) -> Result<(), Fail> {
 // Two lines of 7 bytes each, which are refused.
 const TWO_SCANS: &[u8] = b"SCAN t\nSCAN t\n";
 
-// Tests that a limit between two lines ends a run.
+// Asserts that a limit between two lines ends a run.
 fn expect_cut(rt: &(impl Abort + AllocGlobal), step: usize) -> Result<(), Fail> {
     let cut = run_input(rt.alloc(), TWO_SCANS, step, 10).ok_or(NO_RUN)?;
     assert_that(rt, cut.wrote(b"error 20 no such table\n"));
@@ -468,7 +468,7 @@ fn expect_cut(rt: &(impl Abort + AllocGlobal), step: usize) -> Result<(), Fail> 
     Ok(())
 }
 
-// Tests that a limit at the end of an input does not end a run.
+// Asserts that a limit at the end of an input does not end a run.
 fn expect_whole(rt: &(impl Abort + AllocGlobal), step: usize) -> Result<(), Fail> {
     let whole = run_input(rt.alloc(), TWO_SCANS, step, 14).ok_or(NO_RUN)?;
     assert_that(

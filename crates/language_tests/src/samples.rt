@@ -10,12 +10,12 @@ pub fn name(rt: &impl Abort, bytes: &[u8]) -> Name {
     Name::new(bytes).expect(rt, "a name")
 }
 
-/// Puts an item at the end, and again where memory was refused.
+/// Appends an item, and tries once more if an allocation fails.
 pub fn put<T: Drop>(rt: &impl Abort, items: &mut Vec<T>, item: T) {
     let _ = put_again(items, item).ok().expect(rt, "memory");
 }
 
-/// A table of these columns, of which the first is the key.
+/// Returns a table of these columns, the first of which is the key.
 fn table(rt: &(impl Abort + AllocGlobal), bytes: &[u8], columns: &[(&[u8], ColType)]) -> TableDef {
     let mut items = Vec::new(rt.alloc());
     for (i, (bytes, col_type)) in columns.iter().enumerate() {
@@ -32,7 +32,7 @@ fn table(rt: &(impl Abort + AllocGlobal), bytes: &[u8], columns: &[(&[u8], ColTy
     }
 }
 
-/// Adds a table, and again where memory was refused.
+/// Adds a table, and tries once more if an allocation fails.
 fn add(
     rt: &(impl Abort + AllocGlobal),
     catalog: &mut Catalog,
@@ -48,7 +48,7 @@ fn add(
     }
 }
 
-/// A catalog of the tables t (id, k), u (id, v) and s (id, k, s) of whole numbers, but for s.s of texts.
+/// Returns a catalog of the tables t (id, k), u (id, v) and s (id, k, s). All columns are whole numbers, except the text s.s.
 pub fn catalog(rt: &(impl Abort + AllocGlobal)) -> Catalog {
     let mut catalog = Catalog::new(rt.alloc());
     let int = ColType::Int;
@@ -83,7 +83,7 @@ pub fn text(rt: &(impl Abort + AllocGlobal), bytes: &[u8]) -> Value {
     Value::Text(Text::new(rt.alloc(), bytes).expect(rt, "a text"))
 }
 
-/// A query of these tables and fields, with no atoms and no ORDER.
+/// Returns a query of these tables and fields, without atoms and ORDER.
 pub fn query<'l>(
     rt: &(impl Abort + AllocGlobal),
     from: &[(&[u8], &[u8])],
@@ -110,7 +110,7 @@ pub fn query<'l>(
     }
 }
 
-/// The query with one more atom.
+/// Returns the query with one more atom.
 pub fn with_atom<'l>(
     rt: &(impl Abort + AllocGlobal),
     query: Query<'l>,

@@ -1,4 +1,4 @@
-//! What lines with holes read as.
+//! The commands that lines with holes read as.
 use crate::assertions::assert_same;
 use mm_lang::{parse, prepare};
 use mm_query::{Assignment, Command, Mutation, Operand};
@@ -7,16 +7,16 @@ use mm_value::{Refusal, Value};
 use std::process::Abort;
 use std::test::Fail;
 
-/// Tests of which literals of a line are holes, in written order.
+/// Asserts which literals of a line are holes, in written order.
 fn expect_holes(rt: &(impl Abort + AllocGlobal), line: &[u8], holes: &[bool]) -> Result<(), Fail> {
     let template = prepare(rt.alloc(), line)?;
     assert_same(rt, template.holes.as_slice(), holes);
-    // A call lets it go, which is proved once.
+    // Dropped in a call, so that this is proved once.
     drop(template);
     Ok(())
 }
 
-/// Tests that a line with holes is refused so.
+/// Asserts that a line with holes is refused with this refusal.
 fn expect_refused(rt: &(impl Abort + AllocGlobal), line: &[u8], refusal: Refusal) {
     let read = prepare(rt.alloc(), line);
     let is_refused = matches!(read, Err(found) if found == refusal);
@@ -24,7 +24,7 @@ fn expect_refused(rt: &(impl Abort + AllocGlobal), line: &[u8], refusal: Refusal
     assert!(rt; is_refused, "at {line:?}");
 }
 
-/// Tests that a line is no command of a script.
+/// Asserts that a line is no command of a script.
 fn expect_no_command(rt: &(impl Abort + AllocGlobal), line: &[u8]) {
     let read = parse(rt.alloc(), line);
     let is_refused = matches!(read, Err(Refusal::Syntax));
@@ -135,7 +135,7 @@ fn plain_lines_have_no_holes(rt: HostRuntime) {
     expect_no_command(&rt, b"BEGIN ?");
 }
 
-/// The assignments of an UPDATE.
+/// Returns the assignments of an UPDATE.
 fn assignments<'c, 'l>(command: &'c Command<'l>) -> Option<&'c [Assignment<NameRef<'l>>]> {
     match command {
         Command::Change(Mutation::Update { assignments, .. }) => Some(assignments.as_slice()),
@@ -143,7 +143,7 @@ fn assignments<'c, 'l>(command: &'c Command<'l>) -> Option<&'c [Assignment<NameR
     }
 }
 
-/// The number that stands in an assignment: a literal, or that of a shift.
+/// Returns the number of an assignment: a literal, or that of a shift.
 fn number_in(assignment: &Assignment<NameRef<'_>>) -> Option<i64> {
     match &assignment.source {
         Operand::Literal(Value::Int(number)) => Some(*number),
@@ -152,7 +152,7 @@ fn number_in(assignment: &Assignment<NameRef<'_>>) -> Option<i64> {
     }
 }
 
-/// Tests what number stands in the only assignment of a line.
+/// Asserts the number of the only assignment of a line.
 fn expect_number(rt: &(impl Abort + AllocGlobal), line: &[u8], number: i64) -> Result<(), Fail> {
     let template = prepare(rt.alloc(), line)?;
     let found = assignments(&template.command)

@@ -1,4 +1,4 @@
--- The address rule: what one split changes.
+-- Lemmas about the address rule: what one split changes.
 use Rattle.std.proofs.Common.{◌≡◌, ◌≢◌, ℕ, zero, suc, ◌+◌, ◌-◌, ◌*◌, ◌/◌, ◌%◌, ◌^◌, ◌<◌, ◌≤◌, bit_and, ◌⊎◌, inl, inr, sym, ap, ◌∙◌, subst, arith}
 use Rattle.std.proofs.lemmas.Bool.{cases_eq, cases_lt, lt-ltb, le-ltb, eq-eqb, ne_eqb, cond-true, cond-false}
 use Rattle.std.proofs.lemmas.Nat.{pow_pos, pow-add, and_mask, mod-pow-add, mod_below, shl_whole, pow_below}
@@ -14,7 +14,7 @@ eight_times l = omega (arith, pow-add 2 1 (l + 2), four_times l)
 eight_times' : (l : ℕ) → 2 ^ (l + 3) ≡ 8 * 2 ^ l
 eight_times' l = omega (arith, pow-add 2 l 3)
 
--- a mask takes the remainder
+-- Lemma: a mask computes the remainder.
 pub low_mask : (l h : ℕ) → l < 32 → bit_and h (4 * 2 ^ l % 2 ^ 64 - 1) ≡ h % (4 * 2 ^ l)
 low_mask l h small =
     let e : 4 * 2 ^ l % 2 ^ 64 ≡ 2 ^ (l + 2) = shl_whole 4 3 l 64 (omega arith) (omega arith) ∙ sym (four_times l) in
@@ -30,7 +30,7 @@ once_or_not zero x r t small e = inl (omega arith)
 once_or_not (suc zero) x r t small e = inr (omega arith)
 once_or_not (suc (suc q)) x r t small e = absurd (omega arith)
 
--- the remainder by twice a level's size
+-- Lemma: the remainder by twice a level's size is the remainder by that size, or that plus the size.
 pub mod_double : (l h : ℕ) → (h % (8 * 2 ^ l) ≡ h % (4 * 2 ^ l)) ⊎ (h % (8 * 2 ^ l) ≡ h % (4 * 2 ^ l) + 4 * 2 ^ l)
 mod_double l h =
     let e : h % 2 ^ (1 + (l + 2)) ≡ (h / 2 ^ (l + 2) % 2 ^ 1) * 2 ^ (l + 2) + h % 2 ^ (l + 2) = mod-pow-add h 1 (l + 2) in
@@ -61,7 +61,7 @@ place_after-wraps p e = cond-true _ _ _ (eq-eqb _ _ e)
 pub place_after-steps : (p : Place) → (p.split + 1 ≡ 4 * 2 ^ p.level → ⊥) → place_after p ≡ record { level = p.level; split = p.split + 1 }
 place_after-steps p ne = cond-false _ _ _ (ne_eqb _ _ ne)
 
--- the places count the buckets
+-- Lemma: one more split adds one bucket.
 pub place_after-size : (p : Place) → 4 * 2 ^ (place_after p).level + (place_after p).split ≡ 4 * 2 ^ p.level + p.split + 1
 place_after-size p =
     elim (cases_eq (p.split + 1) (4 * 2 ^ p.level)) [
@@ -83,7 +83,7 @@ next_level l h =
     bucket_whole (record { level = l + 1; split = 0 }) h (omega arith) ∙ ap (λ m. h % m)
     (let e : 4 * 2 ^ (l + 1) ≡ 8 * 2 ^ l = omega (arith, pow-add 2 l 1) in e)
 
--- a hash of the bucket to split has it as its remainder
+-- Lemma: the remainder of a hash in the bucket to split is that bucket.
 low_at_split : (p : Place) (h : ℕ) → p.split < 4 * 2 ^ p.level → bucket_of p h ≡ p.split → h % (4 * 2 ^ p.level) ≡ p.split
 low_at_split p h lt e =
     elim (cases_lt (h % (4 * 2 ^ p.level)) p.split) [
@@ -92,7 +92,7 @@ low_at_split p h lt e =
       | inr le ↦ sym (bucket_whole p h le) ∙ e
     ]
 
--- past a split its bucket's hashes have the remainder by twice the size
+-- Lemma: after the split, a hash of the split bucket has the remainder by twice the size as its bucket.
 pub after_split : (p : Place) (h : ℕ) → p.split < 4 * 2 ^ p.level → bucket_of p h ≡ p.split → bucket_of (place_after p) h ≡ h % (8 * 2 ^ p.level)
 after_split p h lt e =
     let low = low_at_split p h lt e in
@@ -118,7 +118,7 @@ other_steps p h ne =
           (omega (arith, ne', le)) ∙ sym b)
     ]
 
--- and all others keep their bucket
+-- Lemma: every other hash keeps its bucket.
 pub after_other : (p : Place) (h : ℕ) → p.split < 4 * 2 ^ p.level → (bucket_of p h ≡ p.split → ⊥) → bucket_of (place_after p) h ≡ bucket_of p h
 after_other p h lt ne =
     elim (cases_eq (p.split + 1) (4 * 2 ^ p.level)) [
@@ -126,14 +126,14 @@ after_other p h lt ne =
       | inr nw ↦ subst (λ (q : Place). bucket_of q h ≡ bucket_of p h) (sym (place_after-steps p nw)) (other_steps p h ne)
     ]
 
--- the two buckets of a split
+-- Lemma: a split distributes the hashes of a bucket over two buckets.
 pub split_in_two : (p : Place) (h : ℕ) → p.split < 4 * 2 ^ p.level → bucket_of p h ≡ p.split
     → (h % (8 * 2 ^ p.level) ≡ p.split) ⊎ (h % (8 * 2 ^ p.level) ≡ 4 * 2 ^ p.level + p.split)
 split_in_two p h lt e =
     let low = low_at_split p h lt e in
     elim (mod_double p.level h) [ inl d ↦ inl (d ∙ low) | inr d ↦ inr (omega (arith, d, low)) ]
 
--- what had the two buckets of a split had one before it
+-- Lemma: a hash in either bucket of a split was in the split bucket before.
 pub before_in : (p : Place) (h : ℕ) → p.split < 4 * 2 ^ p.level
     → (bucket_of (place_after p) h ≡ p.split) ⊎ (bucket_of (place_after p) h ≡ 4 * 2 ^ p.level + p.split) → bucket_of p h ≡ p.split
 before_in p h lt d =

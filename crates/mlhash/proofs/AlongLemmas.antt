@@ -1,4 +1,4 @@
--- The references of one hash along a chain, one after the other.
+-- Lemmas about the references of one hash along a chain.
 use Rattle.std.proofs.Common.{◌≡◌, ◌≢◌, ℕ, cond, eqb, List, [], ◌∷◌, map, ap, ◌∙◌}
 use Rattle.std.specs.List.{filter}
 use Rattle.std.proofs.lemmas.Bool.{cond-true, cond-false, eq-eqb, ne_eqb}
@@ -16,19 +16,19 @@ refs_along-step : (ns : List Node) (at hash : ℕ) → IsLinked ns at → at ≢
 refs_along-step ns at hash linked on =
     ap (λ is. map (λ n. n.reference) (filter (λ n. eqb n.hash hash) (map (node_at ns) is))) ((chain_step ns at linked on).is)
 
--- a node of this hash is the first
+-- Lemma: if the node at the head has this hash, its reference is the first.
 pub next_along : (ns : List Node) (at hash : ℕ) → IsLinked ns at → at ≢ NIL → (node_at ns at).hash ≡ hash
     → refs_along ns at hash ≡ (node_at ns at).reference ∷ refs_along ns (node_at ns at).next hash
 next_along ns at hash linked on same =
     refs_along-step ns at hash linked on ∙ ap (map (λ n. n.reference)) (cond-true _ _ _ (eq-eqb _ _ same))
 
--- a node of another hash is passed over
+-- Lemma: a node with another hash is skipped.
 pub skip_along : (ns : List Node) (at hash : ℕ) → IsLinked ns at → at ≢ NIL → ((node_at ns at).hash ≡ hash → ⊥)
     → refs_along ns at hash ≡ refs_along ns (node_at ns at).next hash
 skip_along ns at hash linked on other =
     refs_along-step ns at hash linked on ∙ ap (map (λ n. n.reference)) (cond-false _ _ _ (ne_eqb _ _ other))
 
--- past the end there is none
+-- Lemma: there is no reference past the end.
 pub none_along : (ns : List Node) (at hash : ℕ) → IsLinked ns at → at ≡ NIL → refs_along ns at hash ≡ []
 none_along ns at hash linked end =
     ap (λ is. map (λ n. n.reference) (filter (λ n. eqb n.hash hash) (map (node_at ns) is))) (ap (chain ns) end ∙ chain_end ns linked.few)

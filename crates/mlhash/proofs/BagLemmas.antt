@@ -1,4 +1,4 @@
--- The pairs in the nodes: what writes to nodes do to the bag.
+-- Lemmas about the pairs in the nodes: how writes to nodes change the multiset.
 use Rattle.std.proofs.Common.{◌≡◌, ℕ, zero, suc, ◌<◌, Bool, true, false, cond, eqb, ltb, ◌&&◌, inl, inr, List, [], ◌∷◌, ◌++◌, length, map, set}
 use Rattle.std.proofs.Common.{refl, sym, ap, ◌∙◌, subst, arith, length-set, get_or-set_same, get_or-set_other}
 use Rattle.std.specs.List.{filter, count_by, Contains, All}
@@ -19,7 +19,7 @@ use Rattle.mlhash.specs.Table.{entries}
 use Rattle.mlhash.proofs.ChainLemmas.{IsSet}
 
 module _ (q : Node → Bool) where
-  -- a node that fails the test comes in the place of one that passes it
+  -- Lemma: a node that fails the test replaces one that passes it.
   pub filter-set_out : (ns : List Node) (i : ℕ) (n : Node) → i < length ns → q (node_at ns i) ≡ true → q n ≡ false
       → IsPermutation (filter q ns) (node_at ns i ∷ filter q (set ns i n))
   filter-set_out [] i n below was is = absurd (omega arith)
@@ -34,7 +34,7 @@ module _ (q : Node → Bool) where
         | false ↦ rest
       ]
 
-  -- a node that fails the test comes in the place of another
+  -- Lemma: a node that fails the test replaces another one that fails it.
   pub filter-set_none : (ns : List Node) (i : ℕ) (n : Node) → i < length ns → q (node_at ns i) ≡ false → q n ≡ false → filter q (set ns i n) ≡ filter q ns
   filter-set_none [] i n below was is = refl
   filter-set_none (m ∷ ns) zero n below was is =
@@ -42,7 +42,7 @@ module _ (q : Node → Bool) where
   filter-set_none (m ∷ ns) (suc i) n below was is =
       ap (λ xs. cond (q m) (m ∷ xs) xs) (filter-set_none ns i n (omega arith) was is)
 
-  -- a node at the end that fails the test
+  -- Lemma: a node that fails the test is appended.
   pub filter-push_none : (ns : List Node) (n : Node) → q n ≡ false → filter q (ns ++ n ∷ []) ≡ filter q ns
   filter-push_none ns n is =
       filter-append q ns (n ∷ []) ∙ ap (λ xs. filter q ns ++ xs) (cond-false (q n) (n ∷ []) [] is) ∙ append-nil (filter q ns)
@@ -59,7 +59,7 @@ module _ (q : Node → Bool) where
       let e : node_at (set ns at n) i ≡ node_at ns i = get_or-set_other ns at i n blank (λ e. out (inl (sym e))) in
       ap (λ m. m ∷ map (node_at (set ns at n)) is) e ∙ ap (λ ms. node_at ns i ∷ ms) (map_other ns at n is (λ a. out (inr a)))
 
-  -- different places with all nodes that pass have just those nodes
+  -- Lemma: distinct places that contain all nodes that pass contain exactly those nodes.
   pub filter_places : q free_node ≡ false → (is : List ℕ) (ns : List Node) → IsSet is → ((i : ℕ) → Among i is → i < length ns)
       → ((i : ℕ) → i < length ns → q (node_at ns i) ≡ true → Among i is) → IsPermutation (filter q (map (node_at ns) is)) (filter q ns)
   filter_places void [] ns distinct below every =
@@ -85,7 +85,7 @@ module _ (q : Node → Bool) where
             (subst (λ xs. IsPermutation rest xs) (filter-set_none ns i free_node inside f void) kept)
       ]
 
--- the tests
+-- Tests of nodes.
 abbrev pub is_match : ℕ → Node → Bool
 is_match hash n = is_live n && eqb n.hash hash
 
@@ -96,7 +96,7 @@ pair_same m n s =
 pub live_same : (m n : Node) → SameEntry m n → is_live n ≡ is_live m
 live_same m n s = ap (λ r. ltb r.slot FREE.slot) s.reference
 
--- links are no part of the bag
+-- Lemma: links are no part of the multiset.
 pub entries_same : (ns ms : List Node) → length ms ≡ length ns → ((i : ℕ) → SameEntry (node_at ns i) (node_at ms i)) → entries ms ≡ entries ns
 entries_same [] [] size same = refl
 entries_same [] (m ∷ ms) size same = absurd (omega arith)
@@ -116,7 +116,7 @@ entries_same (n ∷ ns) (m ∷ ms) size same =
 pub length-entries : (ns : List Node) → length (entries ns) ≡ count_by is_live ns
 length-entries ns = length-map (filter is_live ns) pair_of ∙ length-filter is_live ns
 
--- no live node has this pair
+-- Lemma: if no live node has this pair, no entry equals it.
 none_held : (ns : List Node) (e : ℕ × RowRef) → ((i : ℕ) → i < length ns → is_live (node_at ns i) ≡ true → pair_of (node_at ns i) ≡ e → ⊥)
     → All (λ x. x ≡ e → ⊥) (entries ns)
 none_held [] e none = All-nil (λ x. x ≡ e → ⊥)
@@ -133,13 +133,13 @@ pub not_held : (ns : List Node) (e : ℕ × RowRef) → ((i : ℕ) → i < lengt
     → Contains (entries ns) e → ⊥
 not_held ns e none c = All-contains (λ x. x ≡ e → ⊥) (entries ns) e (none_held ns e none) c refl
 
--- a live node's pair comes out
+-- Lemma: writing a free node over a live one removes its pair.
 pub entries-set_out : (ns : List Node) (i : ℕ) (n : Node) → i < length ns → is_live (node_at ns i) ≡ true → is_live n ≡ false
     → IsPermutation (entries ns) (pair_of (node_at ns i) ∷ entries (set ns i n))
 entries-set_out ns i n below was is =
     IsPermutation-map pair_of _ _ (filter-set_out is_live ns i n below was is)
 
--- a pair goes into a node that has none
+-- Lemma: writing a live node over a free one inserts its pair.
 pub entries-set_in : (ns : List Node) (i : ℕ) (n : Node) → i < length ns → is_live (node_at ns i) ≡ false → is_live n ≡ true
     → IsPermutation (entries (set ns i n)) (pair_of n ∷ entries ns)
 entries-set_in ns i n below was is =
@@ -155,7 +155,7 @@ pub held : (ns : List Node) (i : ℕ) → i < length ns → is_live (node_at ns 
 held ns i below live =
     Contains-permutation _ _ _ (IsPermutation-sym _ _ (entries-set_out ns i free_node below live refl)) (0, omega arith, refl)
 
--- the references of one hash, from the nodes
+-- Lemma: the references of one hash, computed from the nodes.
 pub refs_of-entries : (hash : ℕ) (ns : List Node) → refs_of hash (entries ns) ≡ map (λ n. n.reference) (filter (is_match hash) ns)
 refs_of-entries hash [] = refl
 refs_of-entries hash (n ∷ ns) =

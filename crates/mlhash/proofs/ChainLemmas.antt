@@ -1,4 +1,4 @@
--- Chains: that the walk finds them, and what writes do to them.
+-- Lemmas about chains: the walk finds them, and what writes change.
 use Rattle.std.proofs.Common.{◌≡◌, ◌≢◌, ℕ, zero, suc, ◌<◌, ◌≤◌, cond, ltb, inl, inr, List, [], ◌∷◌, length, set, refl, sym, ap, ◌∙◌, subst, arith, length-set}
 use Rattle.std.proofs.Common.{get_or-set_same, get_or-set_other}
 use Rattle.std.proofs.lemmas.Bool.{cases_eq, lt-ltb, le-ltb, cond-true, cond-false}
@@ -7,13 +7,13 @@ use Rattle.mlhash.specs.declared.node.TheConstants.{NIL}
 use Rattle.mlhash.specs.Pairs.{blank, node_at}
 use Rattle.mlhash.specs.Chain.{Among, IsChain, walk, chain, IsLinked}
 
--- each node of a chain is there
+-- Lemma: each node of a chain is an index of the list.
 pub Among-below : (ns : List Node) (head : ℕ) (is : List ℕ) → IsChain ns head is → (i : ℕ) → Among i is → i < length ns
 Among-below ns head [] c i a = absurd a
 Among-below ns head (j ∷ js) c i (inl e) = omega (arith, c.1, e)
 Among-below ns head (j ∷ js) c i (inr a) = Among-below ns _ js c.3 i a
 
--- a list of different numbers
+-- A list of distinct numbers.
 abbrev pub IsSet : List ℕ → Type 0
 IsSet [] = Unit {0}
 IsSet (i ∷ is) = (Among i is → ⊥) × IsSet is
@@ -22,7 +22,7 @@ pub IsChain-set : (ns : List Node) (head : ℕ) (is : List ℕ) → IsChain ns h
 IsChain-set ns head [] c = tt
 IsChain-set ns head (i ∷ is) c = (c.2, IsChain-set ns _ is c.3)
 
--- the list with the first k left out
+-- The list without the number k.
 without : ℕ → List ℕ → List ℕ
 without k [] = []
 without k (i ∷ is) = elim (cases_eq i k) [ inl _ ↦ is | inr _ ↦ i ∷ without k is ]
@@ -55,7 +55,7 @@ without_other k (i ∷ is) s j =
     elim (cases_eq i k) as (λ d. Among j (elim d as (λ _. List ℕ) [ inl _ ↦ is | inr _ ↦ i ∷ without k is ]) → j ≡ k → ⊥)
     [ inl e ↦ λ a f. s.0 (subst (λ x. Among x is) (f ∙ sym e) a) | inr ne ↦ λ a f. elim a [ inl e ↦ ne (sym e ∙ f) | inr b ↦ without_other k is s.1 j b f ] ]
 
--- a list of different numbers below n has at most n of them
+-- Lemma: a list of distinct numbers below n has at most n of them.
 set_short : (n : ℕ) (is : List ℕ) → IsSet is → ((i : ℕ) → Among i is → i < n) → length is ≤ n
 set_short zero [] s below = omega arith
 set_short zero (i ∷ is) s below = absurd (let h : i < zero = below i (inl refl) in omega arith)
@@ -67,7 +67,7 @@ set_short (suc n) is s below =
 pub chain_short : (ns : List Node) (head : ℕ) (is : List ℕ) → IsChain ns head is → length is ≤ length ns
 chain_short ns head is c = set_short (length ns) is (IsChain-set ns head is c) (Among-below ns head is c)
 
--- the walk finds a chain
+-- Lemma: the walk finds a chain.
 pub walk_is : (steps : ℕ) (ns : List Node) (head : ℕ) (is : List ℕ) → length ns ≤ NIL → IsChain ns head is → length is ≤ steps → walk steps ns head ≡ is
 walk_is zero ns head [] few c short = refl
 walk_is zero ns head (i ∷ is) few c short = absurd (omega arith)
@@ -94,14 +94,14 @@ chain_end ns few = chain_is ns NIL [] few refl
 pub linked_end : (ns : List Node) → length ns ≤ NIL → IsLinked ns NIL
 linked_end ns few = linked_by ns NIL [] few refl
 
--- a chain stays where its nodes keep their links
+-- Lemma: a chain is unchanged if its nodes keep their links.
 pub IsChain-frame : (ns ms : List Node) (head : ℕ) (is : List ℕ)
     → ((i : ℕ) → Among i is → (i < length ms) × ((node_at ms i).next ≡ (node_at ns i).next)) → IsChain ns head is → IsChain ms head is
 IsChain-frame ns ms head [] same c = c
 IsChain-frame ns ms head (i ∷ is) same c =
     (c.0, (same i (inl refl)).0, c.2, subst (λ h. IsChain ms h is) (sym ((same i (inl refl)).1)) (IsChain-frame ns ms _ is (λ j a. same j (inr a)) c.3))
 
--- a head that isn't the end is a node, and its link leads on
+-- A head that is not the end is a node, and the rest of the chain is linked from it.
 pub record IsStep (ns : List Node) (at : ℕ) : Type 0 where
   pub below : at < length ns
   pub is : chain ns at ≡ at ∷ chain ns (node_at ns at).next
@@ -127,7 +127,7 @@ step_by ns at (i ∷ is) few on e c =
 pub chain_step : (ns : List Node) (at : ℕ) → IsLinked ns at → at ≢ NIL → IsStep ns at
 chain_step ns at linked on = step_by ns at (chain ns at) linked.few on refl linked.links
 
--- the links from a head on are as before
+-- The links from a head on are as before.
 pub record Keeps (ns ms : List Node) (head : ℕ) : Type 0 where
   pub linked : IsLinked ms head
   pub same : chain ms head ≡ chain ns head
@@ -138,7 +138,7 @@ keeps_frame ns ms head few same linked =
     let c = IsChain-frame ns ms head (chain ns head) same linked.links in
     record { linked = linked_by ms head (chain ns head) few c; same = chain_is ms head (chain ns head) few c }
 
--- a write to a node that isn't on the chain
+-- Lemma: a write to a node that is not on the chain keeps it.
 pub keeps_set : (ns : List Node) (at : ℕ) (n : Node) (head : ℕ) → (Among at (chain ns head) → ⊥) → IsLinked ns head → Keeps ns (set ns at n) head
 keeps_set ns at n head apart linked =
     keeps_frame ns (set ns at n) head (omega (arith, length-set ns at n, linked.few))
@@ -148,7 +148,7 @@ keeps_set ns at n head apart linked =
           (get_or-set_other ns at i n blank (λ e. apart (subst (λ k. Among k (chain ns head)) e a))),
     )) linked
 
--- a node put in front of a chain
+-- A node was prepended to a chain.
 pub record Fronts (ns ms : List Node) (head at : ℕ) : Type 0 where
   pub linked : IsLinked ms at
   pub is : chain ms at ≡ at ∷ chain ns head

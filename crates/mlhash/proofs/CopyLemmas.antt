@@ -1,4 +1,4 @@
--- The pass over all nodes that copies the references.
+-- Lemmas about the pass over all nodes that copies the references.
 use Rattle.std.proofs.Common.{◌≡◌, ℕ, ◌+◌, ◌<◌, ◌≤◌, Bool, true, false, cond, List, [], ◌∷◌, ◌++◌, length, map, take, drop, sym, ap, ◌∙◌, arith, append_assoc}
 use Rattle.std.specs.List.{filter, count_by}
 use Rattle.std.proofs.lemmas.Bool.{cond-true, cond-false}
@@ -13,7 +13,7 @@ use Rattle.mlhash.specs.Pairs.{blank, is_live, node_at}
 use Rattle.mlhash.specs.Table.{entries}
 use Rattle.mlhash.proofs.BagLemmas.{all_refs-entries}
 
--- the references of the nodes so far are copied, and there is room for the others
+-- The references of the nodes visited so far are copied, and there is capacity for the others.
 pub record IsCopying (ns : List Node) (i : ℕ) (old out : List RowRef) (len capacity : ℕ) : Type 0 where
   pub so_far : out ≡ old ++ map (λ n. n.reference) (filter is_live (take i ns))
   pub room : len + count_by is_live (drop i ns) ≤ capacity

@@ -1,4 +1,4 @@
--- A chain dealt out onto two.
+-- Lemmas about a chain that is distributed over two chains.
 use Rattle.std.proofs.Common.{◌≡◌, ◌≢◌, ℕ, ◌<◌, true, false, eqb, bit_and, inl, inr, List, [], length, set, refl, sym, ap, ◌∙◌, subst, arith, length-set}
 use Rattle.std.proofs.Common.{get_or-set_same, get_or-set_other}
 use Rattle.std.proofs.lemmas.Bool.{cases_eq}
@@ -11,7 +11,7 @@ use Rattle.mlhash.proofs.ChainLemmas.{chain_end, linked_end, chain_step, keeps_s
 pub among_along : (i : ℕ) (is js : List ℕ) → is ≡ js → Among i is → Among i js
 among_along i is js e a = subst (λ ks. Among i ks) e a
 
--- a node that keeps its entry
+-- Lemma: a write that keeps the node's entry keeps all entries.
 pub SameEntry-set : (ns : List Node) (at : ℕ) (n : Node) → SameEntry (node_at ns at) n → (i : ℕ) → at < length ns
     → SameEntry (node_at ns i) (node_at (set ns at n) i)
 SameEntry-set ns at n same i below =
@@ -143,7 +143,7 @@ IsDealing-leave ns from mask stay onto ms at staying leaving on test s =
       all_onto = λ i a. among_along i _ _ (sym ks.same) (s.all_onto i a);
     }
 
--- the rest of the chain gets shorter
+-- Lemma: the rest of the chain gets shorter.
 pub deal_falls : (ms : List Node) (at : ℕ) (n : Node) → IsLinked ms at → at ≢ NIL → length (chain (set ms at n) (node_at ms at).next) < length (chain ms at)
 deal_falls ms at n linked on =
     let t = chain_step ms at linked on in

@@ -1,4 +1,4 @@
--- The walk along a chain that looks for a pair.
+-- Lemmas about the walk along a chain that searches a pair.
 use Rattle.std.proofs.Common.{◌≡◌, ◌≢◌, ℕ, ◌<◌, inl, inr, List, length, refl, sym, ap, ◌∙◌, subst, arith}
 use Rattle.mm_value.specs.declared.row_ref.RowRef.{RowRef}
 use Rattle.mlhash.specs.declared.node.Node.{Node}
@@ -7,7 +7,7 @@ use Rattle.mlhash.specs.Pairs.{node_at, pair_of}
 use Rattle.mlhash.specs.Chain.{Among, chain, IsLinked, Finds}
 use Rattle.mlhash.proofs.ChainLemmas.{chain_end, chain_step}
 
--- the rest of the chain is from `at` on, and what came before it has another pair
+-- The rest of the chain begins at `at`, and the nodes before it have other pairs.
 pub record IsFinding (ns : List Node) (head hash : ℕ) (reference : RowRef) (at : ℕ) : Type 0 where
   pub linked : IsLinked ns at
   pub within : (i : ℕ) → Among i (chain ns at) → Among i (chain ns head)
@@ -28,7 +28,7 @@ IsFinding-more ns head hash reference at on other s =
           [ inl same ↦ absurd (other (subst (λ k. pair_of (node_at ns k) ≡ (hash, reference)) same e)) | inr rest ↦ rest ];
     }
 
--- the rest of the chain gets shorter
+-- Lemma: the rest of the chain gets shorter.
 pub chain_falls : (ns : List Node) (at : ℕ) → IsLinked ns at → at ≢ NIL → length (chain ns (node_at ns at).next) < length (chain ns at)
 chain_falls ns at linked on =
     let t = chain_step ns at linked on in

@@ -1,4 +1,4 @@
--- The references along a chain are those that the bag has of the hash.
+-- Lemmas: the references of a hash along its bucket's chain are those of the multiset.
 use Rattle.std.proofs.Common.{◌≡◌, ℕ, eqb, List, map, refl, sym, ap, ◌∙◌, subst}
 use Rattle.std.specs.List.{filter}
 use Rattle.std.specs.List.Sorted.{IsPermutation}
@@ -28,7 +28,7 @@ refs_along-all ns p head b hash b_is k =
     (subst (λ rs. IsPermutation (map (λ n. n.reference) (filter (is_match hash) (map (node_at ns) is))) rs) (sym (refs_of-entries hash ns))
     (IsPermutation-map (λ n. n.reference) _ _ places))
 
--- what is left of the references of a hash is what the bag has of it
+-- Lemma: an iterator over the references of a hash, at its start, has exactly those of the multiset.
 pub matching_all : (ns : List Node) (p : Place) (head b hash : ℕ) (xs : List Node) (refs : List RowRef) (es : List (ℕ × RowRef))
     → b ≡ bucket_of p hash → IsBucket ns p head b → xs ≡ ns → entries ns ≡ es → refs ≡ refs_along xs head hash → IsPermutation refs (refs_of hash es)
 matching_all ns p head b hash xs refs es b_is k same bag e =

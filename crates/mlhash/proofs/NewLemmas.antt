@@ -1,4 +1,4 @@
--- The empty table.
+-- Lemmas about the empty table.
 use Rattle.std.proofs.Common.{◌≡◌, ℕ, zero, suc, ◌<◌, List, [], ◌∷◌, length, get_or, refl, sym, ap, subst, arith}
 use Rattle.mlhash.specs.declared.node.Node.{Node}
 use Rattle.mlhash.specs.declared.node.TheConstants.{NIL}

@@ -1,4 +1,4 @@
--- What a split and a merge do to the table.
+-- Lemmas about splits and merges.
 use Rattle.std.proofs.Common.{◌≡◌, ◌≢◌, ℕ, ◌+◌, ◌-◌, ◌*◌, ◌%◌, ◌^◌, ◌<◌, ◌≤◌, true, false, bit_and, inl, inr, List, [], ◌∷◌, ◌++◌, length, set, take, get_or}
 use Rattle.std.proofs.Common.{sym, ap, ◌∙◌, subst, arith, length-set, length-append, get_or-set_same, get_or-set_other}
 use Rattle.std.specs.List.{count_by}
@@ -18,20 +18,20 @@ use Rattle.mlhash.proofs.BagLemmas.{live_same, entries_same, length-entries}
 use Rattle.mlhash.proofs.ChainLemmas.{chain_end, below_linked, Keeps, keeps_frame}
 use Rattle.mlhash.proofs.DealLemmas.{among_along}
 
--- a chain that is dealt out leaves alone what it is apart from
+-- Lemma: distributing a chain keeps a chain that shares no node with it.
 dealt_keeps : (ns : List Node) (from mask stay onto : ℕ) (ms : List Node) (staying leaving head : ℕ)
     → Deals ns from mask stay onto ms staying leaving → IsLinked ns head → AreApart (chain ns head) (chain ns from) → Keeps ns ms head
 dealt_keeps ns from mask stay onto ms staying leaving head d linked apart =
     keeps_frame ns ms head (omega (arith, d.size, linked.few))
     (λ i a. (omega (arith, d.size, below_linked ns head linked i a), ap (λ (n : Node). n.next) (d.others i (apart i a)))) linked
 
--- the entries stay as many
+-- Lemma: the number of entries stays the same.
 dealt_count : (ns : List Node) (from mask stay onto : ℕ) (ms : List Node) (staying leaving : ℕ) → Deals ns from mask stay onto ms staying leaving
     → count_by is_live ms ≡ count_by is_live ns
 dealt_count ns from mask stay onto ms staying leaving d =
     sym (length-entries ms) ∙ ap length (entries_same ns ms d.size d.entries) ∙ length-entries ns
 
--- the free nodes stay as they are
+-- Lemma: the free nodes stay the same.
 dealt_pool : (ns : List Node) (from mask stay onto : ℕ) (ms : List Node) (staying leaving len free : ℕ)
     → Deals ns from mask stay onto ms staying leaving → ((i : ℕ) → Among i (chain ns from) → is_live (node_at ns i) ≡ true) → IsFree ns len free
     → IsFree ms len free
@@ -43,7 +43,7 @@ dealt_pool ns from mask stay onto ms staying leaving len free d live pool =
       rest = omega (arith, ap length kept.same, pool.rest, d.size);
     }
 
--- the next bucket is split in two
+-- The next bucket is split in two.
 pub record IsSplitting (heads : List ℕ) (ns : List Node) (len : ℕ) (p : Place) (free mask from : ℕ) (ms : List Node) (staying leaving : ℕ) : Type 0 where
   pub table : IsTable heads ns len p free
   pub room : length heads + 1 ≤ 2 ^ 31
@@ -80,7 +80,7 @@ module _ (heads : List ℕ) (ns : List Node) (len : ℕ) (p : Place) (free mask 
   not_end : (i : ℕ) → Among i (chain ms NIL) → ⊥
   not_end i a = among_along i _ [] (chain_end ms few) a
 
-  -- a live node whose hash had the bucket is on the chain
+  -- A live node whose hash had the bucket is on the chain.
   there : (i : ℕ) → i < length ms → is_live (node_at ms i) ≡ true → bucket_of p (node_at ns i).hash ≡ p.split → Among i (chain ns from)
   there i below live e =
       from_bucket.every i (omega (arith, k.deals.size, below)) (sym (live_is i) ∙ live) e
@@ -185,7 +185,7 @@ before_split q lt =
 always_stays : (n : Node) → stays 0 0 n ≡ true
 always_stays n = eq-eqb _ _ (omega (arith, and_le_r n.hash 0))
 
--- the last bucket is merged into the one that it was split from
+-- The last bucket is merged into the one that it was split from.
 pub record IsMerging (heads : List ℕ) (ns : List Node) (len : ℕ) (q : Place) (free last from onto : ℕ) (ms : List Node) (staying leaving : ℕ) : Type 0 where
   pub table : IsTable heads ns len (place_after q) free
   pub last_is : last + 1 ≡ length heads
@@ -197,7 +197,7 @@ pub merge_last : (heads : List ℕ) (ns : List Node) (len : ℕ) (q : Place) (fr
     → last + 1 ≡ length heads → last ≡ 4 * 2 ^ q.level + q.split
 merge_last heads ns len q free last t e = omega (arith, e, t.size, place_after-size q)
 
--- the two chains of a merge
+-- Lemma: the two chains of a merge share no node.
 pub merge_apart : (heads : List ℕ) (ns : List Node) (len : ℕ) (q : Place) (free last from onto : ℕ) → IsTable heads ns len (place_after q) free
     → last + 1 ≡ length heads → from ≡ get_or heads last 0 → onto ≡ get_or heads q.split 0 → AreApart (chain ns from) (chain ns onto)
 merge_apart heads ns len q free last from onto t e f g =
@@ -298,13 +298,13 @@ module _ (heads : List ℕ) (ns : List Node) (len : ℕ) (q : Place) (free last 
             ];
       }
 
--- links are no part of the bag
+-- Lemma: distributing a chain keeps the multiset of pairs.
 pub dealt_entries : (ns : List Node) (from mask stay onto : ℕ) (ms : List Node) (staying leaving : ℕ)
     → Deals ns from mask stay onto ms staying leaving → entries ms ≡ entries ns
 dealt_entries ns from mask stay onto ms staying leaving d =
     entries_same ns ms d.size d.entries
 
--- what the code of a split computes
+-- Lemma: the values that the code of a split computes.
 pub splitting : (heads : List ℕ) (ns : List Node) (len : ℕ) (p : Place) (free from : ℕ) (grown : List ℕ) (xs ms : List Node) (staying leaving : ℕ)
     → IsTable heads ns len p free → 2 * length heads < len → grown ≡ heads ++ NIL ∷ [] → from ≡ get_or grown p.split 0 → xs ≡ ns
     → Deals xs from (8 * 2 ^ p.level % 2 ^ 64 - 1) p.split NIL ms staying leaving

@@ -1,4 +1,4 @@
--- The table: what a new node, an insert and a remove do to it.
+-- Lemmas about the table: the effects of a new node, an insert and a removal.
 use Rattle.std.proofs.Common.{◌≡◌, ◌≢◌, ℕ, ◌+◌, ◌-◌, ◌<◌, ◌≤◌, Bool, true, false, cond, inl, inr, List, [], ◌∷◌, ◌++◌, length, min, map, set, get_or, refl}
 use Rattle.std.proofs.Common.{sym, ap, ◌∙◌, subst, arith, length-set, length-append, get_or-set_same, get_or-set_other}
 use Rattle.std.specs.List.{count_by}
@@ -18,7 +18,7 @@ use Rattle.mlhash.proofs.BagLemmas.{filter-push_none, entries-set_in}
 use Rattle.mlhash.proofs.ChainLemmas.{chain_is, linked_by, chain_end, below_linked, chain_step, Keeps, keeps_frame, keeps_set, fronts_set}
 use Rattle.mlhash.proofs.DealLemmas.{among_along}
 
--- the head of the bucket of a hash
+-- Lemma: the head of a hash's bucket.
 pub bucket_in : (heads : List ℕ) (ns : List Node) (len : ℕ) (p : Place) (free : ℕ) → IsTable heads ns len p free → (h : ℕ) → bucket_of p h < length heads
 bucket_in heads ns len p free t h = omega (arith, t.size, bucket_below p h)
 
@@ -30,7 +30,7 @@ push_live ns i live below =
           (ap is_live (sym (get_or_push ns free_node blank i e)) ∙ live))
     ]
 
--- a new node
+-- A new node was appended.
 pub record IsStocked (heads : List ℕ) (ns : List Node) (len : ℕ) (p : Place) (ms : List Node) (new : ℕ) : Type 0 where
   pub table : IsTable heads ms len p new
   pub on : new ≢ NIL
@@ -91,13 +91,13 @@ stocked heads ns len p free ms new room t s =
           (subst (λ (x : ℕ). IsStocked heads ns len p ns x) (sym k.1) (record { table = t; on = ne; same = refl })))
     ]
 
--- a table whose free nodes are used up has one node for each entry
+-- Lemma: a table without free nodes has one node per entry.
 pub all_used : (heads : List ℕ) (ns : List Node) (len : ℕ) (p : Place) (free : ℕ) → IsTable heads ns len p free → free ≡ NIL → length ns ≡ len
 all_used heads ns len p free t e =
     let none : chain ns free ≡ [] = ap (chain ns) e ∙ chain_end ns t.pool.linked.few in
     omega (arith, t.pool.rest, ap length none)
 
--- an entry goes in front of its bucket's chain
+-- Lemma: an entry is prepended to its bucket's chain.
 pub put_table : (heads : List ℕ) (ns : List Node) (len : ℕ) (p : Place) (at : ℕ) (n : Node) → at ≢ NIL → is_live n ≡ true
     → n.next ≡ get_or heads (bucket_of p n.hash) 0 → IsTable heads ns len p at
     → IsTable (set heads (bucket_of p n.hash) at) (set ns at n) (len + 1) p (node_at ns at).next
@@ -181,14 +181,14 @@ put_entries heads ns len p at n on live t =
     let step = chain_step ns at t.pool.linked on in
     entries-set_in ns at n step.below (t.pool.dead at (among_along at _ _ (sym step.is) (inl refl))) live
 
--- where there is room for an entry and no free node, there is room for a node
+-- Lemma: if there is capacity for an entry and no free node, there is capacity for a node.
 pub room_for_node : (heads : List ℕ) (ns : List Node) (len : ℕ) (p : Place) (free capacity spare : ℕ) → min capacity NIL - len ≡ spare → 0 < spare
     → IsTable heads ns len p free → free ≡ NIL → (length ns < capacity) × (length ns < NIL)
 room_for_node heads ns len p free capacity spare is some t e =
     let used = all_used heads ns len p free t e in
     (omega (arith, used, is, some), omega (arith, used, is, some))
 
--- the whole of an insert that splits nothing
+-- Lemma: an insert without a split, as a whole.
 pub put_all : (heads : List ℕ) (ns : List Node) (len : ℕ) (p : Place) (at b head next : ℕ) (heads' : List ℕ) (n : Node) → at ≢ NIL → is_live n ≡ true
     → b ≡ bucket_of p n.hash → n.next ≡ head → head ≡ get_or heads b 0 → heads' ≡ set heads b at → next ≡ (node_at ns at).next
     → IsTable heads ns len p at → IsTable heads' (set ns at n) (len + 1) p next

@@ -1,5 +1,4 @@
--- What a remove does to the table: the pair of a chain's first node takes the place of the one that
--- leaves, and the first node is freed.
+-- Lemmas about a removal: the pair of a chain's first node replaces the removed one, and the first node is freed.
 use Rattle.std.proofs.Common.{◌≡◌, ◌≢◌, ℕ, ◌+◌, ◌-◌, ◌<◌, ◌≤◌, Bool, true, false, cond, inl, inr, List, [], ◌∷◌, length, min, set, get_or, refl, sym, ap, ◌∙◌}
 use Rattle.std.proofs.Common.{subst, arith, length-set, get_or-set_same, get_or-set_other}
 use Rattle.std.specs.List.{count_by, Contains}
@@ -21,8 +20,7 @@ use Rattle.mlhash.proofs.ChainLemmas.{chain_end, below_linked, IsStep, chain_ste
 use Rattle.mlhash.proofs.DealLemmas.{among_along}
 use Rattle.mlhash.proofs.TableLemmas.{bucket_in}
 
--- a node `at` of the chain of the bucket b, whose first node is `head`; n1 is what comes to `at`, n2
--- what comes to `head`
+-- A node `at` of the chain of the bucket b, whose first node is `head`. n1 is written to `at`, and n2 to `head`.
 pub record IsTaking (heads : List ℕ) (ns : List Node) (len : ℕ) (p : Place) (free b head at : ℕ) (n1 n2 : Node) : Type 0 where
   pub table : IsTable heads ns len p free
   pub inside : b < length heads
@@ -235,37 +233,37 @@ module _ (heads : List ℕ) (ns : List Node) (len : ℕ) (p : Place) (free b hea
   pub take_entries : IsPermutation (entries ns) (pair_of (node_at ns at) ∷ entries (set (set ns at n1) head n2))
   take_entries = elim (cases_eq at head) [ inl e ↦ same_place e | inr ne ↦ two_places ne ]
 
--- the bucket of a hash
+-- Lemma: the head of a hash's bucket is the head of its chain.
 pub bucket_at : (heads : List ℕ) (ns : List Node) (len : ℕ) (p : Place) (free hash b head : ℕ) → b ≡ bucket_of p hash → head ≡ get_or heads b 0
     → IsTable heads ns len p free → IsBucket ns p head b
 bucket_at heads ns len p free hash b head b_is head_is t =
     subst (λ h. IsBucket ns p h b) (sym head_is) (t.buckets b (omega (arith, b_is, bucket_in heads ns len p free t hash)))
 
--- it has all entries of this hash
+-- Lemma: that chain has all entries of the hash.
 pub bucket_has_all : (heads : List ℕ) (ns : List Node) (len : ℕ) (p : Place) (free hash b head : ℕ) → b ≡ bucket_of p hash → head ≡ get_or heads b 0
     → IsTable heads ns len p free → HasAll ns head hash
 bucket_has_all heads ns len p free hash b head b_is head_is t i below live same =
     (bucket_at heads ns len p free hash b head b_is head_is t).every i below live (ap (bucket_of p) same ∙ sym b_is)
 
--- a pair that its bucket's chain doesn't have is not held
+-- Lemma: a pair that is not on its bucket's chain is not in the multiset.
 pub not_found : (heads : List ℕ) (ns : List Node) (len : ℕ) (p : Place) (free hash b head : ℕ) (r : RowRef) (at : ℕ) → b ≡ bucket_of p hash
     → head ≡ get_or heads b 0 → IsTable heads ns len p free → Finds ns head hash r at → at ≡ NIL → Contains (entries ns) (hash, r) → ⊥
 not_found heads ns len p free hash b head r at b_is head_is t s end =
     let k = bucket_at heads ns len p free hash b head b_is head_is t in
     not_held ns (hash, r) (λ i below live e. s.none end i (k.every i below live (ap (λ (x : ℕ × RowRef). bucket_of p x.0) e ∙ sym b_is)) e)
 
--- the same of the nodes as they were read
+-- Lemma: a find in equal nodes.
 pub Finds-read : (ms ns : List Node) (head hash : ℕ) (r : RowRef) (at : ℕ) → ms ≡ ns → Finds ms head hash r at → Finds ns head hash r at
 Finds-read ms ns head hash r at read s = subst (λ xs. Finds xs head hash r at) read s
 
--- a node with the pair of another one, and a free node
+-- A node with the pair of another one, and a free node.
 abbrev pub pair_in : Node → ℕ → Node
 pair_in n next = record { hash = n.hash; reference = n.reference; next = next }
 
 abbrev pub freed : ℕ → Node
 freed next = record { hash = 0; reference = FREE; next = next }
 
--- what the code writes where the pair was found; m1 is the first node as read, m2 the found one
+-- Lemma: what the code writes if the pair was found. m1 is the first node as read, m2 the found one.
 pub taking : (heads : List ℕ) (ns : List Node) (len : ℕ) (p : Place) (free hash b head : ℕ) (r : RowRef) (at : ℕ) (m1 m2 : Node)
     → b ≡ bucket_of p hash → head ≡ get_or heads b 0 → IsTable heads ns len p free → Finds ns head hash r at → at ≢ NIL → m1 ≡ get_or ns head m1
     → m2 ≡ get_or ns at m2 → IsTaking heads ns len p free b head at (pair_in m1 m2.next) (freed free)
@@ -288,13 +286,13 @@ taking heads ns len p free hash b head r at m1 m2 b_is head_is t s on read1 read
       dead = refl;
     }
 
--- the room after a remove
+-- Lemma: a removal adds one place to the capacity.
 pub spare_more : (heads : List ℕ) (ns : List Node) (len : ℕ) (p : Place) (free capacity spare : ℕ) → IsTable heads ns len p free
     → length ns ≤ capacity → 1 ≤ len → min capacity NIL - len ≡ spare → min capacity NIL - (len - 1) ≡ spare + 1
 spare_more heads ns len p free capacity spare t fits some is =
     omega (arith, t.pool.rest, t.pool.linked.few, fits, some, is)
 
--- a bucket where a pair was found has a first node
+-- Lemma: a bucket in which a pair was found has a first node.
 pub first_below : (heads : List ℕ) (ns : List Node) (len : ℕ) (p : Place) (free hash b head : ℕ) (r : RowRef) (at : ℕ) → b ≡ bucket_of p hash
     → head ≡ get_or heads b 0 → IsTable heads ns len p free → Finds ns head hash r at → at ≢ NIL → (head < length ns) × (at < length ns)
 first_below heads ns len p free hash b head r at b_is head_is t s on =

@@ -1,26 +1,25 @@
--- What callers see of a `HashRefs`.
+-- The model of a `HashRefs`.
 use Rattle.std.specs.Prelude.{◌≡◌, ℕ, ◌-◌, ◌^◌, ◌<◌, ◌==◌, List, ◌++◌, map, filter, IsPermutation}
 use Rattle.mm_value.specs.declared.row_ref.RowRef.{RowRef}
 
--- The pairs of a hash and a reference, each as often as held and in no promised order, and how many
--- more are sure to find room.
+-- The pairs of a hash and a reference, with multiplicity and in no specified order, and the capacity for more pairs.
 pub record Bag : Type 0 where
   pub entries : List (ℕ × RowRef)
   pub spare : ℕ
 
--- a reference that is not the greatest, which marks a free node
+-- A reference that is not the greatest, which marks a free node.
 abbrev pub IsSmall : RowRef → Type 0
 IsSmall r = r.slot < 2 ^ 32 - 1
 
--- the references of all pairs
+-- The references of all pairs.
 abbrev pub all_refs : List (ℕ × RowRef) → List RowRef
 all_refs entries = map (λ e. e.1) entries
 
--- the references of the pairs with this hash
+-- The references of the pairs with this hash.
 abbrev pub refs_of : ℕ → List (ℕ × RowRef) → List RowRef
 refs_of hash entries = all_refs (filter (λ e. e.0 == hash) entries)
 
--- the new list is the old one, and then what is added, in some order
+-- The new list is the old one, followed by the added elements in some order.
 pub record AppendsInSomeOrder (old new added : List RowRef) : Type 0 where
   pub behind : List RowRef
   pub appends : new ≡ old ++ behind

@@ -7,7 +7,7 @@ use crate::directory::Directory;
 use crate::node::{NIL, Node};
 use mm_value::RowRef;
 
-/// A node of the chain with this hash and reference, `NIL` where it has none.
+/// Returns a node of the chain with this hash and reference, or `NIL` if the chain has none.
 pub(crate) fn find(nodes: &[Node], head: u32, hash: u64, reference: RowRef) -> u32
     requires { IsLinked nodes.now head }
     ensures found { Finds nodes.now head hash reference result }
@@ -23,8 +23,8 @@ pub(crate) fn find(nodes: &[Node], head: u32, hash: u64, reference: RowRef) -> u
     NIL
 }
 
-/// The same of a chain that has all entries of this hash. It looks at the chain's first node and then at the one that the
-/// directory names, and walks the chain only where neither has the entry.
+/// Returns a node with this hash and reference of a chain that has all entries of this hash, or `NIL` if the chain has none. Checks the
+/// chain's first node and the node that the directory names, and walks the chain only if neither has the entry.
 pub(crate) fn find_by_hint(
     nodes: &[Node],
     directory: &Directory,
@@ -49,7 +49,7 @@ pub(crate) fn find_by_hint(
     find(nodes, head, hash, reference)
 }
 
-/// The first node of the chain with this hash, `NIL` where it has none.
+/// Returns the first node of the chain with this hash, or `NIL` if the chain has none.
 pub(crate) fn first_of(nodes: &[Node], head: u32, hash: u64) -> u32
     requires { IsLinked nodes.now head }
     ensures linked { IsLinked nodes.now result }
@@ -67,8 +67,8 @@ pub(crate) fn first_of(nodes: &[Node], head: u32, hash: u64) -> u32
     NIL
 }
 
-/// Deals the nodes of the chain `from` out: those whose hash under `mask` is `stay` go in front of the
-/// chain `onto`, the others onto a chain of their own. Answers the heads of both.
+/// Distributes the nodes of the chain `from`: those whose hash under `mask` is `stay` are prepended to the chain `onto`, the others form a
+/// chain of their own. Returns the heads of both chains.
 pub(crate) fn deal(nodes: &mut [Node], from: u32, mask: u64, stay: u64, onto: u32) -> (u32, u32)
     requires from { IsLinked nodes.old from }
     requires onto { IsLinked nodes.old onto }

@@ -1,16 +1,15 @@
-//! Where entries are likely to stand.
-ghost use Rattle.std.specs.Prelude.{◌≡◌, ◌≢◌, ℕ, [], ◌++◌, replicate, slice_index_or, slice_set};
+//! Hints about which node contains an entry.
+ghost use Rattle.std.specs.Prelude.{◌≡◌, ◌≢◌, ℕ, [], ◌++◌, replicate, slice_index_or, slice_set, take};
 
 use crate::node::NIL;
 use mm_value::RowRef;
 use std::alloc::Global;
 use std::marker::Model;
 
-/// For each slot of a table the node that last took an entry of a reference to it, or `NIL`.
+/// For each slot of a table, the node that last received an entry with a reference to it, or `NIL`.
 ///
-/// All that it says is a hint. Since then the node may have been freed or have got another entry, and
-/// so whoever asks looks at the node. In return nothing has to keep it complete: a reference whose
-/// slot lies past its end has no hint.
+/// All values are hints. The node may have been freed since, or contain another entry, so callers check the node. In return, nothing has to
+/// keep the hints complete: a reference whose slot is past the end has no hint.
 #[derive(Drop)]
 pub(crate) struct Directory {
     nodes: Vec<u32>,
@@ -25,7 +24,7 @@ impl Model for Directory {
 }
 
 impl Directory {
-    /// No hints. It takes no memory.
+    /// Returns a directory without hints. Allocates nothing.
     pub(crate) fn new(alloc: Global) -> Directory
         ensures { result ≡ [] }
     {
@@ -34,7 +33,7 @@ impl Directory {
         }
     }
 
-    /// Looks for places so that there are `places` of them. What it can't get is no fault.
+    /// Grows to `places` places if the allocation succeeds. A failed allocation is ignored.
     pub(crate) fn reserve(&mut self, places: usize)
         ensures { (more : ℕ) × (self.new ≡ self.old ++ replicate more NIL) }
     {
@@ -43,7 +42,15 @@ impl Directory {
         }
     }
 
-    /// The node to look at for an entry of this reference, `NIL` where there is no hint.
+    /// Drops the hints for slots from `places` on, and frees their memory.
+    pub(crate) fn trim(&mut self, places: usize)
+        ensures { self.new ≡ take places self.old }
+    {
+        self.nodes.truncate(places);
+        self.nodes.shrink_to(places);
+    }
+
+    /// Returns the node to check first for an entry of this reference, or `NIL` if there is no hint.
     pub(crate) fn hint(&self, reference: RowRef) -> u32
         ensures { result ≡ slice_index_or self.now reference.slot NIL }
     {
@@ -55,7 +62,7 @@ impl Directory {
         }
     }
 
-    /// Keeps in mind that this node took an entry of the reference, where there is a place for it.
+    /// Records that this node received an entry of the reference, if the reference has a place.
     pub(crate) fn note(&mut self, reference: RowRef, node: u32)
         ensures { self.new ≡ slice_set self.old reference.slot node }
     {
@@ -65,8 +72,7 @@ impl Directory {
         }
     }
 
-    /// Keeps in mind that the entry of the reference in one node is in another one now. Where it stayed, there is nothing
-    /// to write.
+    /// Records that the entry of the reference moved from one node to another. Writes nothing if both nodes are the same.
     pub(crate) fn note_move(&mut self, reference: RowRef, from: u32, to: u32)
         ensures moved { from ≢ to → self.new ≡ slice_set self.old reference.slot to }
         ensures stayed { from ≡ to → self.new ≡ self.old }

@@ -1,4 +1,5 @@
-//! The bag.
+//! The multiset of hashes and references.
+ghost use Rattle.std.specs.Prelude.{min};
 ghost use Rattle.std.specs.Prelude.{◌≡◌, ◌+◌, ◌<◌, ◌≤◌, ◌↔◌, vec_len, vec_capacity, [], ◌∷◌, ◌++◌, length, Contains, IsPermutation, IsTrue, IsOk, OnOk, OnErr};
 ghost use Rattle.std.specs.Bool.{OnTrue, OnFalse};
 ghost use Rattle.mlhash.specs.Bag.{IsSmall, refs_of, all_refs, AppendsInSomeOrder};
@@ -17,19 +18,18 @@ use mm_value::RowRef;
 use std::alloc::{AllocError, Global};
 use std::marker::Model;
 
-/// The most nodes that links can tell apart.
+/// The maximum number of nodes: links are 32-bit indexes, and `NIL` is none.
 const MAX_NODES: usize = NIL as usize;
 
-/// A bag of pairs of a hash and a reference, with room for more.
+/// A multiset of pairs of a hash and a reference, with capacity for more.
 ///
-/// It is a table of modified linear hashing (Lehman and Carey, VLDB 1986, on the address rule of
-/// Litwin, VLDB 1980): each bucket has a chain of nodes, each node one entry. A look-up walks one
-/// chain; an insert splits at most one bucket, where there are more than two entries a bucket, a remove
-/// merges at most one, where there is less than half an entry a bucket. Nodes of removed entries stay
-/// in the table's own pool. A table holds at most 2^32 - 1 entries.
+/// Implemented as a table of modified linear hashing (Lehman and Carey, VLDB 1986, with the address rule of Litwin, VLDB 1980): each bucket
+/// has a chain of nodes, and each node has one entry. A look-up walks one chain. An insert splits at most one bucket, if there are more
+/// than two entries per bucket. A removal merges at most one, if there is less than half an entry per bucket. Nodes of removed entries stay
+/// in the table's free list. A table has at most 2^32 - 1 entries.
 ///
-/// A chain gets as long as there are entries of one hash. A remove need not walk it: a directory tells
-/// by the slot of a reference which node last took an entry of it.
+/// A chain is as long as there are entries of one hash. A removal need not walk it: for each slot of a reference, a directory names the
+/// node that last received an entry of it.
 #[derive(Drop)]
 pub struct HashRefs {
     heads: Heads,
@@ -56,7 +56,7 @@ impl Model for HashRefs {
     ghost invariant = { λ t. IsTable t.heads t.nodes.items t.len t.place t.free };
 }
 
-/// The head of a chain of free nodes that isn't empty: the one that is given, or else of one new node.
+/// Returns the head of a nonempty chain of free nodes: `free`, or one new node if `free` is `NIL`.
 fn stock(nodes: &mut Vec<Node>, free: u32) -> u32
     requires { free ≡ NIL → (vec_len nodes.old < vec_capacity nodes.old) × (vec_len nodes.old < NIL) }
     ensures capacity { vec_capacity nodes.new ≡ vec_capacity nodes.old }
@@ -75,7 +75,7 @@ fn stock(nodes: &mut Vec<Node>, free: u32) -> u32
 }
 
 impl HashRefs {
-    /// An empty bag. It takes no memory.
+    /// Returns an empty multiset. Allocates nothing.
     pub fn new(alloc: Global) -> HashRefs
         ensures entries { result.entries ≡ [] }
         ensures spare { result.spare ≡ 0 }
@@ -90,26 +90,25 @@ impl HashRefs {
         }
     }
 
-    /// How many pairs it holds, each counted as often as held.
+    /// Returns the number of pairs, counted with multiplicity.
     pub fn len(&self) -> usize
         ensures { result ≡ length self.now.entries }
     {
         self.len
     }
 
-    /// How many more pairs there is room for.
+    /// Returns the capacity for more pairs.
     pub fn spare(&self) -> usize
         ensures { result ≡ self.now.spare }
     {
         self.nodes.capacity().min(MAX_NODES) - self.len
     }
 
-    /// Makes room for `n` more pairs. Where it has to grow for them, it also looks for the bucket heads that inserts into all
-    /// the room may split into, and for as many places of the directory as pairs fit into the room.
+    /// Reserves capacity for `n` more pairs. If the table must grow, also tries to allocate the bucket heads for all splits within the new
+    /// capacity, and one directory place per pair of capacity.
     ///
-    /// It is refused where there is no memory for that many nodes, or where there would be more than
-    /// 2^32 - 1 of them. It still succeeds if it cannot get bucket heads (inserts then skip splits)
-    /// or places of the directory (removals then walk chains).
+    /// Returns `AllocError` if the nodes cannot be allocated, or if there would be more than 2^32 - 1 of them. Succeeds even if bucket
+    /// heads (inserts then skip splits) or directory places (removals then walk chains) cannot be allocated.
     pub fn reserve(&mut self, _alloc: Global, n: usize) -> Result<(), AllocError>
         ensures ok { OnOk result (n ≤ self.new.spare) }
         ensures met { n ≤ self.old.spare → IsOk result }
@@ -131,7 +130,7 @@ impl HashRefs {
         Ok(())
     }
 
-    /// Puts a pair in, in room that is there. The reference to slot 2^32 - 1 marks free nodes, and so it cannot be put in.
+    /// Inserts a pair. Requires capacity for it, and a reference below slot 2^32 - 1, which marks free nodes.
     pub fn insert(&mut self, hash: u64, reference: RowRef)
         requires room { 0 < self.old.spare }
         requires small { IsSmall reference }
@@ -142,10 +141,10 @@ impl HashRefs {
         self.split_if_crowded();
     }
 
-    /// Takes one such pair out. False where it holds none, and then all is as before.
+    /// Removes one such pair. Returns `false`, and changes nothing, if there is none.
     ///
     /// The time does not depend on how many pairs share the hash if the pair is the last one inserted for its reference, and the
-    /// reference's slot was below the room for pairs both at that insert and at the last `reserve`. Otherwise it walks the chain
+    /// reference's slot was below the capacity for pairs both at that insert and at the last `reserve`. Otherwise the call walks the chain
     /// of the hash.
     pub fn remove(&mut self, hash: u64, reference: RowRef) -> bool
         ensures found { IsTrue result ↔ Contains self.old.entries (hash, reference) }
@@ -160,7 +159,36 @@ impl HashRefs {
         true
     }
 
-    /// The references of a hash one after the other, each as often as held, in no promised order. It takes no memory.
+    /// Frees capacity if there is capacity for more than two and a half times as many pairs, so that a few insertions and removals do not
+    /// reallocate. Capacity for `n` more pairs remains, as far as there was that much. Cannot fail: if the allocation of a smaller block
+    /// fails, the larger one stays.
+    pub fn trim(&mut self, n: usize)
+        ensures entries { self.new.entries ≡ self.old.entries }
+        ensures fewer { self.new.spare ≤ self.old.spare }
+        ensures kept { min self.old.spare n ≤ self.new.spare }
+    {
+        let kept = self.len.saturating_add(self.len / 4).saturating_add(n);
+        if self.nodes.capacity() / 2 <= kept {
+            return;
+        }
+        self.nodes.shrink_to(kept);
+        self.heads.trim();
+        self.directory.trim(kept);
+    }
+
+    /// Removes all pairs. Their nodes become capacity for more, so nothing is freed.
+    pub fn clear(&mut self)
+        ensures entries { self.new.entries ≡ [] }
+        ensures spare { self.new.spare ≡ self.old.spare + length self.old.entries }
+    {
+        self.heads.clear();
+        self.nodes.clear();
+        self.len = 0;
+        self.place = Place { level: 0, split: 0 };
+        self.free = NIL;
+    }
+
+    /// Returns an iterator over the references of a hash, with multiplicity, in no specified order. Allocates nothing.
     pub fn matching(&self, hash: u64) -> Matching<'_>
         ensures { IsPermutation result (refs_of hash self.now.entries) }
     {
@@ -168,8 +196,8 @@ impl HashRefs {
         Matching::along(&self.nodes, head, hash)
     }
 
-    /// Appends the references of a hash, each as often as held, in no promised order. After an error
-    /// the vector is as before.
+    /// Appends the references of a hash, with multiplicity, in no specified order. Returns `AllocError` if an allocation fails; then `out`
+    /// is unchanged.
     pub fn matches(
         &self,
         _alloc: Global,
@@ -189,8 +217,8 @@ impl HashRefs {
         Ok(())
     }
 
-    /// Appends all references, each as often as held, in no promised order. After an error the vector
-    /// is as before. It is one pass over the table's nodes in memory, free ones too.
+    /// Appends all references, with multiplicity, in no specified order. Returns `AllocError` if an allocation fails; then `out` is
+    /// unchanged. Makes one pass over the table's nodes, including free ones.
     pub fn copy_all(&self, _alloc: Global, out: &mut Vec<RowRef>) -> Result<(), AllocError>
         ensures ok { OnOk result (AppendsInSomeOrder out.old.items out.new.items (all_refs self.now.entries)) }
         ensures err { OnErr result (out.new.items ≡ out.old.items) }
@@ -204,7 +232,7 @@ impl HashRefs {
         Ok(())
     }
 
-    /// Puts a pair in front of its bucket's chain.
+    /// Prepends a pair to its bucket's chain.
     fn put(&mut self, hash: u64, reference: RowRef)
         requires room { 0 < self.old.spare }
         requires small { IsSmall reference }
@@ -225,8 +253,8 @@ impl HashRefs {
         self.len += 1;
     }
 
-    /// Takes a pair out of its bucket's chain: the pair of the chain's first node takes its place, and
-    /// the first node is freed.
+    /// Removes a pair from its bucket's chain: the pair of the chain's first node replaces it, and the first node is freed. Returns whether
+    /// the pair was there.
     fn take(&mut self, hash: u64, reference: RowRef) -> bool
         ensures found { IsTrue result ↔ Contains self.old.entries (hash, reference) }
         ensures entries { OnTrue result (IsPermutation self.old.entries ((hash, reference) ∷ self.new.entries)) }
@@ -258,8 +286,7 @@ impl HashRefs {
         true
     }
 
-    /// Splits the next bucket where there are more than two entries a bucket and a place for another
-    /// bucket stands ready.
+    /// Splits the next bucket if there are more than two entries per bucket and capacity for another bucket head.
     fn split_if_crowded(&mut self)
         ensures { self.new ≡ self.old }
     {
@@ -276,8 +303,8 @@ impl HashRefs {
         self.place = place_after(self.place);
     }
 
-    /// Merges the last bucket into the one that it was split from where there is less than half an
-    /// entry a bucket and there are more than four buckets.
+    /// Merges the last bucket into the one that it was split from, if there is less than half an entry per bucket and there are more than
+    /// four buckets.
     fn merge_if_sparse(&mut self)
         ensures { self.new ≡ self.old }
     {

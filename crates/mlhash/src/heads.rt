@@ -6,7 +6,7 @@ use crate::node::NIL;
 use std::alloc::Global;
 use std::marker::Model;
 
-/// The first node of each bucket's chain. The heads of the 4 first buckets stand in the value itself.
+/// The first node of each bucket's chain. The heads of the first 4 buckets are stored inline.
 #[derive(Drop)]
 pub(crate) struct Heads {
     first: [u32; 4],
@@ -24,7 +24,7 @@ impl Model for Heads {
 }
 
 impl Heads {
-    /// Four empty buckets.
+    /// Returns the heads of four empty buckets.
     pub(crate) fn new(alloc: Global) -> Heads
         ensures { result ≡ NIL ∷ NIL ∷ NIL ∷ NIL ∷ [] }
     {
@@ -34,14 +34,22 @@ impl Heads {
         }
     }
 
-    /// How many buckets there are.
+    /// Keeps the first four buckets, empty, and the capacity for more.
+    pub(crate) fn clear(&mut self)
+        ensures { self.new ≡ NIL ∷ NIL ∷ NIL ∷ NIL ∷ [] }
+    {
+        self.first = [NIL; 4];
+        self.more.clear();
+    }
+
+    /// Returns the number of buckets.
     pub(crate) fn len(&self) -> usize
         ensures { result ≡ length self.now }
     {
         4 + self.more.len()
     }
 
-    /// The head of a bucket.
+    /// Returns the head of a bucket.
     pub(crate) fn get(&self, bucket: usize) -> u32
         requires { bucket < length self.now }
         ensures { result ≡ slice_index self.now bucket }
@@ -53,7 +61,7 @@ impl Heads {
         }
     }
 
-    /// Gives a bucket another head.
+    /// Sets the head of a bucket.
     pub(crate) fn set(&mut self, bucket: usize, head: u32)
         requires { bucket < length self.old }
         ensures { self.new ≡ slice_set self.old bucket head }
@@ -65,7 +73,7 @@ impl Heads {
         }
     }
 
-    /// Looks for places so that there can be `buckets` of them. What it can't get is no fault.
+    /// Reserves capacity for `buckets` buckets if the allocation succeeds. A failed allocation is ignored.
     pub(crate) fn reserve(&mut self, buckets: usize)
         ensures { self.new ≡ self.old }
     {
@@ -73,7 +81,15 @@ impl Heads {
         let _ = self.more.reserve(missing);
     }
 
-    /// Puts an empty bucket behind the others where a place for it stands ready.
+    /// Frees capacity for more than twice as many buckets.
+    pub(crate) fn trim(&mut self)
+        ensures { self.new ≡ self.old }
+    {
+        let buckets = self.more.len();
+        self.more.shrink_to(buckets.saturating_mul(2));
+    }
+
+    /// Appends an empty bucket if there is capacity for it, and returns whether it did.
     pub(crate) fn grow(&mut self) -> bool
         ensures grown { OnTrue result (self.new ≡ self.old ++ NIL ∷ []) }
         ensures full { OnFalse result (self.new ≡ self.old) }
@@ -85,7 +101,7 @@ impl Heads {
         true
     }
 
-    /// Drops the last bucket, which is none of the first four.
+    /// Removes the last bucket, which is not one of the first four.
     pub(crate) fn shrink(&mut self)
         requires { 4 < length self.old }
         ensures { self.new ≡ take (length self.old - 1) self.old }

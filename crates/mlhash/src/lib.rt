@@ -1,9 +1,9 @@
-//! References by hash: a bag of pairs of a hash and a reference, kept by modified linear hashing.
+//! References by hash: a multiset of pairs of a hash and a reference, in a table of modified linear hashing.
 //!
-//! The table grows and shrinks by one bucket at a time (linear hashing, Litwin, VLDB 1980), and each
-//! chain node holds one entry (modified linear hashing, Lehman and Carey, VLDB 1986).
+//! The table grows and shrinks by one bucket at a time (linear hashing, Litwin, VLDB 1980), and each chain node holds one entry (modified
+//! linear hashing, Lehman and Carey, VLDB 1986).
 //!
-//! A call that may take memory is handed the allocator; no other call takes any.
+//! Any call that may allocate has a parameter for the allocator. No other call allocates.
 #![tactic(auto)]
 
 mod chains;

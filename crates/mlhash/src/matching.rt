@@ -1,4 +1,4 @@
-//! The references of one hash, one after the other.
+//! An iterator over the references of one hash.
 ghost use Rattle.std.specs.Prelude.{◌≡◌};
 ghost use Rattle.std.specs.Iterator.{YieldsFirst, item_count};
 ghost use Rattle.mlhash.specs.Chain.{IsLinked, refs_along};
@@ -9,8 +9,7 @@ use mm_value::RowRef;
 use std::iter::FusedIterator;
 use std::marker::Model;
 
-/// The references of one hash in a table, each as often as held, in no promised order. It is seen as the
-/// list of those that are left.
+/// The references of one hash in a table, with multiplicity, in no specified order. Its model is the list of the remaining references.
 #[derive(Drop)]
 pub struct Matching<'a> {
     nodes: &'a [Node],
@@ -32,7 +31,7 @@ impl<'a> Model for Matching<'a> {
 }
 
 impl<'a> Matching<'a> {
-    /// The references of a hash along a chain.
+    /// Returns an iterator over the references of a hash along a chain.
     pub(crate) fn along(nodes: &'a [Node], head: u32, hash: u64) -> Self
         requires { IsLinked nodes.now head }
         ensures { result ≡ refs_along nodes.now head hash }

@@ -1,9 +1,8 @@
-//! Addresses: which bucket a hash has, and how the number of buckets goes up and down.
+//! Addresses: the bucket of a hash, and how the number of buckets grows and shrinks.
 ghost use Rattle.std.specs.Prelude.{◌≡◌, ◌+◌, ◌*◌, ◌^◌, ◌<◌};
 ghost use Rattle.mlhash.specs.Address.{bucket_of, place_after};
 
-/// How far the splitting has come (Litwin, VLDB 1980): level i began with 4 * 2^i buckets, of which
-/// those below `split` have been split since.
+/// The progress of splitting (Litwin, VLDB 1980): level i began with 4 * 2^i buckets, and those below `split` have been split since.
 #[derive(Clone, Copy, Drop)]
 pub(crate) struct Place {
     /// The level.
@@ -12,7 +11,7 @@ pub(crate) struct Place {
     pub(crate) split: usize,
 }
 
-/// The bucket of a hash.
+/// Returns the bucket of a hash.
 pub(crate) fn bucket_of(place: Place, hash: u64) -> usize
     requires { place.level < 32 }
     ensures { result ≡ bucket_of place hash }
@@ -25,7 +24,7 @@ pub(crate) fn bucket_of(place: Place, hash: u64) -> usize
     }
 }
 
-/// The place after one more split.
+/// Returns the place after one more split.
 pub(crate) fn place_after(place: Place) -> Place
     requires level { place.level < 32 }
     requires split { place.split < 4 * 2 ^ place.level }
@@ -44,7 +43,7 @@ pub(crate) fn place_after(place: Place) -> Place
     }
 }
 
-/// The place before the latest split, of which there is one.
+/// Returns the place before the latest split. Requires that there was one.
 pub(crate) fn place_before(place: Place) -> Place
     requires level { place.level < 32 }
     requires split { place.split < 4 * 2 ^ place.level }

@@ -54,7 +54,7 @@ gone_live key now (Update a b) r fits is = subst (HasRow now) (let same : a ≡ 
 gone_live key now (Move a b) r fits is = subst (HasRow now) (let same : a ≡ r = cc in same) fits.0
 gone_live key now (Delete s) r fits is = subst (HasRow now) (let same : s ≡ r = cc in same) fits
 
--- a row that comes is a hidden one, or takes the place of one that goes
+-- a new row is a hidden one, or replaces an old one
 came_hidden : (key : ℕ) (now : Slots) (e : Edit) (r : RowRef) → Fits key now e → came_by e ≡ Some r → HasHidden now r ⊎ (gone_by e ≡ Some r)
 came_hidden key now (Stage s) r fits is = absurd fits
 came_hidden key now (Insert s) r fits is = inl (subst (HasHidden now) (let same : s ≡ r = cc in same) fits)
@@ -62,7 +62,7 @@ came_hidden key now (Update a b) r fits is = inr is
 came_hidden key now (Move a b) r fits is = inr is
 came_hidden key now (Delete s) r fits is = let no : ⊥ = cc in absurd no
 
--- an edit names no row in use but the one that goes
+-- an edit names no row in use but its old one
 leaves_live : (key : ℕ) (now : Slots) (e : Edit) (r : RowRef) → Fits key now e → HasRow now r → (gone_by e ≡ Some r → ⊥) → LeavesOut e r
 leaves_live key now (Stage s) r fits live stays = absurd fits
 leaves_live key now (Insert s) r fits live stays = λ same. not_both now r s live fits (sym same)
@@ -70,7 +70,7 @@ leaves_live key now (Update a b) r fits live stays = (λ same. stays (ap Some sa
 leaves_live key now (Move a b) r fits live stays = (λ same. stays (ap Some same), λ same. not_both now r b live fits.1 (sym same))
 leaves_live key now (Delete s) r fits live stays = λ same. stays (ap Some same)
 
--- a row that goes and does not come is hidden
+-- an old row that is not a new one is hidden
 gone_hidden : (e : Edit) (now : Slots) (r : RowRef) → gone_by e ≡ Some r → (came_by e ≡ Some r) ⊎ HasHidden (step e now) r
 gone_hidden (Stage s) now r is = let no : ⊥ = cc in absurd no
 gone_hidden (Insert s) now r is = let no : ⊥ = cc in absurd no
@@ -86,7 +86,7 @@ first_slot (Update a b) = a
 first_slot (Move a b) = a
 first_slot (Delete s) = s
 
--- a row that comes is in the slot that its edit names first
+-- a new row is in the slot that its edit names first
 came_first : (e : Edit) (r : RowRef) → came_by e ≡ Some r → first_slot e ≡ r
 came_first (Stage s) r is = let no : ⊥ = cc in absurd no
 came_first (Insert s) r is = cc
@@ -94,7 +94,7 @@ came_first (Update a b) r is = cc
 came_first (Move a b) r is = cc
 came_first (Delete s) r is = let no : ⊥ = cc in absurd no
 
--- an edit that leaves a slot alone names another one first
+-- an edit that does not name a slot names another one first
 away : (r : RowRef) (f : Edit) → LeavesOut f r → first_slot f ≢ r
 away r (Stage s) out = out
 away r (Insert s) out = out
@@ -102,7 +102,7 @@ away r (Update a b) out = out.0
 away r (Move a b) out = out.0
 away r (Delete s) out = out
 
--- edits that are apart from a deletion leave its slot alone
+-- edits that are apart from a deletion do not name its slot
 leaves_deleted : (s r : RowRef) (f : Edit) → s ≡ r → IsApart (Delete s) f → LeavesOut f r
 leaves_deleted s r (Stage q) is out = λ e. out (is ∙ sym e)
 leaves_deleted s r (Insert q) is out = λ e. out (is ∙ sym e)
@@ -117,9 +117,9 @@ leaves_gone (Update a b) f r is out = leaves_came (Update a b) f r is out
 leaves_gone (Move a b) f r is out = leaves_came (Move a b) f r is out
 leaves_gone (Delete s) f r is out = leaves_deleted s r f (let same : s ≡ r = cc in same) out
 
--- ---- the rows that come
+-- ---- the new rows
 
--- what an edit leaves alone is there for another one
+-- the row of a slot that an edit does not name stays for another edit
 row_still : (e : Edit) (now : Slots) (r : RowRef) → LeavesOut e r → row_at (step e now) r ≡ row_at now r
 row_still e now r out = ap row_in (step_leaves e now r out)
 
@@ -144,7 +144,7 @@ pairs_still e [] now out = refl
 pairs_still e (f ∷ fs) now out =
     ap₂ cons_option (pair_still e f now (All-head (IsApart e) f fs out)) (pairs_still e fs now (All-tail (IsApart e) f fs out))
 
--- the row of a slot, once the later edits are made too
+-- the row of a slot after the later edits
 came_row : (e : Edit) (es : List Edit) (now : Slots) (r : RowRef) (row : List Value) → came_by e ≡ Some r → step e now r ≡ Live row
     → AllPairs IsApart (e ∷ es) → row ≡ row_at (after es (step e now)) r
 came_row e es now r row is live apart =
@@ -174,9 +174,9 @@ came_rows key (e ∷ es) now fits apart =
     (ap (filter_map (λ (p : Pair). p.1)) (sym (pairs_still e es now (first_apart e es apart)))
     ∙ came_rows key es (step e now) (all_fit_still key e es now (first_apart e es apart) (All-tail (Fits key now) e es fits)) (rest_apart e es apart))
 
--- ---- the rows that go
+-- ---- the old rows
 
--- no row that goes has the key of this one
+-- no old row has the key of this one
 abbrev pub stays_in : ℕ → List Pair → List Value → Bool
 stays_in key pairs row = not (list_any (λ (p : Pair). goes key row p.0) pairs)
 
@@ -192,7 +192,7 @@ goes_like key now row (Update a b ∷ es) = ap (λ t. has_key_of key now row a |
 goes_like key now row (Move a b ∷ es) = ap (λ t. has_key_of key now row a || t) (goes_like key now row es)
 goes_like key now row (Delete r ∷ es) = ap (λ t. has_key_of key now row r || t) (goes_like key now row es)
 
--- a row that goes and does not come is hidden after all edits
+-- an old row that is not a new one is hidden after all edits
 gone_after : (key : ℕ) (es : List Edit) (now : Slots) (e : Edit) (r : RowRef) → All (Fits key now) es → AllPairs IsApart es → Contains es e
     → gone_by e ≡ Some r → (came_by e ≡ Some r) ⊎ HasHidden (after es now) r
 gone_after key [] now e r fits apart here is = absurd (none_in e here)
@@ -213,7 +213,7 @@ gone_after key (f ∷ fs) now e r fits apart here is =
     later is)
     (one_of e f fs here)
 
--- no slot comes twice
+-- no slot has two new rows
 came_apart : (es : List Edit) → AllPairs IsApart es → AllPairs (λ a b. a ≢ b) (came es)
 came_apart [] apart = λ i j d before within. absurd (omega arith)
 came_apart (e ∷ es) apart = joined (came_by e) refl (came_apart es (rest_apart e es apart))
@@ -241,7 +241,7 @@ module _ (key : ℕ) (now : Slots) (edits : List Edit) (command : IsCommand key 
       let found = out_of_filter_map gone_by edits at here in
       gone_live key now found.0 at (All-contains (Fits key now) edits found.0 command.fits found.1) found.2
 
-  -- a row that does not go is as it was
+  -- a row that is not an old one is unchanged
   pub stays_there : (at : RowRef) → HasRow now at → (Contains (gone edits) at → ⊥) → after edits now at ≡ now at
   stays_there at live out =
       after_leaves edits now at
@@ -249,7 +249,7 @@ module _ (key : ℕ) (now : Slots) (edits : List Edit) (command : IsCommand key 
       leaves_live key now (get_or edits k d) at (command.fits k d within) live
       (λ is. out (in_filter_map gone_by edits (get_or edits k d) at (Contains-get_or edits k d within) is)))
 
-  -- a row in use afterwards has come, or has stayed
+  -- a row in use afterwards is new, or has stayed
   abbrev pub Stayed : RowRef → Type 0
   Stayed at = HasRow now at × (Contains (gone edits) at → ⊥)
 
@@ -328,7 +328,7 @@ module _ (key : ℕ) (now : Slots) (edits : List Edit) (command : IsCommand key 
         stayed.1 (subst (Contains (gone edits)) (sym same) (in_filter_map gone_by edits found.0 y found.1 goes)))
         (came_hidden key now found.0 y (All-contains (Fits key now) edits found.0 command.fits found.1) found.2)
 
-    -- the references afterwards are those of the rows that stay and of those that come ..
+    -- the references afterwards are those of the rows that stay and of the new ones ..
     pub AreReferences-after : AreReferences (after edits now) (kept ++ came edits)
     AreReferences-after = record {
       apart = AllPairs-append (λ (a b : RowRef). a ≢ b) kept (came edits)
@@ -349,7 +349,7 @@ module _ (key : ℕ) (now : Slots) (edits : List Edit) (command : IsCommand key 
       );
     }
 
-    -- .. and their rows are those that the change makes, before they are sorted
+    -- .. and their rows are those of the change, before they are sorted
     pub rows_after : unsorted key (edit_pairs now edits) (map (row_at now) refs) ≡ map (row_at (after edits now)) (kept ++ came edits)
     rows_after =
         let same : map (row_at now) kept ≡ map (row_at (after edits now)) kept =

@@ -1,4 +1,4 @@
--- A test of the items of a list, one after the other.
+-- A test of the items of a list, one after another.
 use Rattle.std.proofs.Common.{◌≡◌, ◌+◌, ◌<◌, ◌≤◌, ℕ, ⊎_elim, Bool, true, false, ◌||◌, List, length, get_or, take, sym, ap, ◌∙◌, subst, arith}
 use Rattle.std.specs.List.{All, list_any}
 use Rattle.std.proofs.lemmas.Bool.{cases_lt}
@@ -7,11 +7,11 @@ use Rattle.std.proofs.lemmas.List.Folds.{list_any_at, list_any_more}
 
 module _ {X : Type 0} (p : X → Bool) (P : X → Type 0) (xs : List X) (i : ℕ) where
   module _ (d x : X) (within : i < length xs) (is : x ≡ get_or xs i d) where
-    -- it passes
+    -- the item passes
     pub any_passes : p x ≡ true → true ≡ list_any p xs
     any_passes holds = sym (list_any_at p xs i d within (ap p (sym is) ∙ holds))
 
-    -- it does not pass
+    -- the item does not pass
     pub none_more : p x ≡ false → list_any p (take i xs) ≡ false → list_any p (take (i + 1) xs) ≡ false
     none_more fails none =
         list_any_more p xs i d within ∙ (ap (λ (b : Bool). b || p (get_or xs i d)) none ∙ (ap p (sym is) ∙ fails))

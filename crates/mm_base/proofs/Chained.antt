@@ -1,4 +1,4 @@
--- Links that turn one after another, and again.
+-- Links that are updated one after another, several times.
 use Rattle.std.proofs.Common.{◌≡◌, ◌<◌, ◌≤◌, ◌+◌, ℕ, suc, List, [], ◌∷◌, length, get_or, map, refl, sym, ap, ap₂, ◌∙◌, subst, arith}
 use Rattle.std.specs.List.{All}
 use Rattle.std.specs.Prelude.{Result, Ok, Err, OnOk}
@@ -57,7 +57,7 @@ references_stay R same (x ∷ xs) (y ∷ ys) turned =
 pub same_references : (old new : List Link) → EachTurns KeepsSize old new → references_of new ≡ references_of old
 same_references old new turned = references_stay KeepsSize (λ x y kept. kept.reference) old new turned
 
--- the capacity of links stays with their sizes, where no more slots are used
+-- links keep their capacity with their sizes, if no more slots are used
 pub entries_kept : (old new : List LoggedTable) (old_links new_links : List Link) → ((t : ℕ) → extent_in new t ≤ extent_in old t)
     → EachTurns KeepsSize old_links new_links → (t n : ℕ) → HaveEntriesFor n t old old_links → HaveEntriesFor n t new new_links
 entries_kept old new old_links new_links fewer turned t n have k d within =
@@ -113,7 +113,7 @@ module _ (old new : List LoggedTable) (extents : extents_of new ≡ extents_of o
 pub grown_weaker : (table extent : ℕ) (old new : List Link) → EachTurns (GrownTo table extent) old new → EachTurns HasGrown old new
 grown_weaker table extent old new turned = record { size = turned.size; each = λ k d within. (turned.each k d within).grown }
 
--- there is capacity for so many rows
+-- there is capacity for this number of rows
 pub entries_made : (tables : List LoggedTable) (table extent n : ℕ) (old new : List Link) → EachTurns (GrownTo table extent) old new
     → extent ≡ extent_in tables table + n → HaveEntriesFor n table tables new
 entries_made tables table extent n old new turned is k d within =

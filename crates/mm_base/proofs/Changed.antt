@@ -1,4 +1,4 @@
--- The rows after the edits of a command are those that their pairs make of the rows before.
+-- The rows after the edits of a command are the rows before, changed by the pairs of the edits.
 use Rattle.std.proofs.Common.{◌≡◌, ◌≢◌, ℕ, suc, ◌<◌, ◌⊎◌, ⊎_elim, Bool, true, false, ◌||◌}
 use Rattle.std.proofs.Common.{List, [], ◌∷◌, ◌++◌, length, map, get_or, refl, sym, ap, ap₂, ◌∙◌, subst, arith}
 use Rattle.std.specs.Prelude.{IsPermutation}
@@ -42,7 +42,7 @@ use Rattle.mm_base.specs.RowLists.{live_references, rows_in, AreSmall}
 use Rattle.mm_base.proofs.AfterEdits.{stays_in, came, kept, AreReferences-after, rows_after}
 use Rattle.mm_base.proofs.References.{AreReferences, AreReferences-live, IsPermutation-references, none_in, one_of}
 
--- ---- two rows of one key
+-- ---- two rows with one key
 
 module _ (key : ℕ) (now : Slots) where
   -- a reference, and others whose rows have other keys
@@ -58,7 +58,7 @@ module _ (key : ℕ) (now : Slots) where
       (cases_Bool (same_in_column key (row_at now r) (row_at now b))))
       (none_alike r bs (All-tail (λ x. column_cmp key (row_at now r) (row_at now x) ≢ Equal) b bs apart))
 
-  -- rows whose keys are apart have no duplicates ..
+  -- rows with distinct keys have no duplicates ..
   pub none_from_apart : (refs : List RowRef) → KeysApart key now refs → has_duplicate_keys key (map (row_at now) refs) ≡ false
   none_from_apart [] apart = refl
   none_from_apart (r ∷ rs) apart =
@@ -77,7 +77,7 @@ module _ (key : ℕ) (now : Slots) where
       (λ (later : Contains xs b). ap (λ t. p (row_at now x) || t) (any_here p xs b later is) ∙ or_true (p (row_at now x)))
       (one_of b x xs here)
 
-  -- .. and the other way round
+  -- .. and conversely
   pub apart_from_none : (refs : List RowRef) → has_duplicate_keys key (map (row_at now) refs) ≡ false → KeysApart key now refs
   apart_from_none [] none = λ i j d before within. absurd (omega arith)
   apart_from_none (r ∷ rs) none =
@@ -112,7 +112,7 @@ module _ (key : ℕ) (now : Slots) where
         o)
         (cases_order mine.0 theirs.0)
 
-    -- the list has no two rows of one key exactly if no two rows in use have one
+    -- the list has no two rows with one key exactly if no two rows in use have one
     pub none_if_apart : AreApart key now → has_duplicate_keys key (map (row_at now) refs) ≡ false
     none_if_apart apart = none_from_apart refs (KeysApart-from apart)
 
@@ -234,7 +234,7 @@ module _ (key : ℕ) (now : Slots) (apart : AreApart key now) (small : AreSmall 
       (λ (no : has_duplicate_keys key (rows_with key now edits) ≡ false). absurd (twins (apart_if_none-after edits command no)))
       (cases_Bool (has_duplicate_keys key (rows_with key now edits)))
 
-  -- The rows after the edits are those that their pairs make of the rows before.
+  -- The rows after the edits are the rows before, changed by the pairs of the edits.
   pub rows_in-after : (edits : List Edit) → IsCommand key edits now → AreApart key (after edits now) → AreSmall (after edits now)
       → rows_in key (after edits now) ≡ rows_with key now edits
   rows_in-after [] command apart_after small_after = refl

@@ -46,11 +46,11 @@ module _ (key : ℕ) (now : Slots) (apart : AreApart key now) (small : AreSmall 
         sym (ap₂ (λ c d. column_cmp key (row_in c) (row_in d)) (still twin.0 twin.1) (still at live)) ∙ twin.3,
       )
 
-  -- So they leave no two rows with one key ..
+  -- So deletions leave no two rows with one key ..
   pub none_if_deleted : has_duplicate_keys key (rows_with key now edits) ≡ false
   none_if_deleted = none_if_apart-after key now apart small edits command apart_still
 
-  -- .. and no more rows than there were.
+  -- .. and no more rows than before.
   pub fewer_if_deleted : length (rows_with key now edits) ≤ length (rows_in key now)
   fewer_if_deleted =
       let refs : List RowRef = live_references now in

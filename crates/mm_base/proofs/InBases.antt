@@ -1,4 +1,4 @@
--- The rows of all tables, when one table changes, or comes, or goes.
+-- The rows of all tables, when one table changes, is added or is dropped.
 use Rattle.std.proofs.Common.{◌≡◌, ℕ, ◌+◌, ◌<◌, ◌≤◌, ⊎_elim, List, [], ◌∷◌, ◌++◌, length, map, drop, get_or, set, sym, ap, ap₂, ◌∙◌, subst, arith}
 use Rattle.std.specs.Prelude.{remove, Result, Ok, Err, OnOk, OnErr}
 use Rattle.std.proofs.lemmas.Bool.{cases_lt}
@@ -107,7 +107,7 @@ module _ (old new : List LoggedTable) (shapes : map shape_of new ≡ map shape_o
 
 -- ---- savepoints
 
--- Where the state at a mark and the shapes of the tables stay, so do the rows at the mark, and they are lawful as before.
+-- If the state at a mark and the shapes of the tables stay, so do the rows at the mark, and they remain lawful.
 module _ (old new : Stored) (mark : ℕ) (shapes : map shape_of new.tables ≡ map shape_of old.tables) (same : at_mark new mark ≡ at_mark old mark) where
   pub rows_at_mark-kept : rows_at_mark new mark ≡ rows_at_mark old mark
   rows_at_mark-kept = rows_from_keys old.tables new.tables (keys_from_shapes old.tables new.tables shapes) (at_mark old mark) (at_mark new mark) same
@@ -126,7 +126,7 @@ pub lawful_at_mark-empty : (s : Stored) (mark : ℕ) → s.log ≡ [] → AreLaw
     → AreLawful (keys_of s.tables) (at_mark s mark)
 lawful_at_mark-empty s mark empty = subst (AreLawful (keys_of s.tables)) (sym (at_mark-empty s mark empty))
 
--- ---- a table comes
+-- ---- a table is added
 
 module _ (keys : List ℕ) (state : List Slots) (size : length keys ≡ length state) where
   AreLawful-push : (key : ℕ) (now : Slots) → AreLawful keys state → IsLawful key now → AreLawful (keys ++ key ∷ []) (state ++ now ∷ [])
@@ -179,7 +179,7 @@ module _ (key : ℕ) (types : List ColType) (old new : List LoggedTable) (adds :
       ∙ (rows_of_state-push (keys_of old) (state_of old) key no_slots (keys_size old)
       ∙ ap (λ (rows : List (List Value)). rows_of_state (keys_of old) (state_of old) ++ rows ∷ []) (rows_in-none key))
 
--- it comes, or nothing changes
+-- the table is added, or nothing changes
 pub added_or_not : {T E : Type 0} (result : Result T E) (key : ℕ) (types : List ColType) (old new : Stored)
     → OnOk result (AddsTable key types old.tables new.tables) → OnErr result (new ≡ old) → AreLawful (keys_of old.tables) (state_of old.tables)
     → AreLawful (keys_of new.tables) (state_of new.tables)
@@ -193,7 +193,7 @@ pub added_then : {T E : Type 0} (result : Result T E) (key : ℕ) (types : List 
 added_then (Ok done) key types old new adds = added_rows key types old new adds
 added_then (Err error) key types old new adds = tt
 
--- ---- a table goes
+-- ---- a table is dropped
 
 module _ (old new : List LoggedTable) (i : ℕ) (removed : new ≡ remove old i) where
   keys_removed : keys_of new ≡ remove (keys_of old) i

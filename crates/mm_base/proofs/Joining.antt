@@ -1,4 +1,4 @@
--- Foreign keys when tables change, and their ties stay.
+-- Foreign keys when tables change and their ties stay.
 use Rattle.std.proofs.Common.{◌≡◌, ◌≢◌, ℕ, ◌+◌, ◌<◌, ◌≤◌, ⊎_elim, List, [], ◌∷◌, ◌++◌, length, map, drop, get_or, set, refl, sym, ap, ◌∙◌, subst, arith}
 use Rattle.std.proofs.lemmas.Bool.{cases_eq}
 use Rattle.std.proofs.lemmas.List.{drop_all, length-map}
@@ -67,7 +67,7 @@ types_from_shapes old new same = ap types_in_shapes same
 types_size : (tables : List LoggedTable) → length (types_of tables) ≡ length (map shape_of tables)
 types_size tables = length-map (map shape_of tables) (λ (x : Shape). x.types)
 
--- ---- tables of which no more slots are used
+-- ---- tables that use no more slots
 
 pub no_more : (old new : List LoggedTable) → extents_of new ≡ extents_of old → (t : ℕ) → extent_in new t ≤ extent_in old t
 no_more old new same t = omega (arith, ap (λ (es : List ℕ). get_or es t 0) same)

@@ -1,4 +1,4 @@
--- Lists that a test, a step or a prefix makes.
+-- Lists made by a test, a step or a prefix.
 use Rattle.std.proofs.Common.{◌≡◌, ℕ, zero, suc, ◌+◌, ◌<◌, Bool, true, false, List, [], ◌∷◌, ◌++◌, length, get_or, take, refl, sym, ap, ◌∙◌, subst, ⊎_elim}
 use Rattle.std.proofs.Common.{arith}
 use Rattle.std.specs.List.{All, filter, items_where_true, list_any}
@@ -6,7 +6,7 @@ use Rattle.std.specs.List.Retain.{ReturnsInTurn}
 use Rattle.std.proofs.lemmas.Bool.{cases_Bool, cond-true, cond-false, false≢true}
 use Rattle.std.proofs.lemmas.List.Folds.{list_any_at}
 
--- what a test that stays as it is keeps
+-- the result of a test that is unchanged
 module _ {X P : Type 0} (R : P → X → Bool → P → Type 0) (test : X → Bool) (start : P)
     (says : (x : X) (b : Bool) (q : P) → R start x b q → (q ≡ start) × (b ≡ test x)) where
   pub kept_is : (bs : List Bool) (xs : List X) (q : P) → length bs ≡ length xs → ReturnsInTurn R start bs xs q → items_where_true bs xs ≡ filter test xs
@@ -22,7 +22,7 @@ module _ {X P : Type 0} (R : P → X → Bool → P → Type 0) (test : X → Bo
       let rest : ReturnsInTurn R start bs xs q = subst (λ (p : P). ReturnsInTurn R p bs xs q) told.0 runs.2 in
       kept_is bs xs q (omega (arith, size)) rest ∙ sym (cond-false _ _ _ (sym told.1))
 
--- one element more of a list
+-- one more element of a list
 take_suc : {X : Type 0} (xs : List X) (i : ℕ) (d : X) → i < length xs → take (suc i) xs ≡ take i xs ++ get_or xs i d ∷ []
 take_suc [] i d within = absurd (omega (arith, within))
 take_suc (x ∷ xs) zero d within = refl

@@ -29,7 +29,7 @@ module _ (old : List LoggedTable) (t : ℕ) (edits : List Edit) (within : t < le
   pub lawful_here : IsLawful (key_in old t) (slots_in old t)
   lawful_here = lawful t there
 
-  -- where twins are left, `DuplicateKey` is due
+  -- if two rows have one key, `DuplicateKey` is due
   pub twins_due : (lacks leaves : Bool) → (AreApart (key_in old t) (after edits (slots_in old t)) → ⊥)
       → first_refusal (table_rows_conditions (key_in old t) (rows_with (key_in old t) (slots_in old t) edits) lacks leaves) ≡ Some DuplicateKey
   twins_due lacks leaves twins =
@@ -59,7 +59,7 @@ module _ (old : List LoggedTable) (t : ℕ) (edits : List Edit) (within : t < le
         counted_after : nat_lt most_rows (length (rows_in (key_in old t) (after edits (slots_in old t)))) ≡ full
         counted_after = sym (counted ∙ ap₂ (λ (k : ℕ) (s : Slots). nat_lt most_rows (length (rows_in k s))) (key_same old new t shapes) slots)
 
-        -- else what the foreign keys refuse is due, and then `TableFull` if the table has too many rows
+        -- otherwise the refusal of the foreign keys is due, and then `TableFull` if the table has too many rows
         pub full_due : (lacks leaves : Bool)
             → first_refusal (table_rows_conditions (key_in old t) (rows_with (key_in old t) (slots_in old t) edits) lacks leaves)
             ≡ due_after lacks leaves full

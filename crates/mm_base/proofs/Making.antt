@@ -1,4 +1,4 @@
--- The edits of a command with what the foreign keys refuse.
+-- The edits of a command with the refusals of the foreign keys.
 use Rattle.std.proofs.Common.{◌≡◌, ◌<◌, ◌≤◌, ℕ, Bool, true, false, cond, List, ◌++◌, Option, Some, None, length, map, take, get_or, set, refl, ap}
 use Rattle.std.proofs.Common.{ap₂, ◌∙◌, subst, arith}
 use Rattle.std.specs.Bool.{OnFalse}
@@ -69,12 +69,12 @@ module _ (old : Stored) (links : List Link) (sound : IsSound old links) (t : ℕ
       (loses ∙ losses_found old.tables t edits links)
 
   module _ (new : Stored) (shapes : map shape_of new.tables ≡ map shape_of old.tables) (extents : extents_of new.tables ≡ extents_of old.tables) where
-    -- refused
+    -- the command is refused
     pub joined_refused : state_of new.tables ≡ state_of old.tables → new.log ≡ old.log → All (IsJoined new.tables new.log) links
     joined_refused state log k d inside =
         joined_same old.tables new.tables shapes (get_or links k d) old.log new.log extents state log (sound.joined k d inside)
 
-    -- made
+    -- the command is made
     pub behind_all : state_of new.tables ≡ set (state_of old.tables) t (after edits (slots_in old.tables t))
         → new.log ≡ old.log ++ map (logged t) edits → ((mark : ℕ) → mark ≤ length old.log → at_mark new mark ≡ at_mark old mark)
         → AreLawful (keys_of new.tables) (state_of new.tables)

@@ -33,7 +33,7 @@ use Rattle.mm_base.proofs.Retied.{subst_three}
 
 -- ---- a table at another place
 
--- the table at one place of the one list is that at another place of the other
+-- the table at one place of one list is that at another place of the other list
 record SameAt (old new : List LoggedTable) (i j : ℕ) : Type 0 where
   pub key : key_in new j ≡ key_in old i
   pub slots : slots_in new j ≡ slots_in old i
@@ -58,7 +58,7 @@ SameAt-from old new i j within inside same =
       types = types_read new j t inside is ∙ sym (types_read old i t within was);
     }
 
--- a link whose tables have other places
+-- a link whose tables are at other places
 joined_moved : (old new : List LoggedTable) (log : List LogRecord) (x y : Link) (f t : ℕ)
     → y.reference ≡ record { from = f; column = x.reference.column; to = t } → y.ties ≡ x.ties → f < length new → t < f
     → SameAt old new x.reference.from f → SameAt old new x.reference.to t → IsJoined old log x → IsJoined new [] y
@@ -149,7 +149,7 @@ module _ (key : ℕ) (types : List ColType) (old new : List LoggedTable) (adds :
 
 -- ---- a table is dropped
 
--- where another place comes to lie
+-- the new place of another table
 pub record Lies (gone place to : ℕ) : Type 0 where
   pub side : ((gone < place) × (to + 1 ≡ place)) ⊎ ((place < gone) × (to ≡ place))
 

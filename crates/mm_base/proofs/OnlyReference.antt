@@ -1,4 +1,4 @@
--- What two tests of links say of a column.
+-- The meaning of two tests of links for a column.
 use Rattle.std.proofs.Common.{◌≡◌, ℕ, zero, suc, ◌<◌, Bool, true, false, not, ◌&&◌, ◌↔◌, List, [], ◌∷◌, get_or, length, refl, sym, ⊎_elim, ap, ◌∙◌, subst}
 use Rattle.std.proofs.Common.{arith}
 use Rattle.std.specs.Prelude.{◌==◌}
@@ -22,14 +22,14 @@ reference_told a b told =
     let to = eqb-true a.to b.to parts.1 in
     λ i. record { from = sym column.0 i; column = sym column.1 i; to = sym to i }
 
--- One of them passes where it is among them.
+-- A test passes if a link that passes it is among the links.
 passes : (p : Reference → Bool) (links : List Reference) (r : Reference) (k : ℕ) → k < length links → get_or links k r ≡ r → p r ≡ true
     → list_any p links ≡ true
 passes p [] r k within is told = absurd (omega (arith, within))
 passes p (x ∷ links) r zero within is told = or_left (p x) (list_any p links) (ap p is ∙ told)
 passes p (x ∷ links) r (suc k) within is told = or_right (p x) (list_any p links) (passes p links r k (omega (arith, within)) is told)
 
--- And one is among them where one passes.
+-- And such a link is among them if the test passes.
 among : (p : Reference → Bool) (links : List Reference) → list_any p links ≡ true → (r : Reference) × Contains links r × (p r ≡ true)
 among p [] any = absurd (false≢true any)
 among p (x ∷ links) any = ⊎_elim
@@ -79,7 +79,7 @@ module _ (links : List Reference) (from column to : ℕ) where
       let one = among (same_reference own) links parts.0 in
       (subst (Contains links) (reference_told own one.0 one.2) one.1, only (not-true has_other parts.1))
 
-  -- Both tests together tell that the column refers to the one table alone.
+  -- Both tests together show that the column refers only to the one table.
   pub tells_only : (b : Bool) → b ≡ (has && not has_other) → (b ≡ true) ↔ IsReference links from column to
   tells_only b is = (
     λ (does : b ≡ true). told (sym is ∙ does),

@@ -1,4 +1,4 @@
--- The rows that a command brings are those of its table that may refer to none.
+-- The new rows of a command are those of its table that may refer to no row.
 use Rattle.std.proofs.Common.{◌≡◌, ℕ, ◌<◌, ⊎_elim, Bool, true, false, not, ◌||◌, ◌&&◌, cond}
 use Rattle.std.proofs.Common.{List, [], ◌∷◌, length, map, get_or, refl, sym, ap, ap₂, ◌∙◌, subst, arith}
 use Rattle.std.specs.Prelude.{◌==◌}
@@ -80,7 +80,7 @@ module _ (p : List Value → Bool) (key : ℕ) (now : Slots) where
       any_rows
       ∙ list_any_at (λ x. p (row_at now x)) (live_references now) here.0 at here.1 (ap (λ (x : RowRef). p (row_at now x)) here.2 ∙ passes)
 
-  -- the new rows of the pairs are those that come
+  -- the new rows of the pairs are those of the edits
   any_coming : (edits : List Edit)
       → list_any p (filter_map (λ (pair : Pair). pair.1) (edit_pairs now edits)) ≡ list_any (λ e. list_any p (coming now e)) edits
   any_coming [] = refl
@@ -90,7 +90,7 @@ module _ (p : List Value → Bool) (key : ℕ) (now : Slots) where
   any_coming (Move a b ∷ es) = ap₂ (λ (x y : Bool). x || y) (sym (or_false (p (row_at now b)))) (any_coming es)
   any_coming (Delete r ∷ es) = any_coming es
 
-  -- a test that no row passes now tells of the rows with the edits made what it tells of those that come
+  -- a test that no row passes now has the same result for the rows after the edits as for the new ones
   pub any_with : (edits : List Edit) → IsCommand key edits now → list_any p (rows_in key now) ≡ false
       → list_any p (rows_with key now edits) ≡ list_any (λ e. list_any p (coming now e)) edits
   any_with [] command none = none
@@ -104,7 +104,7 @@ module _ (p : List Value → Bool) (key : ℕ) (now : Slots) where
       ∙ (ap (λ (b : Bool). b || list_any p (filter_map (λ (pair : Pair). pair.1) pairs)) (any_filter p _ (rows_in key now) none)
       ∙ any_coming (e ∷ es))))
 
--- ---- rows that refer to none
+-- ---- rows that refer to no row
 
 -- a row with a target does not lack one
 lacks_none : (column key : ℕ) (then : Slots) (row : List Value) → AreSmall then → HasTargetRow column key then row
@@ -154,7 +154,7 @@ module _ (tables : List LoggedTable) (log : List LogRecord) (lawful : AreLawful 
       ∙ sym (any-map (λ (link : Link). link.reference)
       (finds_orphan tables table (rows_with (key_in tables table) (slots_in tables table) edits)) links)
 
--- ---- rows that are referred to
+-- ---- referenced rows
 
 any_pairs : (column key : ℕ) (rows : List (List Value)) (now : Slots) (edits : List Edit)
     → list_any (λ e. loses_target column key rows (pair_of now e).0 (pair_of now e).1) edits ≡ lose_targets column key rows (edit_pairs now edits)

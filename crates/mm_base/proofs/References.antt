@@ -34,7 +34,7 @@ only_one x y (k, within, is) = ap (λ n. get_or (y ∷ []) n x) (let first : 0 �
 pub one_of : {X : Type 0} (x y : X) (ys : List X) → Contains (y ∷ ys) x → (y ≡ x) ⊎ Contains ys x
 one_of x y ys here = ⊎_elim (λ (h : Contains (y ∷ []) x). inl (only_one x y h)) (λ (h : Contains ys x). inr h) (Contains-append_cases (y ∷ []) ys x here)
 
--- a reference is in a list, or it isn't
+-- a reference is in a list, or it is not
 pub in_or_out : (refs : List RowRef) (at : RowRef) → Contains refs at ⊎ (Contains refs at → ⊥)
 in_or_out [] at = inr (λ here. none_in at here)
 in_or_out (r ∷ rs) at =
@@ -47,7 +47,7 @@ in_or_out (r ∷ rs) at =
     (in_or_out rs at))
     (same_or_apart r at)
 
--- ---- what a filter leaves
+-- ---- the result of a filter
 
 module _ {X : Type 0} (p : X → Bool) where
   pub in_filter : (xs : List X) (x : X) → Contains xs x → p x ≡ true → Contains (filter p xs) x
@@ -85,7 +85,7 @@ filter-map f p (x ∷ xs) = step (p (f x)) (filter-map f p xs)
     step true same = ap (λ ys. f x ∷ ys) same
     step false same = same
 
--- what a partial function gives of the elements
+-- the results of a partial function for the elements
 module _ {X Y : Type 0} (f : X → Option Y) where
   pub in_filter_map : (xs : List X) (x : X) (y : Y) → Contains xs x → f x ≡ Some y → Contains (filter_map f xs) y
   in_filter_map [] x y here is = absurd (none_in x here)
@@ -158,7 +158,7 @@ count-in x (r ∷ rs) apart here =
     omega (arith, sum_by-cons (one x) r rs, one-apart x r other, count-in x rs (rest_apart r rs apart) later))
     (one_of x r rs here)
 
--- such lists of the same references are one in another order
+-- such lists of the same references are permutations
 pub IsPermutation-same : (xs ys : List RowRef) → AllPairs (λ a b. a ≢ b) xs → AllPairs (λ a b. a ≢ b) ys → ((r : RowRef) → Contains xs r → Contains ys r)
     → ((r : RowRef) → Contains ys r → Contains xs r) → IsPermutation xs ys
 IsPermutation-same xs ys apart_xs apart_ys there back =

@@ -1,4 +1,4 @@
--- A link that has followed.
+-- A link that was updated.
 use Rattle.std.proofs.Common.{◌≡◌, ◌≢◌, ℕ, List, refl, sym, ap, subst, arith}
 use Rattle.mm_link.specs.Links.{Follows as FollowsSlots, HasRoom, SameSize}
 use Rattle.mm_link.specs.declared.link.Link.{Link}

@@ -23,7 +23,7 @@ pub record IsLawful (key : ℕ) (now : Slots) : Type 0 where
   pub few : length (rows_in key now) ≤ most_rows
   pub small : AreSmall now
 
--- .. those of each table, with these keys
+-- The slots of each table are lawful, with these keys.
 abbrev pub AreLawful : List ℕ → List Slots → Type 0
 AreLawful keys state = (t : ℕ) → t < length state → IsLawful (slice_index keys t) (slice_index_or state t no_slots)
 
@@ -40,19 +40,19 @@ rows_of_state [] state = []
 rows_of_state (key ∷ keys) [] = []
 rows_of_state (key ∷ keys) (now ∷ state) = rows_in key now ∷ rows_of_state keys state
 
--- .. now
+-- The rows in use of each table now.
 abbrev pub rows_now : Stored → List (List (List Value))
 rows_now s = rows_of_state (keys_of s.tables) (state_of s.tables)
 
--- .. and when the log had so many records
+-- The rows in use of each table when the log had this length.
 abbrev pub rows_at_mark : Stored → ℕ → List (List (List Value))
 rows_at_mark s mark = rows_of_state (keys_of s.tables) (at_mark s mark)
 
--- The rows of a table, with edits made.
+-- The rows of a table after edits.
 abbrev pub rows_made : Stored → ℕ → List Edit → List (List Value)
 rows_made s table edits = rows_with (key_in s.tables table) (slots_in s.tables table) edits
 
--- What callers see: tables and log, and the foreign keys with their ties.
+-- The model of base tables for callers: tables and log, and the foreign keys with their ties.
 pub record Base : Type 0 where
   pub stored : Stored
   pub links : List Link
@@ -60,22 +60,22 @@ pub record Base : Type 0 where
 abbrev pub references_of : List Link → List Reference
 references_of links = map (λ (link : Link). link.reference) links
 
--- Each table is lawful, and each foreign key follows.
+-- Each table is lawful, and the ties of each foreign key follow the rows.
 pub record IsSound (s : Stored) (links : List Link) : Type 0 where
   pub lawful : AreLawful (keys_of s.tables) (state_of s.tables)
   pub joined : All (IsJoined s.tables s.log) links
 
--- What refuses the edits of a table, in the one order.
+-- The conditions that refuse the edits of a table, in the one order.
 abbrev pub edit_conditions : Base → ℕ → List Edit → List Condition
 edit_conditions s table edits =
     table_rows_conditions (key_in s.stored.tables table) (rows_made s.stored table edits)
     (has_orphans s.stored.tables (references_of s.links) table (rows_made s.stored table edits))
     (makes_orphans s.stored.tables (references_of s.links) table (edit_pairs (slots_in s.stored.tables table) edits))
 
--- Each link has entries or counts for as many new rows of each table as before.
+-- Each link has entries or counts for at least as many new rows of each table as before.
 abbrev pub KeepsEntries : Base → Base → Type 0
 KeepsEntries old new = (t n : ℕ) → HaveEntriesFor n t old.stored.tables old.links → HaveEntriesFor n t new.stored.tables new.links
 
--- The references when the table at a place is dropped: its own are dropped, too.
+-- The references after the table at a place is dropped, without its own.
 abbrev pub references_without : ℕ → List Reference → List Reference
 references_without gone references = map (moved_up gone) (filter (λ reference. not (reference.from == gone)) references)

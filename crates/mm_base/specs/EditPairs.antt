@@ -8,7 +8,7 @@ use Rattle.mm_tables.specs.declared.edit.Edit.{Edit}
 use Rattle.mm_tables.specs.declared.edit.Edit.TheVariants.{Stage, Insert, Update, Move, Delete}
 use Rattle.mm_base.specs.RowLists.{rows_in}
 
--- The old row of an edit and its new row, each if there is one. A row that is only staged is no change.
+-- The old row of an edit and its new row, each if there is one. A row that is only staged does not count as a change.
 abbrev pub edit_pair : Slots → Edit → Option Pair
 edit_pair now (Stage r) = None
 edit_pair now (Insert r) = Some (None, Some (row_at now r))
@@ -20,6 +20,6 @@ edit_pair now (Delete r) = Some (Some (row_at now r), None)
 abbrev pub edit_pairs : Slots → List Edit → List Pair
 edit_pairs now edits = filter_map (edit_pair now) edits
 
--- The rows in use, with the edits made.
+-- The rows in use after edits.
 abbrev pub rows_with : ℕ → Slots → List Edit → List (List Value)
 rows_with key now edits = changed key (edit_pairs now edits) (rows_in key now)

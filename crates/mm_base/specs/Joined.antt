@@ -46,7 +46,8 @@ pub record IsJoined (tables : List LoggedTable) (log : List LogRecord) (link : L
   pub follows : FollowsRows tables link
   pub logged : LogKeeps tables log link
 
--- The same of a link whose ties have not followed yet what was done in one table: if this is the referring table, they are as before.
+-- The link is between two tables, but its ties may not yet follow a change of one table: if this is the referring table, they are as
+-- before.
 pub record IsBehindIn (Behind : Link → Type 0) (table : ℕ) (tables : List LoggedTable) (log : List LogRecord) (link : Link) : Type 0 where
   pub between : IsBetween (map shape_of tables) link.reference
   pub entries : HasEntries tables link
@@ -54,13 +55,13 @@ pub record IsBehindIn (Behind : Link → Type 0) (table : ℕ) (tables : List Lo
   pub others : link.reference.from ≢ table → FollowsRows tables link
   pub logged : LogKeeps tables log link
 
--- The ties are those before the edits of a command of the referring table.
+-- The ties are those before the edits of a command in the referring table.
 abbrev pub BehindEdits : List LoggedTable → List Edit → Link → Type 0
 BehindEdits tables edits link =
     IsMade link.reference.column (key_in tables link.reference.to) (key_in tables link.reference.from) (slots_in tables link.reference.from)
     (slots_in tables link.reference.to) edits link.ties
 
--- The ties are those before the undo of an edit of the referring table.
+-- The ties are those before the undo of an edit in the referring table.
 abbrev pub BehindUndo : List LoggedTable → Edit → Link → Type 0
 BehindUndo tables edit link =
     IsTakenBack link.reference.column (key_in tables link.reference.to) (key_in tables link.reference.from) (slots_in tables link.reference.from)
@@ -71,12 +72,12 @@ pub record KeepsSize (old new : Link) : Type 0 where
   pub reference : new.reference ≡ old.reference
   pub size : SameSize old.ties new.ties
 
--- The link has followed.
+-- The link was updated: its ties follow the rows, and it has as many entries and counts as before.
 pub record HasFollowed (tables : List LoggedTable) (log : List LogRecord) (old new : Link) : Type 0 where
   pub kept : KeepsSize old new
   pub joined : IsJoined tables log new
 
--- Each slot is tied as before, and there are entries or counts for so many slots of a table.
+-- Each slot is tied as before, and there are entries or counts for `extent` slots of a table.
 pub record GrownTo (table extent : ℕ) (old new : Link) : Type 0 where
   pub grown : HasGrown old new
   pub to : HasGrownTo table extent new
@@ -86,6 +87,6 @@ pub record IsReady (tables : List LoggedTable) (link : Link) : Type 0 where
   pub untied : (at : RowRef) → target_at link.ties at ≡ None
   pub targets : extent_in tables link.reference.to ≤ link.ties.extent
 
--- Each link of a table has entries or counts for so many new rows of the table.
+-- Each link of a table has entries or counts for this number of new rows of the table.
 abbrev pub HaveEntriesFor : ℕ → ℕ → List LoggedTable → List Link → Type 0
 HaveEntriesFor n table tables links = All (HasGrownTo table (extent_in tables table + n)) links

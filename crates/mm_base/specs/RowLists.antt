@@ -1,4 +1,4 @@
--- The rows of slots as a list.
+-- The rows of slots, as a list.
 use Rattle.std.specs.Prelude.{ℕ, ◌-◌, ◌^◌, ◌<◌, Bool, true, false, List, filter, map}
 use Rattle.std.specs.List.{range_with_len}
 use Rattle.mm_value.specs.declared.row_ref.RowRef.{RowRef}

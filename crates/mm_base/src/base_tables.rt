@@ -60,7 +60,7 @@ impl Model for BaseTables {
 }
 
 impl BaseTables {
-    /// No tables, and an empty log. Allocates nothing.
+    /// Returns base tables without tables, with an empty log. Allocates nothing.
     pub fn new(alloc: Global) -> BaseTables
         ensures tables { result.stored.tables ≡ [] }
         ensures log { result.stored.log ≡ [] }
@@ -80,7 +80,7 @@ impl BaseTables {
     }
 
     /// Lemma: the rows of each table have the types of its columns and values that a program can have, and its indexes contain exactly
-    /// their references. The call goes over the tables and does nothing else.
+    /// their references. The call visits the tables and does nothing else.
     pub fn are_whole(&self)
         ensures { All (λ x. IsWhole x.rows) self.now.stored.tables }
     {
@@ -103,14 +103,14 @@ impl BaseTables {
         let _tables = &self.tables;
     }
 
-    /// The number of tables.
+    /// Returns the number of tables.
     pub fn len(&self) -> usize
         ensures { result ≡ length self.now.stored.tables }
     {
         self.tables.len()
     }
 
-    /// The length of the log: a savepoint, at which the state is the current one.
+    /// Returns the length of the log: a savepoint, at which the state is the current one.
     pub fn mark(&self) -> usize
         ensures mark { result ≡ length self.now.stored.log }
         ensures state { at_mark self.now.stored result ≡ state_of self.now.stored.tables }
@@ -120,7 +120,7 @@ impl BaseTables {
         self.tables.mark()
     }
 
-    /// The rows of a table with their indexes.
+    /// Returns the rows of a table with their indexes.
     pub fn table(&self, table: usize) -> &IndexedRows
         requires { table < length self.now.stored.tables }
         ensures table { HoldsAt (λ x. result.now ≡ x.rows) self.now.stored.tables table }
@@ -133,7 +133,7 @@ impl BaseTables {
         lawful_rows(&self.tables, table)
     }
 
-    /// Whether a column of a table refers to another table, and to no further one.
+    /// Returns whether a column of a table refers to another table, and to no other one.
     pub fn refers_only_to(&self, table: usize, column: usize, to: usize) -> bool
         ensures { IsTrue result ↔ IsReference (references_of self.now.links) table column to }
     {
@@ -157,8 +157,8 @@ impl BaseTables {
         follow(self.links.as_slice(), &self.tables, table, column, at)
     }
 
-    /// Appends a table without rows, with columns of these types, one of them as the key, and these foreign keys. `AllocError` if an
-    /// allocation fails; then nothing changes.
+    /// Appends a table without rows, with columns of these types, one of them as the key, and these foreign keys. Fails with `AllocError`
+    /// if an allocation fails; then nothing changes.
     pub fn add_table(
         &mut self,
         alloc: Global,
@@ -200,8 +200,8 @@ impl BaseTables {
         drop_links(&mut self.links, table);
     }
 
-    /// Appends an index on a column of a table over the rows in use, with capacity for the undo of the log. `AllocError` if an allocation
-    /// fails; then nothing changes.
+    /// Appends an index on a column of a table over the rows in use, with capacity for the undo of the log. Fails with `AllocError` if an
+    /// allocation fails; then nothing changes.
     pub fn add_index(
         &mut self,
         alloc: Global,
@@ -228,7 +228,7 @@ impl BaseTables {
         self.tables.add_index(alloc, table, column, kind)
     }
 
-    /// Drops the index of a table at a place, counted from 0. The places of those after it fall by one.
+    /// Drops the index of a table at a place, counted from 0. The places of later indexes decrease by one.
     pub fn drop_index(&mut self, table: usize, index: usize)
         requires within { table < length self.old.stored.tables }
         requires index { HoldsAt (λ x. index < length x.rows.indexes) self.old.stored.tables table }
@@ -247,8 +247,8 @@ impl BaseTables {
         self.tables.drop_index(table, index);
     }
 
-    /// Makes capacity for a command with `rows` new rows and `edits` edits of a table, in the table and in the log, and for its undo.
-    /// `AllocError` if an allocation fails; then there may be more capacity, and all else is as before.
+    /// Reserves capacity for a command with `rows` new rows and `edits` edits of a table, in the table and in the log, and for its undo.
+    /// Fails with `AllocError` if an allocation fails; then there may be more capacity, and all else is as before.
     pub fn reserve(
         &mut self,
         alloc: Global,
@@ -277,8 +277,8 @@ impl BaseTables {
         self.tables.reserve_log(records)
     }
 
-    /// Makes capacity for these edits of a table, in the table and in the log, and for their undo: an `Update` needs none in the index on
-    /// the key. `AllocError` if an allocation fails; then there may be more capacity, and all else is as before.
+    /// Reserves capacity for these edits of a table, in the table and in the log, and for their undo: an `Update` needs none in the index
+    /// on the key. Fails with `AllocError` if an allocation fails; then there may be more capacity, and all else is as before.
     pub fn reserve_for(
         &mut self,
         alloc: Global,
@@ -301,8 +301,8 @@ impl BaseTables {
         self.tables.reserve_log(edits.len())
     }
 
-    /// Moves the values of a new row of a table into a free slot that is hidden, logs that, and returns its reference. The rows in use
-    /// stay the same.
+    /// Moves the values of a new row of a table into a free slot, which becomes hidden, logs this, and returns the slot's reference. The
+    /// rows in use stay the same.
     pub fn stage(&mut self, table: usize, values: &mut [Value]) -> RowRef
         requires within { table < length self.old.stored.tables }
         requires capacity { HoldsAt (HasCapacity 1 0) self.old.stored.tables table }
@@ -332,7 +332,7 @@ impl BaseTables {
     }
 
     /// Makes the edits of a command in a table. Fails with the first refusal that is due: `DuplicateKey` if two rows would have one key,
-    /// `NoTargetRow` if a row would refer to none, `RowIsReferenced` if a row to which another one refers would be deleted or get another
+    /// `NoTargetRow` if a row would refer to no row, `RowIsReferenced` if a row to which another one refers would be deleted or get another
     /// key, or `TableFull` if there would be more than 1,048,576 rows. Then all tables and the log are as they were at a mark, also without
     /// the rows that were staged since. Allocates nothing.
     pub fn make(&mut self, mark: usize, table: usize, edits: &[Edit]) -> Result<(), Refusal>
@@ -372,7 +372,7 @@ impl BaseTables {
         Ok(())
     }
 
-    /// Undoes all edits that the log has beyond a mark, the newest first. Allocates nothing and cannot fail.
+    /// Undoes all edits of the log after a mark, newest first. Allocates nothing and cannot fail.
     pub fn revert(&mut self, mark: usize)
         requires mark { mark ≤ length self.old.stored.log }
         requires lawful { AreLawful (keys_of self.old.stored.tables) (at_mark self.old.stored mark) }
@@ -388,8 +388,8 @@ impl BaseTables {
         undo(&mut self.tables, &mut self.links, mark);
     }
 
-    /// Ends the transaction: the rows in use stay, every other slot becomes free, and the log is empty. Each table that the
-    /// log names gives back free slots, and each of its trees keeps at most 64 spare nodes. Allocates nothing and cannot fail.
+    /// Ends the transaction: the rows in use stay, every other slot becomes free, and the log is empty. Each table that the log names may
+    /// release free slots, and each of its trees keeps at most 64 spare nodes. Allocates nothing and cannot fail.
     pub fn settle(&mut self)
         ensures rows { rows_now self.new.stored ≡ rows_now self.old.stored }
         ensures log { self.new.stored.log ≡ [] }

@@ -16,16 +16,16 @@ use mm_link::Link;
 use mm_tables::{Edit, Tables};
 use mm_value::Refusal;
 
-/// What the foreign keys refuse of a command.
+/// The conditions by which foreign keys refuse a command.
 #[derive(Clone, Copy)]
 pub struct Orphans {
-    /// A row that comes refers to none.
+    /// A new row refers to no row.
     pub lacks: bool,
-    /// A row to which a row refers goes, or gets another key.
+    /// A referenced row is deleted or gets another key.
     pub leaves: bool,
 }
 
-/// The first refusal that is due if no two rows have one key.
+/// Returns the first refusal that is due if no two rows have one key.
 fn refusal_of(orphans: Orphans, full: bool) -> Option<Refusal>
     ensures { result ≡ cond orphans.lacks (Some refusals.NoTargetRow) (cond orphans.leaves (Some refusals.RowIsReferenced)
         (cond full (Some refusals.TableFull) None)) }
@@ -82,7 +82,7 @@ pub fn change(
     Ok(())
 }
 
-/// Undoes all edits that the log has beyond a mark, the newest first, and brings the ties up to each.
+/// Undoes all edits of the log after a mark, newest first, and updates the ties after each.
 pub fn undo(tables: &mut Tables, links: &mut Vec<Link>, mark: usize)
     requires mark { mark ≤ length tables.old.log }
     requires joined { All (IsJoined tables.old.tables tables.old.log) links.old.items }

@@ -17,7 +17,7 @@ use mm_tables::{Edit, Tables};
 use mm_value::RowRef;
 use std::alloc::{AllocError, Global};
 
-/// Links for new references, with no slot tied. `AllocError` if an allocation fails.
+/// Returns links for new references, with no slot tied. Fails with `AllocError` if an allocation fails.
 pub fn new_links(
     alloc: Global,
     tables: &Tables,
@@ -46,8 +46,8 @@ pub fn drop_links(links: &mut Vec<Link>, table: usize)
     }
 }
 
-/// Makes entries and counts for `extent` slots of a table in each link. `AllocError` if an allocation fails. In any case each slot is
-/// tied as before.
+/// Reserves entries and counts for `extent` slots of a table in each link. Fails with `AllocError` if an allocation fails. In any case each
+/// slot is tied as before.
 pub fn reserve_all(
     alloc: Global,
     links: &mut Vec<Link>,
@@ -63,7 +63,7 @@ pub fn reserve_all(
     Ok(())
 }
 
-/// Brings the links of a table up to the edits of a command.
+/// Updates the links of a table after the edits of a command.
 pub fn retie_all(links: &mut Vec<Link>, tables: &Tables, table: usize, edits: &[Edit])
     requires { All (IsBehindIn (BehindEdits tables.now.tables edits.now) table tables.now.tables tables.now.log) links.old.items }
     ensures { EachTurns (HasFollowed tables.now.tables tables.now.log) links.old.items links.new.items }
@@ -73,7 +73,7 @@ pub fn retie_all(links: &mut Vec<Link>, tables: &Tables, table: usize, edits: &[
     }
 }
 
-/// Brings a link up to the edits of a command, if it is of the table.
+/// Updates a link after the edits of a command, if it is of the table.
 fn retie(link: &mut Link, tables: &Tables, table: usize, edits: &[Edit])
     requires { IsBehindIn (BehindEdits tables.now.tables edits.now) table tables.now.tables tables.now.log link.old }
     ensures { HasFollowed tables.now.tables tables.now.log link.old link.new }
@@ -85,7 +85,7 @@ fn retie(link: &mut Link, tables: &Tables, table: usize, edits: &[Edit])
     }
 }
 
-/// Brings the links of a table up to the undo of an edit.
+/// Updates the links of a table after the undo of an edit.
 pub fn retie_undone_all(links: &mut Vec<Link>, tables: &Tables, table: usize, edit: Edit)
     requires { All (IsBehindIn (BehindUndo tables.now.tables edit) table tables.now.tables tables.now.log) links.old.items }
     ensures { EachTurns (HasFollowed tables.now.tables tables.now.log) links.old.items links.new.items }
@@ -95,7 +95,7 @@ pub fn retie_undone_all(links: &mut Vec<Link>, tables: &Tables, table: usize, ed
     }
 }
 
-/// Brings a link up to the undo of an edit, if it is of the table.
+/// Updates a link after the undo of an edit, if it is of the table.
 fn retie_undone(link: &mut Link, tables: &Tables, table: usize, edit: Edit)
     requires { IsBehindIn (BehindUndo tables.now.tables edit) table tables.now.tables tables.now.log link.old }
     ensures { HasFollowed tables.now.tables tables.now.log link.old link.new }
@@ -107,35 +107,35 @@ fn retie_undone(link: &mut Link, tables: &Tables, table: usize, edit: Edit)
     }
 }
 
-/// Whether a link has the column of a reference.
+/// Returns whether a link has the column of a reference.
 fn has_column(link: &Link, reference: Reference) -> bool
     ensures { result ≡ same_column reference link.now.reference }
 {
     reference.from == link.reference.from && reference.column == link.reference.column
 }
 
-/// Whether a link is a reference.
+/// Returns whether a link is of a reference.
 fn is_reference(link: &Link, reference: Reference) -> bool
     ensures { result ≡ same_reference reference link.now.reference }
 {
     has_column(link, reference) && reference.to == link.reference.to
 }
 
-/// Whether a link has the column of a reference and leads to another table.
+/// Returns whether a link has the column of a reference and refers to another table.
 fn leads_elsewhere(link: &Link, reference: Reference) -> bool
     ensures { result ≡ differs_in_target reference link.now.reference }
 {
     has_column(link, reference) && reference.to != link.reference.to
 }
 
-/// Whether one of the links is a reference.
+/// Returns whether one of the links is of a reference.
 pub fn has_reference(links: &[Link], reference: Reference) -> bool
     ensures { result ≡ list_any (λ link. same_reference reference link.reference) links.now }
 {
     links.iter().any(|link| is_reference(link, reference))
 }
 
-/// Whether one of the links has the column of a reference and leads to another table.
+/// Returns whether one of the links has the column of a reference and refers to another table.
 pub fn has_other_target(links: &[Link], reference: Reference) -> bool
     ensures { result ≡ list_any (λ link. differs_in_target reference link.reference) links.now }
 {

@@ -1,4 +1,4 @@
-//! What the foreign keys of all tables refuse, asked before a command's edits are made.
+//! The checks of foreign keys before a command's edits are made.
 ghost use Rattle.std.specs.Prelude.{◌≡◌, All};
 ghost use Rattle.std.specs.Bool.{OnFalse};
 ghost use Rattle.std.specs.List.{list_any};
@@ -21,7 +21,7 @@ use mm_indexed::IndexedRows;
 use mm_link::Link;
 use mm_tables::{Edit, Tables};
 
-/// Whether an edit of a table brings a row that refers to none.
+/// Returns whether some new row of a table's edits refers to no row.
 pub fn bring_orphans(links: &[Link], tables: &Tables, table: usize, edits: &[Edit]) -> bool
     requires lawful { AreLawful (keys_of tables.now.tables) (state_of tables.now.tables) }
     requires joined { All (IsJoined tables.now.tables tables.now.log) links.now }
@@ -37,7 +37,7 @@ pub fn bring_orphans(links: &[Link], tables: &Tables, table: usize, edits: &[Edi
     false
 }
 
-/// Whether an edit of a table brings a row that refers to none by a link.
+/// Returns whether some new row of a table's edits refers to no row by a link.
 fn brings_orphan(link: &Link, tables: &Tables, table: usize, edits: &[Edit]) -> bool
     requires lawful { AreLawful (keys_of tables.now.tables) (state_of tables.now.tables) }
     requires joined { IsJoined tables.now.tables tables.now.log link.now }
@@ -53,7 +53,7 @@ fn brings_orphan(link: &Link, tables: &Tables, table: usize, edits: &[Edit]) -> 
     brings_any_orphan(link, from, to, edits)
 }
 
-/// Whether one of these edits of the referring table brings a row that refers to none.
+/// Returns whether one of these edits of the referring table has a new row that refers to no row.
 fn brings_any_orphan(link: &Link, from: &IndexedRows, to: &IndexedRows, edits: &[Edit]) -> bool
     requires follows { Follows link.now.reference.column to.now.key (slot_at from.now.places) (slot_at to.now.places) link.now.ties }
     requires fits { All (Fits from.now.key (slot_at from.now.places)) edits.now }
@@ -70,7 +70,7 @@ fn brings_any_orphan(link: &Link, from: &IndexedRows, to: &IndexedRows, edits: &
     false
 }
 
-/// Whether an edit of a table takes a row, or its key, to which a row refers.
+/// Returns whether an edit of a table deletes a referenced row or changes its key.
 pub fn leave_orphans(links: &[Link], tables: &Tables, table: usize, edits: &[Edit]) -> bool
     requires lawful { AreLawful (keys_of tables.now.tables) (state_of tables.now.tables) }
     requires joined { All (IsJoined tables.now.tables tables.now.log) links.now }
@@ -86,7 +86,7 @@ pub fn leave_orphans(links: &[Link], tables: &Tables, table: usize, edits: &[Edi
     false
 }
 
-/// Whether an edit of a table takes a row, or its key, to which a row refers by a link.
+/// Returns whether an edit of a table deletes a row that is referenced by a link, or changes its key.
 fn leaves_orphan(link: &Link, tables: &Tables, table: usize, edits: &[Edit]) -> bool
     requires lawful { AreLawful (keys_of tables.now.tables) (state_of tables.now.tables) }
     requires joined { IsJoined tables.now.tables tables.now.log link.now }
@@ -102,7 +102,7 @@ fn leaves_orphan(link: &Link, tables: &Tables, table: usize, edits: &[Edit]) -> 
     false
 }
 
-/// Whether one of these edits of the target table takes a row, or its key, to which a row refers.
+/// Returns whether one of these edits of the target table deletes a referenced row or changes its key.
 fn leaves_any_orphan(link: &Link, from: &IndexedRows, to: &IndexedRows, edits: &[Edit]) -> bool
     requires follows { Follows link.now.reference.column to.now.key (slot_at from.now.places) (slot_at to.now.places) link.now.ties }
     requires fits { All (Fits to.now.key (slot_at to.now.places)) edits.now }

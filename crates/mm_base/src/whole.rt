@@ -1,4 +1,4 @@
-//! What holds of each table, and the number of its rows.
+//! Invariants of each table, and the number of its rows.
 ghost use Rattle.std.specs.Prelude.{◌≡◌, ◌+◌, ◌<◌, ◌≤◌, length, map, nat_lt, IfOk};
 ghost use Rattle.mm_schema.specs.Rows.{most_rows};
 ghost use Rattle.mm_indexed.specs.Twins.{AreApart};
@@ -25,7 +25,7 @@ pub fn is_whole(rows: &IndexedRows)
     rows.are_references_small();
 }
 
-/// The rows of a table with their indexes.
+/// Returns the rows of a table with their indexes.
 pub fn read(tables: &Tables, table: usize) -> &IndexedRows
     requires { table < length tables.now.tables }
     ensures table { HoldsAt (λ x. result.now ≡ x.rows) tables.now.tables table }
@@ -37,7 +37,7 @@ pub fn read(tables: &Tables, table: usize) -> &IndexedRows
     tables.table(table)
 }
 
-/// The number of slots of a table after so many new rows, each in a new slot. `AllocError` if there is no such number.
+/// Returns the number of slots of a table after `rows` new rows, each in a new slot. Fails with `AllocError` if this number overflows.
 pub fn slots_with(tables: &Tables, table: usize, rows: usize) -> Result<usize, AllocError>
     requires { table < length tables.now.tables }
     ensures { IfOk result (λ slots. slots ≡ extent_in tables.now.tables table + rows) }
@@ -46,7 +46,7 @@ pub fn slots_with(tables: &Tables, table: usize, rows: usize) -> Result<usize, A
     extent.checked_add(rows).ok_or(AllocError)
 }
 
-/// The rows of a lawful table. In the order of the key they are `rows_at`.
+/// Returns the rows of a lawful table. In the order of the key they are `rows_at`.
 pub fn lawful_rows(tables: &Tables, table: usize) -> &IndexedRows
     requires within { table < length tables.now.tables }
     requires lawful { AreLawful (keys_of tables.now.tables) (state_of tables.now.tables) }
@@ -79,7 +79,7 @@ pub fn are_small(tables: &Tables, table: usize)
     is_whole(tables.table(table));
 }
 
-/// Whether a table has more than 1,048,576 rows.
+/// Returns whether a table has more than 1,048,576 rows.
 pub fn has_too_many(tables: &Tables, table: usize) -> bool
     requires within { table < length tables.now.tables }
     requires apart { AreApart (key_in tables.now.tables table) (slots_in tables.now.tables table) }

@@ -1,4 +1,4 @@
--- A row has what an atom requires just where the atom is true of it.
+-- A row has the value that an atom requires exactly if the atom is true of it.
 use Rattle.std.proofs.Common.{◌≡◌, ℕ, ◌<◌, ◌==◌, Bool, true, false, cond, ◌&&◌, ℤ, pos, ◌+ℤ◌, ◌-ℤ◌, ◌<ℤ◌, Option, Some, None, [], ◌∷◌, ◌⊎◌, inl, inr, get_or}
 use Rattle.std.proofs.Common.{set, length, refl, sym, ap, ◌∙◌, arith}
 use Rattle.std.specs.Option.{option_map}
@@ -58,7 +58,7 @@ int_shifted Greater Greater w x s f g = refl
 turned : (v w : Value) → is_eq (value_cmp v w) ≡ is_eq (value_cmp w v)
 turned v w = ap is_eq (value_cmp_total.antisymm v w) ∙ is_eq_reversed (value_cmp w v)
 
--- A number added on one side may be taken away on the other.
+-- A number added on one side may be subtracted on the other.
 shift_over : (s : ℤ) (w x : Value) → is_eq (value_cmp x (shifted (pos 0 -ℤ s) w)) ≡ is_eq (value_cmp w (shifted s x))
 shift_over s (Int w) (Int x) =
     int_shifted (int_cmp w (x +ℤ s)) (int_cmp x (w +ℤ (pos 0 -ℤ s))) w x s (int_ranks w (x +ℤ s)) (int_ranks x (w +ℤ (pos 0 -ℤ s)))

@@ -1,4 +1,4 @@
--- What some rows at one place add, row by row.
+-- The contribution of rows at one place, row by row.
 use Rattle.std.proofs.Common.{◌≡◌, ℕ, suc, List, [], ◌∷◌, ◌++◌, drop, get_or, map, take, refl, sym, ◌∙◌, arith}
 use Rattle.std.specs.List.{sum_by}
 use Rattle.std.proofs.lemmas.List.Sums.{sum_by-cons}
@@ -14,7 +14,7 @@ zeros : {X : Type 0} (xs : List X) → sum_by (λ x. 0) xs ≡ 0
 zeros [] = refl
 zeros (x ∷ xs) = omega (arith, sum_by-cons (λ y. 0) x xs, zeros xs)
 
--- No row at one place, no combination.
+-- If one place has no row, there is no combination.
 none_at : {X : Type 0} (front : List (List X)) (rest : List (List X)) (f : List X → ℕ) → sum_by f (combinations (front ++ [] ∷ rest)) ≡ 0
 none_at [] rest f = refl
 none_at (xs ∷ front) rest f =

@@ -35,7 +35,7 @@ counted_there rows i d inside =
     let row : Row = get_or rows i d in
     omega (arith, get_or-le-sum_by (λ r. cond (same_row row r) 1 0) rows i d inside, ap {B = ℕ} (λ b. cond b 1 0) (same_row_equiv.refl row))
 
--- .. and one that is counted stands in it.
+-- .. and a counted row is in it.
 stands_where_counted : (rows : Rows) (row : Row) → 1 ≤ count_of row rows → Contains rows row
 stands_where_counted rows row counted =
     let place = place_of row rows (omega arith) in
@@ -52,7 +52,7 @@ module _ (seen : Seen) (changes : List TableChange) (table : ℕ) (stored : Stor
     is_table : IsTable stored
     is_table = table_seen seen table stored at
 
-    -- A row that goes is one before the change.
+    -- An old row is one before the change.
     pub gone_are_rows : All (IsRowOf store changes table) (gone_at store changes table)
     gone_are_rows =
         subst (All (IsRowOf store changes table)) (sym (gone_is store changes table stored at))
@@ -64,7 +64,7 @@ module _ (seen : Seen) (changes : List TableChange) (table : ℕ) (stored : Stor
         (mapped_there (row_at (slot_at stored.places)) stored.refs gone ((is_table.kept.held gone).1
         (old_live stored.key (slot_at stored.places) (edits_at changes table) (fit table stored at).fits k d within))))))
 
-    -- A row that comes is one after it.
+    -- A new row is one after the change.
     pub come_are_rows : All (IsRowOf store changes table) (come_at store changes table)
     come_are_rows k d within =
         let row : Row = get_or (come_at store changes table) k d in

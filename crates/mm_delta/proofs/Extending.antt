@@ -33,7 +33,7 @@ pub reads_more : {A : Type 0} (g : Row → ℕ) (f : A → Row) (items : List A)
 reads_more g f items i x first reads next inside is h e =
     omega (arith, h, e, ap (sum_by g) (one_more f items i x inside is), sum_by_push g (map f (take i items)) (f x))
 
--- What the first ones add is no more than all add.
+-- The contribution of the first items is no more than that of all.
 pub part_le : {A : Type 0} (g : Row → ℕ) (f : A → Row) (items : List A) (i : ℕ) → sum_by g (map f (take i items)) ≤ sum_by g (map f items)
 part_le g f items i = omega (arith, ap (sum_by g) (sym (take-map f i items)), sum_by-take-le g (map f items) i)
 

@@ -1,4 +1,4 @@
--- What is found is what the plain product holds.
+-- The combinations found are those of the plain product.
 use Rattle.std.proofs.Common.{◌≡◌, ◌≢◌, ℕ, Bool, true, false, cond, ◌&&◌, Option, Some, None, List, [], ◌∷◌, inl, inr, get_or, set, map, refl, sym, ap, ◌∙◌}
 use Rattle.std.proofs.Common.{arith}
 use Rattle.std.specs.List.{AllByRecursion, filter, flat_map}
@@ -23,7 +23,7 @@ Row = List Value
 abbrev pub Rows : Type 0
 Rows = List Row
 
--- The one has each row of the other.
+-- The first combination has each row of the second.
 abbrev pub Extends : Partial → Partial → Type 0
 Extends m m' = (p : ℕ) (row : Row) → get_or m p None ≡ Some row → get_or m' p None ≡ Some row
 
@@ -59,7 +59,7 @@ false_extends r None b a' b' f g e = cc
 false_extends r (Some a) None a' b' f g e = cc
 false_extends r (Some a) (Some b) a' b' f g e = (λ i. holds_of r (f a refl i) (g b refl i)) ∙ e
 
--- An atom that is false stays so ..
+-- A false atom stays false ..
 pub holds_extends : (m m' : Partial) → Extends m m' → (a : Atom FieldPlace) → holds (value_at m) a ≡ false → holds (value_at m') a ≡ false
 holds_extends m m' h a e =
     false_extends a.comparison (value_at m a.left) (operand_of (value_at m) a.right) (value_at m' a.left) (operand_of (value_at m') a.right)
@@ -87,7 +87,7 @@ open_set (i ∷ js) m j x others h = (
   open_set js m j x others.1 h.3,
 )
 
--- Where an atom is false, nothing completes the rows.
+-- If an atom is false, nothing completes the rows.
 pub none_complete : (q : BoundQuery) (rows : ℕ → Rows) (js : List ℕ) (m : Partial) → AreOpen js m → none_fails q.atoms m ≡ false
     → filter (none_fails q.atoms) (completions rows js m) ≡ []
 none_complete q rows [] m h e = ap (λ b. cond b (m ∷ []) []) e
@@ -104,7 +104,7 @@ by_cases : {X : Type 0} (b : Bool) (xs ys : List X) → (b ≡ true → xs ≡ y
 by_cases true xs ys f g = f refl
 by_cases false xs ys f g = g refl
 
--- What is found are the completions of which all atoms hold.
+-- The combinations found are the completions of which all atoms are true.
 pub found_is : (q : BoundQuery) (rows : ℕ → Rows) (js : List ℕ) (m : Partial) → AreOpen js m
     → found q rows js m ≡ map (values_of q.fields) (filter (none_fails q.atoms) (completions rows js m))
 found_is q rows [] m h = found_last (none_fails q.atoms m) m q

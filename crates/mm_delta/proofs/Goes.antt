@@ -1,4 +1,4 @@
--- The rows that stay and those that come are the rows after the edits.
+-- The rows that stay and the new rows are the rows after the edits.
 use Rattle.std.proofs.Common.{◌≡◌, ◌≢◌, ℕ, ◌+◌, Bool, true, false, not, cond, ◌||◌, List, [], ◌∷◌, ◌++◌, append-nil, get_or, map, inl, inr}
 use Rattle.std.proofs.Common.{refl, sym, ap, ap₂, ◌∙◌, subst, arith}
 use Rattle.std.specs.List.{All, AllPairs, Contains, filter, list_any, sum_by}
@@ -52,7 +52,7 @@ changed_moved key [] rows =
     (IsPermutation-refl rows)
 changed_moved key (p ∷ ps) rows = IsPermutation-in_order (column_cmp key) (unsorted key (p ∷ ps) rows)
 
--- ---- the references that edits take
+-- ---- the references of the old rows of edits
 
 takes_named : (edits : List Edit) (at : RowRef) → list_any (takes at) edits ≡ list_any (λ (r : RowRef). same_ref r at) (old_slots edits)
 takes_named [] at = refl
@@ -66,7 +66,7 @@ module _ (stored : StoredRows) (is_table : IsTable stored) where
   abbrev now : Slots
   now = slot_at stored.places
 
-  -- A row in use has the key of another where it is the same row.
+  -- A row in use has the key of another exactly if it is the same row.
   same_test : (at r : RowRef) → HasRow now at → HasRow now r → same_in_column stored.key (row_at now at) (row_at now r) ≡ same_ref r at
   same_test at r live there =
       elim (cases_Bool (same_ref r at)) [
@@ -83,7 +83,7 @@ module _ (stored : StoredRows) (is_table : IsTable stored) where
         ]
       ]
 
-  -- So it goes where an edit takes it.
+  -- So a row is removed if an edit names it.
   goes_taken : (at : RowRef) → HasRow now at → (edits : List Edit) → All (HasRow now) (old_slots edits)
       → list_any (λ (p : Pair). goes stored.key (row_at now at) p.0) (pairs_of now edits) ≡ list_any (takes at) edits
   goes_taken at live [] all = refl
@@ -103,7 +103,7 @@ module _ (stored : StoredRows) (is_table : IsTable stored) where
     abbrev kept : List RowRef
     kept = filter (stays edits) stored.refs
 
-    -- Before they are sorted, the rows after the edits are those that stay and those that come.
+    -- Before they are sorted, the rows after the edits are those that stay and the new ones.
     unsorted_is : unsorted stored.key (pairs_of now edits) (rows_of stored) ≡ map (row_at now) kept ++ rows_come now edits
     unsorted_is =
         let stays_in : List Value → Bool = λ row. not (list_any (λ (p : Pair). goes stored.key row p.0) (pairs_of now edits)) in
@@ -115,7 +115,7 @@ module _ (stored : StoredRows) (is_table : IsTable stored) where
         ap not (goes_taken at ((is_table.kept.held at).0 (Contains-get_or stored.refs k d within)) edits (old_live stored.key now edits fit.fits)))))
         refl
 
-    -- The rows after the edits are those that come and those that stay.
+    -- The rows after the edits are the new ones and those that stay.
     pub after_edits : (f : List Value → ℕ) → sum_by f (rows_after stored edits) ≡ sum_by f (map (row_at now) kept) + sum_by f (rows_come now edits)
     after_edits f =
         sum_by-IsPermutation f (unsorted stored.key (pairs_of now edits) (rows_of stored)) (rows_after stored edits)
@@ -131,7 +131,7 @@ module _ (stored : StoredRows) (is_table : IsTable stored) where
     stay_apart : (at : RowRef) → Contains (old_slots edits) at → Contains kept at → ⊥
     stay_apart at goes here = false≢true (sym (gone_taken at goes) ∙ (out_of_filter (stays edits) stored.refs at here).1)
 
-    -- A reference that no edit takes stays.
+    -- A reference that no edit names stays.
     cases : (at : RowRef) → Contains stored.refs at → Contains (old_slots edits ++ kept) at
     cases at here =
         elim (cases_Bool (list_any (λ (r : RowRef). same_ref r at) (old_slots edits))) [
@@ -143,7 +143,7 @@ module _ (stored : StoredRows) (is_table : IsTable stored) where
               (in_filter (stays edits) stored.refs at here (ap not (takes_named edits at ∙ unmet)))
         ]
 
-    -- The references of the rows that go and of those that stay are those of all rows.
+    -- The references of the old rows of edits and of those that stay are those of all rows.
     same : IsPermutation stored.refs (old_slots edits ++ kept)
     same =
         let all : AllPairs (λ a b. a ≢ b) stored.refs = distinct stored.key now stored.refs is_table.kept.by_key in
@@ -160,7 +160,7 @@ module _ (stored : StoredRows) (is_table : IsTable stored) where
           | inr stays_there ↦ (out_of_filter (stays edits) stored.refs at stays_there).0
         ])
 
-    -- The rows after the edits and those that go are in sum the rows before them and those that come.
+    -- The rows after the edits plus the old rows of edits are the rows before plus the new rows.
     pub edits_balance : Balance (rows_after stored edits) (map (row_at now) (old_slots edits)) (rows_of stored) (rows_come now edits)
     edits_balance f =
         omega (

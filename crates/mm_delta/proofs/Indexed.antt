@@ -1,4 +1,4 @@
--- Where a column has an index.
+-- Columns with an index.
 use Rattle.std.proofs.Common.{◌≡◌, ℕ, ◌<◌, ◌==◌, Bool, true, false, ◌||◌, length, get_or, Option, Some, None, inl, inr, refl, sym, ap, ◌∙◌, subst}
 use Rattle.std.specs.Prelude.{is_some}
 use Rattle.std.specs.List.{list_any}
@@ -64,7 +64,7 @@ module _ (stored : StoredRows) (column : ℕ) where
         | inr unmet ↦ unmet
       ]))
 
-  -- There is a first index just where there is one.
+  -- There is a first index exactly if there is one.
   pub first_indexed : (o : Option IndexRef) → IsFirstOn stored column o → is_some o ≡ is_indexed stored column
   first_indexed None none = sym (not_there none)
   first_indexed (Some index) first = sym (there index first.0)

@@ -1,4 +1,4 @@
--- Rows that are left out add nothing, and for the rows that are gone over it is as if none were skipped.
+-- Rows that are left out add nothing, and a row that is not left out is not skipped.
 use Rattle.std.proofs.Common.{◌≡◌, ℕ, ◌+◌, ◌<◌, ◌≤◌, ◌==◌, ◌⊎◌, inl, inr, Bool, true, false, cond, nat_lt, Some, List, [], ◌∷◌, get_or, length, map, refl}
 use Rattle.std.proofs.Common.{sym, ap, subst, ◌∙◌, arith}
 use Rattle.std.specs.List.{All}
@@ -27,7 +27,7 @@ use Rattle.mm_delta.proofs.Found.{Row, Rows}
 use Rattle.mm_delta.proofs.Product.{found_from_row, get_around, lists_long, past_around}
 use Rattle.mm_delta.proofs.Skip.{found_none}
 
--- ---- what holds of each row of the lists around a row
+-- ---- a property of each row of the lists around a row
 
 all_of : (P : Row → Type 0) (b c : Bool) (row : Row) (after before : Rows) → (b ≡ true → P row) → All P after → All P before
     → All P (cond b (row ∷ []) (cond c after before))
@@ -59,7 +59,7 @@ module _ (q : BoundQuery) (store : Tables) (changes : List TableChange) (tables 
   abbrev around : List Rows
   around = lists_around 0 (after_at store changes) (λ _. row ∷ []) (before_at store) tables k
 
-  -- What holds of the rows before and of those after the change holds of the row.
+  -- A property of the rows before and of those after the change holds of the row.
   of_row : (P : Row → Type 0) (j : ℕ) → All P (after_at store changes (get_or tables j 0)) → All P (before_at store (get_or tables j 0)) → j ≡ k → P row
   of_row P j a f same =
       elim stands [
@@ -85,13 +85,13 @@ module _ (q : BoundQuery) (store : Tables) (changes : List TableChange) (tables 
       adds_nothing q k row around cyclic (lists_long (after_at store changes) (before_at store) row tables k inside ∙ typed.whole)
       (alone_there (after_at store changes) (before_at store) row tables k inside) numbers_around
 
-  -- So has one of which an atom is false.
+  -- So has a row of which an atom is false.
   false_none : none_fails q.atoms (one_row (length tables) k row) ≡ false → bag_of q around ≡ []
   false_none fails =
       sym (found_from_row q tables (after_at store changes) (before_at store) row k inside)
       ∙ found_none q (rows_around tables k (after_at store changes) (before_at store)) (other_places (length tables) k) (one_row (length tables) k row) fails
 
-  -- So the count of no row becomes another where the row is left out.
+  -- So no count changes if the row is left out.
   pub left_out_adds : (m : Partial) → m ≡ one_row (length tables) k row → (none_fails q.atoms m ≡ false) ⊎ IsCyclic q k row → (out : ℕ) (other : Row)
       → out ≡ out + count_of other (bag_of q around)
   left_out_adds m is why out other = omega (arith, ap (count_of other) none)
@@ -111,7 +111,7 @@ reads_unskipped q skipped k row n only not_cyclic = by (skipped k row) refl
     by true e = absurd (not_cyclic (only k row e))
     by false e = omega arith
 
--- What holds of the rows of a list holds of the one of each index.
+-- A property of the rows of a list holds of the row at each index.
 pub row_of_index : {A : Type 0} (P : Row → Type 0) (f : A → Row) (items : List A) (i : ℕ) (x : A) → All P (map f items) → i < length items → x
     ≡ get_or items i x
     → P (f x)

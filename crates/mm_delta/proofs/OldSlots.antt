@@ -1,4 +1,4 @@
--- The rows that edits take away, and the slots in which they are.
+-- The old rows of edits, and their slots.
 use Rattle.std.proofs.Common.{◌≡◌, ◌≢◌, ℕ, List, [], ◌∷◌, Option, Some, None, map, get_or, refl, ap, ◌∙◌, subst, arith}
 use Rattle.std.specs.List.{All, AllPairs, cons_option}
 use Rattle.std.proofs.lemmas.List.Elements.{All-cons, All-contains, All-head, All-nil, All-tail, Contains-get_or}
@@ -15,7 +15,7 @@ use Rattle.mm_value.specs.declared.row_ref.RowRef.{RowRef}
 use Rattle.mm_value.specs.declared.values.Value.{Value}
 use Rattle.mm_delta.specs.Edited.{old_slots}
 
--- The rows that go are those of their slots.
+-- The old rows are those of their slots.
 pub gone_rows : (now : Slots) (edits : List Edit) → rows_gone now edits ≡ map (row_at now) (old_slots edits)
 gone_rows now [] = refl
 gone_rows now (Stage at ∷ edits) = gone_rows now edits
@@ -24,7 +24,7 @@ gone_rows now (Update at other ∷ edits) = ap (λ (l : List (List Value)). row_
 gone_rows now (Move at other ∷ edits) = ap (λ (l : List (List Value)). row_at now at ∷ l) (gone_rows now edits)
 gone_rows now (Delete at ∷ edits) = ap (λ (l : List (List Value)). row_at now at ∷ l) (gone_rows now edits)
 
--- They are in use.
+-- The old rows are in use.
 pub old_live : (key : ℕ) (now : Slots) (edits : List Edit) → All (Fits key now) edits → All (HasRow now) (old_slots edits)
 old_live key now [] all = All-nil (HasRow now)
 old_live key now (Stage at ∷ edits) all = old_live key now edits (All-tail (Fits key now) (Stage at) edits all)
@@ -39,7 +39,7 @@ old_live key now (Delete at ∷ edits) all =
     All-cons (HasRow now) at (old_slots edits) (All-head (Fits key now) (Delete at) edits all)
     (old_live key now edits (All-tail (Fits key now) (Delete at) edits all))
 
--- The row that an edit brings is hidden.
+-- The new row of an edit is hidden.
 pub new_hidden : (key : ℕ) (now : Slots) (edit : Edit) (at : RowRef) → Fits key now edit → new_slot edit ≡ Some at → HasHidden now at
 new_hidden key now (Stage s) at fits is = absurd fits
 new_hidden key now (Insert s) at fits is = subst (HasHidden now) (let same : s ≡ at = cc in same) fits
@@ -47,7 +47,7 @@ new_hidden key now (Update a s) at fits is = subst (HasHidden now) (let same : s
 new_hidden key now (Move a s) at fits is = subst (HasHidden now) (let same : s ≡ at = cc in same) fits.1
 new_hidden key now (Delete s) at fits is = let no : ⊥ = cc in absurd no
 
--- ---- no two edits take one row
+-- ---- no two edits have the same old row
 
 leaves_old : (edit : Edit) (at other : RowRef) → LeavesOut edit other → old_slot edit ≡ Some at → at ≢ other
 leaves_old (Stage s) at other out is same = let no : ⊥ = cc in no

@@ -1,4 +1,4 @@
--- No row has a whole number past 64 bits.
+-- No row has an integer past 64 bits.
 use Rattle.std.proofs.Common.{◌≡◌, ℕ, ℤ, Bool, true, false, cond, List, [], ◌∷◌, Some, refl, sym, ap, subst, ◌∙◌}
 use Rattle.std.specs.Prelude.{FitsSigned}
 use Rattle.std.specs.Int.{w64}
@@ -20,7 +20,7 @@ use Rattle.mm_value.proofs.SameRows.{values_exact}
 use Rattle.mm_delta.specs.Candidates.{passes}
 use Rattle.mm_delta.specs.Steps.{IsFoundOf}
 
--- The value of a row in a column is another one than such a number.
+-- The value of a row in a column differs from such a number.
 pub apart : (column : ℕ) (row : List Value) (number : ℤ) → AreStorable row → ¬ FitsSigned w64 number → same_value (value_in column row) (Int number) ≡ false
 apart column row number all past = by (same_value (value_in column row) (Int number)) refl
   where
@@ -28,7 +28,7 @@ apart column row number all past = by (same_value (value_in column row) (Int num
     by true e = absurd (past (subst IsStorable ((values_exact (value_in column row) (Int number)).0 e) (value_in_storable column row all)))
     by false e = refl
 
--- No reference is that of a row that has such a number.
+-- No reference is that of a row with such a number.
 pub none_found : (stored : StoredRows) (column : ℕ) (number : ℤ) (found : List RowRef) → AreRowsStorable stored.places → ¬ FitsSigned w64 number
     → found ≡ [] → IsFoundOf (Some (column, Int number)) stored found
 none_found stored column number found all past empty =

@@ -1,4 +1,4 @@
--- The rows that are gone over at a place.
+-- The rows that are read at a place.
 use Rattle.std.proofs.Common.{◌≡◌, ℕ, ◌+◌, ◌≤◌, ◌<◌, Bool, true, false, cond, nat_lt, List, [], ◌∷◌, ◌++◌, length, map, get_or, take, append_assoc, Option}
 use Rattle.std.proofs.Common.{Some, None, refl, sym, ap, ◌∙◌, arith}
 use Rattle.std.specs.List.{cons_option, filter, filter_map, sum_by}
@@ -36,7 +36,7 @@ fit_nothing stored = record {
   apart = λ i j d before within. absurd (omega arith);
 }
 
--- The edits that count at a place fit.
+-- The edits that apply at a place fit.
 pub fit_walked : (store : Tables) (changes : List TableChange) (k j table : ℕ) (stored : StoredRows) → EachFit store changes → IsAt store table stored
     → AreReady stored (edits_walked changes k j table)
 fit_walked store changes k j table stored fit at = by (nat_lt j k)
@@ -45,7 +45,7 @@ fit_walked store changes k j table stored fit at = by (nat_lt j k)
     by true = fit table stored at
     by false = fit_nothing stored
 
--- The rows at a place are those with the edits that count there.
+-- The rows at a place are those after the edits that apply there.
 pub walked_is : (store : Tables) (changes : List TableChange) (tables : List ℕ) (k j : ℕ) (stored : StoredRows) → IsAt store (get_or tables j 0) stored
     → walked store changes tables k j ≡ rows_after stored (edits_walked changes k j (get_or tables j 0))
 walked_is store changes tables k j stored at =
@@ -63,7 +63,7 @@ one_coming : (r : Option Required) (now : Slots) (row : List Value) (edits : Lis
 one_coming r now row edits true h = ap (λ l. row ∷ l) h
 one_coming r now row edits false h = h
 
--- What comes and has what is required, edit by edit.
+-- The new rows that have the required value, edit by edit.
 pub coming_all : (r : Option Required) (now : Slots) (edits : List Edit) → filter_map (coming r now) edits ≡ having r (rows_come now edits)
 coming_all r now [] = refl
 coming_all r now (Stage at ∷ edits) = coming_all r now edits
@@ -72,7 +72,7 @@ coming_all r now (Update at other ∷ edits) = one_coming r now (row_at now othe
 coming_all r now (Move at other ∷ edits) = one_coming r now (row_at now other) edits (passes r (row_at now other)) (coming_all r now edits)
 coming_all r now (Delete at ∷ edits) = coming_all r now edits
 
--- One edit more.
+-- One more edit.
 pub coming_more : {X : Type 0} (g : Edit → Option X) (edits : List Edit) (i : ℕ) (d : Edit) (first rows next : List X) → i < length edits
     → rows ≡ first ++ filter_map g (take i edits) → next ≡ rows ++ cons_option (g (get_or edits i d)) []
     → next ≡ first ++ filter_map g (take (i + 1) edits)
@@ -82,7 +82,7 @@ coming_more g edits i d first rows next inside so_far last =
     ∙ ap (λ l. first ++ l) (sym (filter_map-append g (take i edits) (edit ∷ [])))
     ∙ ap (λ l. first ++ filter_map g l) (sym (take_more edits i d inside))
 
--- One row more.
+-- One more row.
 pub having_more : {X : Type 0} (read : X → List Value) (r : Option Required) (xs : List X) (i : ℕ) (x : X) (first rows next : List (List Value))
     → i < length xs → x ≡ get_or xs i x → rows ≡ first ++ having r (map read (take i xs)) → next ≡ rows ++ having r (read x ∷ [])
     → next ≡ first ++ having r (map read (take (i + 1) xs))
@@ -109,7 +109,7 @@ module _ (stored : StoredRows) (is_table : IsTable stored) (r : Option Required)
   abbrev test : RowRef → Bool
   test at = passes r (row_at now at)
 
-  -- What stays of the references that are found, and what comes and has what is required, is what has it after the edits.
+  -- The found references that stay and the new rows with the required value are the rows that have it after the edits.
   pub found_alike : (edits : List Edit) → AreReady stored edits → (rows all : List (List Value))
       → rows ≡ map (row_at now) (filter (stays edits) refs) → all ≡ rows ++ having r (rows_come now edits)
       → AreAlike all (having r (rows_after stored edits))
@@ -133,7 +133,7 @@ module _ (stored : StoredRows) (is_table : IsTable stored) (r : Option Required)
         sum_by-filter f (passes r) (rows_come now edits),
       )
 
-  -- As many references are found as rows have what is required.
+  -- As many references are found as rows have the required value.
   pub found_count : length refs ≡ length (having r (rows_of stored))
   found_count =
       sym (length_permutation refs (filter test stored.refs) found)
@@ -147,7 +147,7 @@ fewer p (x ∷ xs) = by (p x) (fewer p xs)
     by true h = omega (arith, h)
     by false h = omega (arith, h)
 
--- No more is read than rows have what is required.
+-- No more rows are read than have the required value.
 pub few_read : (seen : Seen) (table : ℕ) (stored : StoredRows) → IsAt seen.store table stored → (r r' : Option Required) (refs : List RowRef)
     → IsPermutation refs (filter (λ at. passes r (row_at (slot_at stored.places) at)) stored.refs) → r ≡ r' → (edits : List Edit) (left : List RowRef)
     → left ≡ filter (stays edits) refs → length left ≤ length (having r' (before_at seen.store table))

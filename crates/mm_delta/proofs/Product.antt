@@ -1,4 +1,4 @@
--- The completions of one row are the plain product with that row alone at its place.
+-- The completions of one row are the plain product with only that row at its place.
 use Rattle.std.proofs.Common.{◌≡◌, ◌≢◌, ℕ, zero, suc, ◌+◌, ◌-◌, ◌<◌, ◌≤◌, ◌==◌, ◌++◌, Bool, true, false, cond, nat_lt, not, ◌⊎◌, inl, inr, Option, Some, None}
 use Rattle.std.proofs.Common.{List, [], ◌∷◌, get_or, set, length, map, replicate, subst, take, drop, refl, sym, ap, ◌∙◌, arith}
 use Rattle.std.specs.List.{AllByRecursion, filter, flat_map, range_with_len}
@@ -45,7 +45,7 @@ open_from k n row i (suc c) h =
       rest,
     )
 
--- The other places are open where one place has a row.
+-- The other places are open if one place has a row.
 pub others_open : (k n : ℕ) (row : Row) → AreOpen (other_places n k) (one_row n k row)
 others_open k n row = open_from k n row 0 n (omega arith)
 
@@ -104,7 +104,7 @@ filter-map p f (x ∷ xs) = one (p (f x)) (filter-map p f xs)
     one true h = ap (λ l. f x ∷ l) h
     one false h = h
 
--- What is found from one row is the bag of the lists in which that row stands alone at its place.
+-- The combinations found from one row are the bag of the lists in which that row is the only one at its place.
 pub found_is_bag : (q : BoundQuery) (rows : ℕ → Rows) (k n : ℕ) (row : Row)
     → found q rows (other_places n k) (one_row n k row)
     ≡ bag_of q (map (λ j. cond (j == k) (row ∷ []) (rows j)) (range_with_len 0 n))
@@ -179,14 +179,14 @@ module _ (after before : ℕ → Rows) (row : Row) (from : List ℕ) (k : ℕ) (
   pub get_around : (j : ℕ) → j < length from → get_or lists j [] ≡ cond (j == k) (row ∷ []) (rows_around from k after before j)
   get_around j h = each_list j h (cases_order j k)
 
-  -- Past the last place there are none.
+  -- There are no rows past the last place.
   pub past_around : (j : ℕ) → length from ≤ j → get_or lists j [] ≡ []
   past_around j h = get_or_past lists j [] (omega (arith, h, lists_long))
 
   pub lists_are : lists ≡ map here (range_with_len 0 (length from))
   lists_are = fill_by_all here lists (length from) [] lists_long (λ j h. each_list j h (cases_order j k))
 
--- What is found from one row is the bag of the term's lists with that row alone at its place.
+-- The combinations found from one row are the bag of the term's lists with only that row at its place.
 pub found_from_row : (q : BoundQuery) (from : List ℕ) (after before : ℕ → Rows) (row : Row) (k : ℕ) → k < length from
     → found q (rows_around from k after before) (other_places (length from) k) (one_row (length from) k row)
     ≡ bag_of q (lists_around 0 after (λ t. row ∷ []) before from k)

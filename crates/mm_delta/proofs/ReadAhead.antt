@@ -1,4 +1,4 @@
--- The rows that were read of indexed edits are those that the edits bring.
+-- The rows read from indexed edits are the new rows of the edits.
 use Rattle.std.proofs.Common.{◌≡◌, ℕ, ◌<◌, List, get_or, length, map, sym, ap, subst, ◌∙◌, arith}
 use Rattle.std.specs.List.{All}
 use Rattle.std.proofs.lemmas.List.{get_or-map, length-map}
@@ -17,7 +17,7 @@ use Rattle.mm_delta.specs.declared.indexed_changes.TableIndex.{TableIndex}
 abbrev Read : Type 0
 Read = ℕ × List (List Value)
 
--- a table, and the rows that were read of its edits
+-- a table, and the rows read from its edits
 abbrev pub read_of : TableIndex → Read
 read_of found = (found.table, found.index.come)
 
@@ -25,12 +25,12 @@ module _ (changes : List TableChange) (indexes : List TableIndex) where
   abbrev pub read : ReadChanges
   read = record { edits = changes; come = map read_of indexes }
 
-  -- Changes with indexes that were read of a store are of it.
+  -- Changes with indexes that were read from a store are changes of it.
   pub are_of : (store : Tables) → EachFit store changes → All (λ (found : TableIndex). IsCome store changes found.table found.index.come) indexes
       → AreOf store read
   are_of store fit come = record { fit = fit; come = All-map (λ (r : Read). IsCome store changes r.0 r.1) read_of indexes come }
 
-  -- An index of them has the rows that its edits bring.
+  -- An index of the changes has the new rows of its edits.
   pub index_read : (self : ReadChanges) → read ≡ self → All (λ (found : TableIndex). found.index.edits ≡ edits_at changes found.table) indexes
       → (i : ℕ) (found : TableIndex) → i < length indexes → found ≡ get_or indexes i found → (table : ℕ) → found.table ≡ table
       → (store : Tables) (stored : StoredRows) → AreOf store self → IsAt store table stored

@@ -1,4 +1,4 @@
--- The references that a look-up or a walk over the key finds.
+-- The references found by a look-up or by a walk over the key.
 use Rattle.std.proofs.Common.{◌≡◌, ℕ, ◌<◌, true, List, [], ◌∷◌, ◌++◌, length, get_or, Some, None, Option, refl, sym, ap, ◌∙◌, subst, arith}
 use Rattle.std.specs.Prelude.{pos}
 use Rattle.std.specs.List.{All, filter}
@@ -33,7 +33,7 @@ module _ (stored : StoredRows) (was : IsKept stored.places.types stored.key (slo
   abbrev now : Slots
   now = slot_at stored.places
 
-  -- the rows that have what is required
+  -- the rows that have the required value
   abbrev pub Finds : Option Required → List RowRef → Type 0
   Finds required found = IsPermutation found (filter (λ at. passes required (row_at now at)) stored.refs)
 
@@ -56,7 +56,7 @@ module _ (stored : StoredRows) (was : IsKept stored.places.types stored.key (slo
       ap (λ c. length (row_in c)) live.1 ∙ HasTypes-length stored.places.types live.0 (was.typed at live.0 live.1) in
       ap (λ o. is_eq (option_cmp value_cmp o (Some value))) (slice_get-get_or (row_at now at) column (Int (pos 0)) (omega (arith, within, wide)))
 
-  -- What a look-up appends to nothing is all that has the value.
+  -- A look-up appends to an empty list exactly the rows with the value.
   pub found_by_value : (column : ℕ) (index : IndexRef) (value : Value) (old new : List RowRef) → IsIndexOn stored column index → old ≡ []
       → Appends (AreMatches column now value stored.refs) old new → Finds (Some (column, value)) new
   found_by_value column index value old new on empty (found, is, same) =
@@ -64,7 +64,7 @@ module _ (stored : StoredRows) (was : IsKept stored.places.types stored.key (slo
       (same_value column value (column_in column index on)))
       (subst (λ l. IsPermutation l (filter (has_value column now value) stored.refs)) (sym (is ∙ ap (λ l. l ++ found) empty)) same)
 
-  -- What a walk over the whole key appends to nothing is all there is.
+  -- A walk over the whole key appends to an empty list all rows.
   pub found_by_key : (old new : List RowRef) → old ≡ [] → Appends (IsRange stored.key stored None None) old new → Finds None new
   found_by_key old new empty (found, is, range) =
       let all : new ≡ range.0 = is ∙ ap (λ l. l ++ found) empty ∙ range.2 ∙ filter_everything range.0 in

@@ -1,4 +1,4 @@
--- Lists in which each row stands equally often have the same rows, in some order each.
+-- Lists in which each row occurs equally often have the same rows, possibly in another order.
 use Rattle.std.proofs.Common.{◌≡◌, ℕ, zero, suc, ◌+◌, ◌<◌, Bool, true, false, cond, List, [], ◌∷◌, get_or, length, refl, ap, arith}
 use Rattle.std.specs.List.{remove}
 use Rattle.std.specs.List.Sorted.{IsPermutation}
@@ -17,7 +17,7 @@ Rows = List (List Value)
 abbrev tally : List Value → List Value → ℕ
 tally row other = cond (same_row row other) 1 0
 
--- a row that is counted stands at some place
+-- a counted row is at some place
 pub place_of : (row : List Value) (rows : Rows) → 0 < count_of row rows → (i : ℕ) × (i < length rows) × (same_row row (get_or rows i row) ≡ true)
 place_of row [] h = absurd (omega arith)
 place_of row (r ∷ rows) h = by (same_row row r) refl (omega (arith, h, sum_by-cons (tally row) r rows)) (place_of row rows)

@@ -1,4 +1,4 @@
--- Lists that are seen through a function, up to a length.
+-- Lists mapped by a function, up to a length.
 use Rattle.std.proofs.Common.{◌≡◌, ℕ, ◌<◌, ◌≤◌, List, length, map, set, take, sym, ap, ◌∙◌, arith}
 use Rattle.std.proofs.lemmas.List.{length-map, length-take, map-set}
 use Rattle.std.proofs.Math.Seq.{take-set-lt}

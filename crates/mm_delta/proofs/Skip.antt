@@ -1,4 +1,4 @@
--- Rows that lack what an equality requires complete nothing.
+-- Rows that lack the value that an equality requires complete nothing.
 use Rattle.std.proofs.Common.{◌≡◌, ℕ, ◌<◌, Bool, true, false, cond, ◌&&◌, Option, Some, None, List, [], ◌∷◌, get_or, set, length, map, refl, sym, ap, ◌∙◌}
 use Rattle.std.specs.List.{flat_map}
 use Rattle.mm_query.specs.Atoms.{holds}
@@ -28,7 +28,7 @@ module _ (indexed : ℕ → Bool) (m : Partial) (j : ℕ) (x : Row) (vacant : ge
       and_false true b h = h
       and_false false b h = refl
 
-  -- A row without what is required makes an atom false.
+  -- A row without the required value makes an atom false.
   pub required_false : (atoms : List (Atom FieldPlace)) → passes (required indexed atoms m j) x ≡ false → none_fails atoms more ≡ false
   required_false [] lacks = cc
   required_false (a ∷ atoms) lacks = first_false a atoms (asked_by indexed j m a a.comparison) refl lacks (required_false atoms)
@@ -37,7 +37,7 @@ pub found_none : (q : BoundQuery) (rows : ℕ → Rows) (js : List ℕ) (m : Par
 found_none q rows [] m h = ap (λ b. cond b (values_of q.fields m ∷ []) []) h
 found_none q rows (j ∷ js) m h = ap (λ b. cond b (flat_map (λ x. found q rows js (set m j (Some x))) (rows j)) []) h
 
--- It is enough to go over the rows that have what is required.
+-- Only the rows with the required value must be read.
 pub found_having : (indexed : ℕ → Bool) (q : BoundQuery) (rows : ℕ → Rows) (j : ℕ) (js : List ℕ) (m : Partial) → get_or m j None ≡ None → j < length m
     → (xs : Rows) → flat_map (λ x. found q rows js (set m j (Some x))) (having (required indexed q.atoms m j) xs)
     ≡ flat_map (λ x. found q rows js (set m j (Some x))) xs

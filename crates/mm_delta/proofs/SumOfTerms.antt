@@ -27,13 +27,13 @@ kept_or_not : {X : Type 0} (f : X → ℕ) (b : Bool) (x : X) (xs ys : List X) (
 kept_or_not f true x xs ys n h = sum_by-cons f x xs ∙ ap (λ m. f x + m) h
 kept_or_not f false x xs ys n h = omega (arith, h)
 
--- A sum over what passes a test.
+-- A sum over the elements that pass a test.
 pub sum_by-filter : {X : Type 0} (f : X → ℕ) (p : X → Bool) (xs : List X) → sum_by f (filter p xs) ≡ sum_by (λ x. cond (p x) (f x) 0) xs
 sum_by-filter f p [] = refl
 sum_by-filter f p (x ∷ xs) =
     kept_or_not f (p x) x (filter p xs) xs _ (sum_by-filter f p xs) ∙ sym (sum_by-cons (λ y. cond (p y) (f y) 0) x xs)
 
--- What a combination adds to the count of a row.
+-- The contribution of a combination to the count of a row.
 abbrev pub weight : BoundQuery → Row → List Row → ℕ
 weight q row c = cond (fits q c) (cond (same_row row (projected q c)) 1 0) 0
 
@@ -111,13 +111,13 @@ module _ {T : Type 0} (missing : T) (q : BoundQuery) (before after gone come : T
       (first_places k (omega arith)) (fold_range_more part k) refl
       (one_place missing q before after gone come from row k (omega arith) (balance (get_or from k missing)))
 
-  -- The law, for tables that go by anything.
+  -- The law, for tables with any identifiers.
   pub change_is_sum : change_between q (map before from) (map after from) row ≡ fold ◌+ℤ◌ (pos 0) (map part (range_with_len 0 (length from)))
   change_is_sum =
       ap (λ l. pos (count_of row (bag_of q l)) -ℤ pos (count_of row (bag_of q (map before from)))) (sym (half_all missing after before from))
       ∙ sym (first_places (length from) (omega arith))
 
--- The law, for tables that go by their names.
+-- The law, for tables with names.
 pub change_by_names : (q : BoundQuery) (before after gone come : List ℕ → Rows) (row : Row) → ((t : List ℕ) → Balance (after t) (gone t) (before t) (come t))
     → change_of q before after row
     ≡ fold ◌+ℤ◌ (pos 0) (map (λ k. term q before after gone come k row) (range_with_len 0 (length q.from)))

@@ -34,7 +34,7 @@ sums_balance a b c d [] h = refl
 sums_balance a b c d (x ∷ xs) h =
     omega (arith, h x, sums_balance a b c d xs h, sum_by-cons a x xs, sum_by-cons b x xs, sum_by-cons c x xs, sum_by-cons d x xs)
 
--- What a list and another have in sum for any term, two others have.
+-- Two lists have in sum the same as two others, for any term.
 abbrev pub Balance : {X : Type 0} → List X → List X → List X → List X → Type 0
 Balance {X} new gone old come = (f : X → ℕ) → sum_by f new + sum_by f gone ≡ sum_by f old + sum_by f come
 

@@ -1,4 +1,4 @@
--- What the places of FROM add to a change.
+-- The contributions of the places of FROM to a change.
 use Rattle.std.proofs.Common.{◌≡◌, ℕ, zero, suc, ◌+◌, ◌<◌, ◌≤◌, ◌==◌, ℤ, pos, ◌-ℤ◌, Bool, true, false, cond, not, List, [], ◌∷◌, ◌++◌, get_or, length, map}
 use Rattle.std.proofs.Common.{refl, sym, ap, ◌∙◌, arith}
 use Rattle.std.specs.List.{All, filter, range_with_len, sum_by}
@@ -33,20 +33,20 @@ use Rattle.mm_delta.proofs.UnseenEdits.{same_count, seen_balance, seen_come, see
 
 -- ---- the edited rows
 
--- The rows that go, by the relation of the table.
+-- The old rows, by the relation of the table.
 pub gone_is : (store : Tables) (changes : List TableChange) (table : ℕ) (stored : StoredRows) → IsAt store table stored
     → gone_at store changes table ≡ map (row_at (slot_at stored.places)) (old_slots (edits_at changes table))
 gone_is store changes table stored at =
     ap (λ o. option_map_or (λ (s : StoredRows). rows_gone (slot_at s.places) (edits_at changes table)) o []) at
     ∙ gone_rows (slot_at stored.places) (edits_at changes table)
 
--- The rows that come, likewise.
+-- The new rows, likewise.
 pub come_is : (store : Tables) (changes : List TableChange) (table : ℕ) (stored : StoredRows) → IsAt store table stored
     → come_at store changes table ≡ rows_come (slot_at stored.places) (edits_at changes table)
 come_is store changes table stored at =
     ap (λ o. option_map_or (λ (s : StoredRows). rows_come (slot_at s.places) (edits_at changes table)) o []) at
 
--- The rows of a table after the change and those that go are those before it and those that come.
+-- The rows of a table after the change plus the old rows are those before it plus the new rows.
 pub table_balance : (store : Tables) (changes : List TableChange) (table : ℕ) (stored : StoredRows) → IsAt store table stored
     → IsTable stored → EachFit store changes
     → Balance (after_at store changes table) (gone_at store changes table) (before_at store table) (come_at store changes table)
@@ -85,7 +85,7 @@ others_there tables store k all = tables_from tables store k 0 (length tables) (
 
 -- ---- one place
 
--- What some edited rows add, where the store is another name of the one before.
+-- The contribution of some edited rows, if the store equals the one before.
 pub term_count : (q : BoundQuery) (store now : Tables) (changes : List TableChange) (tables : List ℕ) (k : ℕ) (row : List Value)
     (edited rows : List (List Value)) (old new : ℕ) → now ≡ store → rows ≡ edited
     → new ≡ old + sum_by (λ x. count_of row (bag_of q (lists_around 0 (after_at now changes) (λ _. x ∷ []) (before_at now) tables k))) rows
@@ -94,7 +94,7 @@ term_count q store now changes tables k row edited rows old new same is h =
     h
     ∙ (λ i. old + sum_by (λ x. count_of row (bag_of q (lists_around 0 (after_at (same i) changes) (λ _. x ∷ []) (before_at (same i)) tables k))) (is i))
 
--- What the rows that the query sees add, less what those take away that it sees, is what all edited rows do.
+-- The contribution of the rows that the query reads, new minus old, is that of all edited rows.
 pub net_count : (q : BoundQuery) (store : Tables) (changes : List TableChange) (tables : List ℕ) (k : ℕ) (stored : StoredRows) → k < length tables
     → IsAt store (get_or tables k 0) stored → (row : List Value) (comes comes' goes goes' : ℕ)
     → goes' ≡ goes + sum_by (λ x. count_of row (bag_of q (lists_around 0 (after_at store changes) (λ _. x ∷ []) (before_at store) tables k)))
@@ -117,7 +117,7 @@ net_count q store changes tables k stored within at row comes comes' goes goes' 
       ap (sum_by adds) (come_is store changes (get_or tables k 0) stored at),
     )
 
--- What they read, likewise.
+-- The rows read for them, likewise.
 pub reads_same : (q : BoundQuery) (store now : Tables) (changes : List TableChange) (tables : List ℕ) (skipped : ℕ → List Value → Bool) (k : ℕ)
     (rows edited : List (List Value))
     → now ≡ store → rows ≡ edited → sum_by (row_reads q now changes tables skipped k) rows ≡ sum_by (row_reads q store changes tables skipped k) edited
@@ -132,7 +132,7 @@ pub bound_is : (f : List Value → ℕ) (gone come : List (List Value))
     → sum_by (λ x. 1 + f x) (gone ++ come) ≡ (length gone + sum_by f gone) + (length come + sum_by f come)
 bound_is f gone come = omega (arith, sum_by-append (λ x. 1 + f x) gone come, ones f gone, ones f come)
 
--- As many rows go as edits name one.
+-- There are as many old rows as edits that name one.
 pub gone_length : (store : Tables) (changes : List TableChange) (table : ℕ) (stored : StoredRows) → IsAt store table stored → (edits : List Edit)
     → edits ≡ edits_at changes table → length (old_slots edits) ≡ length (gone_at store changes table)
 gone_length store changes table stored at edits is =
@@ -145,7 +145,7 @@ gone_length store changes table stored at edits is =
 pub counts_none : (row : List Value) (comes goes : Entries) (n : ℕ) → comes ≡ [] → goes ≡ [] → count_in row comes + n ≡ count_in row goes + n
 counts_none row comes goes n e f = ap (λ es. count_in row es + n) (e ∙ sym f)
 
--- A sum over one place more.
+-- A sum over one more place.
 pub range_more : (f : ℕ → ℕ) (k : ℕ) → sum_by f (range_with_len 0 (k + 1)) ≡ sum_by f (range_with_len 0 k) + f k
 range_more f k =
     sym (sum_by-map (λ n. n) f (range_with_len 0 (k + 1)))
@@ -172,7 +172,7 @@ module _ (q : BoundQuery) (store : Tables) (changes : List TableChange) (tables 
   abbrev pub added : (ℕ → List (List Value)) → ℕ → ℕ
   added edited k = count_of row (bag_of q (lists_around 0 (after_at store changes) edited (before_at store) tables k))
 
-  -- One place more.
+  -- One more place.
   pub counts_more : (k : ℕ) (stored : StoredRows) (first comes comes' goes goes' : ℕ) → k < length tables → IsAt store (get_or tables k 0) stored
       → IsTable stored → EachFit store changes
       → comes + first ≡ goes + halfway k → comes' + goes + added (gone_at store changes) k ≡ goes' + comes + added (come_at store changes) k

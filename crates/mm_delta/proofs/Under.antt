@@ -1,4 +1,4 @@
--- The rows under values, with a row more.
+-- The rows of values, with one more row.
 use Rattle.std.proofs.Common.{◌≡◌, Bool, true, false, cond, List, [], ◌∷◌, ◌++◌, map, Some, Vec, refl, sym, ap, ◌∙◌}
 use Rattle.std.proofs.lemmas.List.{map-append}
 use Rattle.std.specs.Map.{lookup}
@@ -15,13 +15,13 @@ append_none [] = refl
 append_none (x ∷ xs) = ap (λ l. x ∷ l) (append_none xs)
 
 module _ {Z : Type 0} (value : Value) (row : RowView) (old new : List (Value × Vec RowView Z)) where
-  -- a row more under a value, and all others as they were
+  -- one more row with a value, and all others unchanged
   abbrev pub IsPut : Type 0
   IsPut = (other : Value) → rows_under other new ≡ rows_under other old ++ cond (same_value value other) (viewed row ∷ []) []
 
   module _ (list : Vec RowView Z) (put : (q : Value) → lookup (same_value q) new
       ≡ cond (same_value value q) (Some list) (lookup (same_value q) old)) where
-    -- It stands behind those that were under the value.
+    -- The row is after the earlier ones with the value.
     pub put_behind : (was : List RowView) → list.items ≡ was ++ row ∷ [] → rows_under value old ≡ map viewed was → IsPut
     put_behind was items under other = by (same_value value other) refl
       where

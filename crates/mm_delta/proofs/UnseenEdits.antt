@@ -1,4 +1,4 @@
--- Edits that a query does not see change nothing of its bag.
+-- Edits that change no column that a query reads do not change its bag.
 use Rattle.std.proofs.Common.{◌≡◌, ℕ, zero, suc, ◌+◌, ◌<◌, ◌≤◌, ◌==◌, ◌&&◌, ◌||◌, Bool, true, false, cond, not, pos, Some, None, List, [], ◌∷◌, ◌++◌, drop}
 use Rattle.std.proofs.Common.{get_or, length, map, take, inl, inr, refl, sym, ap, ◌∙◌, arith, length-take}
 use Rattle.std.specs.List.{All, cons_option, filter_map, list_all, sum_by}
@@ -93,7 +93,7 @@ module _ (p : List Row) (x y : Row) (s : List Row) where
       let parts = and_parts (agree_in (length p) x y field) (list_all (agree_in (length p) x y) fields) agree in
       λ i. unwrap_or (same_value_at field parts.0 i) (Int (pos 0)) ∷ same_values fields parts.1 i
 
-  -- They weigh the same.
+  -- The two combinations have the same weight.
   same_weight : (q : BoundQuery) (row : Row) → looks_alike q (length p) x y ≡ true → weight q row (p ++ x ∷ s) ≡ weight q row (p ++ y ∷ s)
   same_weight q row alike =
       let parts = and_parts (list_all (agree_for (length p) x y) q.atoms) (list_all (agree_in (length p) x y) q.fields) alike in
@@ -113,7 +113,7 @@ same_product (xs ∷ front) x y rest g same =
     ∙ sum_by_same _ _ xs (λ z. same_product front x y rest (λ c. g (z ∷ c)) (λ p s is. same (z ∷ p) s (ap (λ n. suc n) is)))
     ∙ sym (sum_by-combinations g xs (front ++ (y ∷ []) ∷ rest))
 
--- Rows of which the query makes the same add the same to the count of a row.
+-- Rows that are equal for the query contribute the same to the count of a row.
 pub same_count : (q : BoundQuery) (after before : ℕ → Rows) (tables : List ℕ) (k : ℕ) (row x y : Row) → k < length tables → looks_alike q k x y ≡ true
     → count_of row (bag_of q (lists_around 0 after (λ _. x ∷ []) before tables k))
     ≡ count_of row (bag_of q (lists_around 0 after (λ _. y ∷ []) before tables k))
@@ -125,7 +125,7 @@ same_count q after before tables k row x y within alike =
     (λ p s is. same_weight p x y s q row (ap (λ n. looks_alike q n x y) (is ∙ long) ∙ alike))
     ∙ sym (count_as_sum q row (lists_around 0 after (λ _. y ∷ []) before tables k))
 
--- ---- the edits that it sees
+-- ---- the edits that the query reads
 
 module _ (q : BoundQuery) (k : ℕ) (now : Slots) where
   abbrev pub gone : List Edit → Rows
@@ -157,7 +157,8 @@ module _ (q : BoundQuery) (k : ℕ) (now : Slots) where
           sum_by-cons f x (seen_gone edits),
         )
 
-    -- Whatever is the same of rows of which it makes the same has in sum the same difference over them as over all edits, ..
+    -- A function that is the same for rows that are equal for the query has the same difference of sums over these edits as over all edits,
+    -- ..
     pub seen_balance : (edits : List Edit) → sum_by f (seen_gone edits) + sum_by f (come edits) ≡ sum_by f (seen_come edits) + sum_by f (gone edits)
     seen_balance [] = refl
     seen_balance (Stage at ∷ edits) = seen_balance edits
@@ -175,7 +176,7 @@ module _ (q : BoundQuery) (k : ℕ) (now : Slots) where
   no_more f row seen rows true rest = omega (arith, rest, sum_by-cons f row rows)
   no_more f row seen rows false rest = omega (arith, rest, sum_by-cons f row rows, sum_by-cons f row seen)
 
-  -- .. and none of them is another than theirs.
+  -- .. and the rows of these edits are among those of all edits.
   pub fewer_gone : (f : Row → ℕ) (edits : List Edit) → sum_by f (seen_gone edits) ≤ sum_by f (gone edits)
   fewer_gone f [] = omega arith
   fewer_gone f (Stage at ∷ edits) = fewer_gone f edits
@@ -233,7 +234,7 @@ module _ (q : BoundQuery) (k : ℕ) (now : Slots) where
 
 -- ---- the edits so far
 
--- One edit more names as many more references as it names itself, ..
+-- One more edit names one more reference if it names one, ..
 pub one_named : (edits : List Edit) (i : ℕ) (d : Edit) → i < length edits
     → length (old_slots (take (i + 1) edits)) ≡ length (old_slots (take i edits)) + length (old_slots (get_or edits i d ∷ []))
 one_named edits i d inside =

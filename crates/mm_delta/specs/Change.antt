@@ -1,4 +1,4 @@
--- By how much the count of a row in a bag changes.
+-- The change of the count of a row in a bag.
 use Rattle.std.specs.Prelude.{ℕ, ℤ, pos, ◌-ℤ◌, List, map}
 use Rattle.mm_value.specs.declared.values.Value.{Value}
 use Rattle.mm_query.specs.Queries.{bag_of}
@@ -6,11 +6,11 @@ use Rattle.mm_query.specs.declared.bound_query.BoundQuery.{BoundQuery}
 use Rattle.mm_query.specs.declared.query.FromItem.{FromItem}
 use Rattle.mm_multiset.specs.Counts.{count_of}
 
--- The count of a row in a query's bag over the one lists, of which there is one for each table of FROM, minus that over the others.
+-- The count of a row in a query's bag over some lists, one for each table of FROM, minus the count over other lists.
 abbrev pub change_between : BoundQuery → List (List (List Value)) → List (List (List Value)) → List Value → ℤ
 change_between query before after row = pos (count_of row (bag_of query after)) -ℤ pos (count_of row (bag_of query before))
 
--- The rows of the tables of FROM, where these are the rows of the table of each name.
+-- The rows of the tables of FROM, given the rows of the table with each name.
 abbrev pub lists_of : BoundQuery → (List ℕ → List (List Value)) → List (List (List Value))
 lists_of query rows = map (λ (item : FromItem). rows item.table) query.from
 

@@ -18,29 +18,29 @@ use Rattle.mm_delta.specs.declared.edited.TableChange.{TableChange}
 abbrev pub edits_at : List TableChange → ℕ → List Edit
 edits_at changes table = option_map_or (λ (c : TableChange). c.edits.now) (find (λ (c : TableChange). c.table == table) changes) []
 
--- The references of the rows that edits take away.
+-- The references of the rows that edits delete or replace.
 abbrev pub old_slots : List Edit → List RowRef
 old_slots edits = filter_map old_slot edits
 
--- The rows that a table has before the change.
+-- The rows of a table before the change.
 abbrev pub before_at : Tables → ℕ → List (List Value)
 before_at store table = rows_at store.tables table
 
--- The rows that it has after the change.
+-- The rows of a table after the change.
 abbrev pub after_at : Tables → List TableChange → ℕ → List (List Value)
 after_at store changes table = option_map_or (λ stored. rows_after stored (edits_at changes table)) (slice_get store.tables table) []
 
--- Its rows that go.
+-- The deleted and replaced rows of a table.
 abbrev pub gone_at : Tables → List TableChange → ℕ → List (List Value)
 gone_at store changes table =
     option_map_or (λ stored. rows_gone (slot_at stored.places) (edits_at changes table)) (slice_get store.tables table) []
 
--- The rows that come, which lie in hidden slots of the table.
+-- The new rows of a table, which are staged in its hidden slots.
 abbrev pub come_at : Tables → List TableChange → ℕ → List (List Value)
 come_at store changes table =
     option_map_or (λ stored. rows_come (slot_at stored.places) (edits_at changes table)) (slice_get store.tables table) []
 
--- A relation has an index on the column. It always has one on its key.
+-- A relation has an index on the column. The key always has one.
 abbrev pub is_indexed : StoredRows → ℕ → Bool
 is_indexed stored column = (column == stored.key) || list_any (λ (index : Index). column_of index == column) stored.indexes
 
@@ -48,6 +48,7 @@ is_indexed stored column = (column == stored.key) || list_any (λ (index : Index
 abbrev pub has_index : Tables → ℕ → ℕ → Bool
 has_index store table column = option_map_or (λ stored. is_indexed stored column) (slice_get store.tables table) false
 
--- The rows at each place of FROM while those at place k are edited: those after the change before it, and those before the change behind it.
+-- The rows at each place of FROM while those at place k are edited: those after the change at places before k, and those before the change
+-- at places after it.
 abbrev pub walked : Tables → List TableChange → List ℕ → ℕ → ℕ → List (List Value)
 walked store changes tables k = rows_around tables k (after_at store changes) (before_at store)

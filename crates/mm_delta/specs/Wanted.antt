@@ -4,7 +4,7 @@ use Rattle.mm_value.specs.declared.values.Value.TheVariants.{Int}
 use Rattle.mm_delta.specs.declared.wanted.Wanted.{Wanted}
 use Rattle.mm_delta.specs.declared.wanted.Wanted.TheVariants as wanted
 
--- The value that is wanted: a sum as the whole number that it is, without bound.
+-- The wanted value: a sum as an integer, without bound.
 abbrev pub value_wanted : Wanted → Value
 value_wanted (wanted.Value value) = value
 value_wanted (wanted.Sum number) = Int number

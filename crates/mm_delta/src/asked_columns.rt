@@ -5,7 +5,7 @@ use mm_query::{Atom, BoundQuery, Comparison, FieldPlace, Operand};
 use mm_store::View;
 use std::alloc::{AllocError, Global};
 
-/// A table that stands in FROM.
+/// A table in FROM.
 #[derive(Drop)]
 struct FromTable<'s, 'a> {
     view: &'s View<'a>,
@@ -14,7 +14,7 @@ struct FromTable<'s, 'a> {
 }
 
 impl FromTable<'_, '_> {
-    /// Whether a field is a column of the table that has an index.
+    /// Returns whether a field is a column of the table that has an index.
     fn is_indexed(&self, field: FieldPlace) -> bool
         requires { self.now.table < length self.now.view.now.store.tables }
     {
@@ -26,7 +26,8 @@ impl FromTable<'_, '_> {
         }
     }
 
-    /// Adds the column of a field of the table if it has an index and is not among them. `AllocError` where memory is refused.
+    /// Appends the column of a field of the table if it has an index and is not in the list yet. Fails with `AllocError` if an allocation
+    /// fails.
     fn add_column(&self, columns: &mut Vec<usize>, field: FieldPlace) -> Result<(), AllocError>
         requires { self.now.table < length self.now.view.now.store.tables }
     {
@@ -36,7 +37,7 @@ impl FromTable<'_, '_> {
         Ok(())
     }
 
-    /// Adds the columns that an equality names. `AllocError` where memory is refused.
+    /// Appends the columns that an equality names. Fails with `AllocError` if an allocation fails.
     fn add_columns(
         &self,
         columns: &mut Vec<usize>,
@@ -55,8 +56,8 @@ impl FromTable<'_, '_> {
     }
 }
 
-/// The columns with an index of a table that equalities of a query name, each once. No others are looked up. `AllocError`
-/// where memory is refused.
+/// Returns the indexed columns of a table that equalities of a query name, each once. No other columns are looked up. Fails with
+/// `AllocError` if an allocation fails.
 pub(crate) fn asked_columns(
     alloc: Global,
     view: &View<'_>,

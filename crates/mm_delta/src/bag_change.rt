@@ -1,4 +1,4 @@
-//! By how much a query's bag changes when tables are edited.
+//! The change of a query's bag when tables are edited.
 ghost use Rattle.std.specs.Prelude.{◌≡◌, ◌≢◌, ℕ, ◌+◌, ◌<◌, ◌≤◌, ◌^◌, ◌<ℤ◌, neg_ℤ, pos, Bool, List, length, map, All, IfOk};
 ghost use Rattle.std.specs.List.{IsDistinct, range_with_len, sum_by};
 ghost use Rattle.mm_value.specs.Equality.{same_row};
@@ -18,12 +18,13 @@ use mm_query::BoundQuery;
 use mm_store::View;
 use std::alloc::{AllocError, Global};
 
-/// By how much the count of each row in a query's bag changes when tables are edited: one entry for each row whose count
-/// changes, and none for any other. `tables` are the store's places of the tables of FROM, at most 4, in their order; the edits
-/// of each table may be made together, and are not made yet: the rows that come are staged; no atom adds a number to a text. From each
-/// table only deleted rows are read, and rows that may combine with an edited row. If a cycle shows that no combination with an edited
-/// row fits, none is read for it. Looking at a staged row is not counted as a read.
-/// `AllocError` where memory is refused; nothing but the count of reads has changed then.
+/// Returns the change of the count of each row in a query's bag when tables are edited: one entry for each row whose count changes, and
+/// none for any other. From each table only deleted rows are read, and rows that may combine with an edited row. If a cycle shows that no
+/// combination with an edited row matches, none is read for it. Reading a staged row is not counted.
+///
+/// `tables` are the store's places of the tables of FROM, at most 4, in their order. Requires that the edits of each table may be made
+/// together and are not made yet, with the new rows staged. No atom may add a number to a text. Fails with `AllocError` if an allocation
+/// fails; then only the count of reads has changed.
 pub fn delta<'c, 'a: 'c>(
     alloc: Global,
     view: &mut View<'a>,

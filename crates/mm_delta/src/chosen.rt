@@ -27,7 +27,7 @@ impl<'c> Model for Chosen<'c> {
 }
 
 impl<'c> Chosen<'c> {
-    /// No row at any of so many places.
+    /// Returns `places` places without a row.
     pub(crate) fn new(places: usize) -> Chosen<'c>
         requires { places ≤ MAX_FROM }
         ensures { result ≡ replicate places None }
@@ -38,14 +38,14 @@ impl<'c> Chosen<'c> {
         }
     }
 
-    /// For each place the row there, if there is one.
+    /// Returns the row at each place, if there is one.
     pub(crate) fn as_slice(&self) -> &[Option<RowView<'c>>]
         ensures { rows_read viewed result.now ≡ self.now }
     {
         &self.rows[..self.places]
     }
 
-    /// The same with a row at a place.
+    /// Returns a copy with a row at a place.
     pub(crate) fn with(&self, place: usize, row: RowView<'c>) -> Chosen<'c>
         requires { place < length self.now }
         ensures { result ≡ set self.now place (Some (viewed row.entry)) }

@@ -1,4 +1,4 @@
-//! The rows that edits bring, by their values in a column.
+//! The new rows of edits, by their values in a column.
 ghost use Rattle.std.specs.Prelude.{◌≡◌, ◌++◌, [], ◌∷◌, false, if◌then◌else◌, map, true, List, IfOk, OnOk, Some};
 ghost use Rattle.mm_partition.specs.Views.{viewed};
 ghost use Rattle.mm_value.specs.Equality.{same_value};
@@ -14,17 +14,17 @@ use mm_partition::RowView;
 use mm_value::Value;
 use std::alloc::{AllocError, Global};
 
-/// A hash index over the rows that edits bring.
+/// A hash index over the new rows of edits.
 #[derive(Drop)]
 pub(crate) struct ComingIndex<'c> {
     /// The column by whose values the rows are found, counted from 0.
     pub(crate) column: usize,
-    /// The rows under each value, in the order of their edits.
+    /// The rows with each value, in the order of their edits.
     pub(crate) rows: IndexMap<Value, Vec<RowView<'c>>>,
 }
 
 impl<'c> ComingIndex<'c> {
-    /// An index on a column over the rows that edits bring. `AllocError` where memory is refused.
+    /// Returns an index on a column over the new rows of edits. Fails with `AllocError` if an allocation fails.
     pub(crate) fn new(
         alloc: Global,
         come: &[RowView<'c>],
@@ -41,7 +41,7 @@ impl<'c> ComingIndex<'c> {
         Ok(ComingIndex { column, rows })
     }
 
-    /// Adds the rows that have a value in the column. `AllocError` where memory is refused.
+    /// Appends the rows that have a value in the column. Fails with `AllocError` if an allocation fails.
     pub(crate) fn add_rows(
         &self,
         value: &Value,
@@ -55,7 +55,7 @@ impl<'c> ComingIndex<'c> {
         Ok(())
     }
 
-    /// Adds the rows that have a wanted value in the column. `AllocError` where memory is refused.
+    /// Appends the rows that have a wanted value in the column. Fails with `AllocError` if an allocation fails.
     pub(crate) fn add_wanted(
         &self,
         wanted: &Wanted,
@@ -74,7 +74,7 @@ impl<'c> ComingIndex<'c> {
     }
 }
 
-/// Puts a row behind those under its value in a column. `AllocError` where memory is refused.
+/// Appends a row to those with its value in a column. Fails with `AllocError` if an allocation fails.
 fn add_coming<'c>(
     alloc: Global,
     rows: &mut IndexMap<Value, Vec<RowView<'c>>>,
@@ -90,7 +90,7 @@ fn add_coming<'c>(
     add_row(alloc, rows, value, row)
 }
 
-/// Puts a row behind those under a value. `AllocError` where memory is refused.
+/// Appends a row to those with a value. Fails with `AllocError` if an allocation fails.
 fn add_row<'c>(
     alloc: Global,
     rows: &mut IndexMap<Value, Vec<RowView<'c>>>,
@@ -109,7 +109,8 @@ fn add_row<'c>(
     Ok(())
 }
 
-/// Puts a row behind those under a value where that has an entry, and tells whether it has. `AllocError` where memory is refused.
+/// Appends a row to those with a value if the value has an entry, and returns whether it has one. Fails with `AllocError` if an allocation
+/// fails.
 fn add_found<'c>(
     rows: &mut IndexMap<Value, Vec<RowView<'c>>>,
     value: &Value,

@@ -7,7 +7,7 @@ use mm_multiset::Tally;
 use mm_value::Row;
 use std::alloc::AllocError;
 
-/// Counts a row once more. `AllocError` where memory is refused.
+/// Increments the count of a row. Fails with `AllocError` if an allocation fails.
 pub(crate) fn count_row(out: &mut Tally, row: Row) -> Result<(), AllocError>
     ensures { OnOk result ((other : List AnyValue) → count_in other out.new.entries ≡ count_in other out.old.entries + count_of other (row ∷ [])) }
 {

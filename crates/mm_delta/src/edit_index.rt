@@ -1,4 +1,4 @@
-//! What is found by hash among the edits of a table.
+//! Hash indexes over the edits of a table.
 ghost use Rattle.std.specs.Prelude.{◌≡◌, ◌++◌, ◌<◌, ◌||◌, eqb, filter, length, map, All, IfOk, IfSome, OnOk};
 ghost use Rattle.std.specs.List.{list_any};
 ghost use Rattle.mm_partition.specs.Views.{viewed};
@@ -23,12 +23,12 @@ use mm_value::RowRef;
 use std::alloc::{AllocError, Global};
 use std::marker::Model;
 
-/// The edits of a table with hash indexes: one over the references of the rows that go, and some over the rows that come.
+/// The edits of a table with hash indexes: one over the references of the deleted rows, and some over the new rows.
 #[derive(Drop)]
 pub(crate) struct EditIndex<'c> {
     edits: &'c [Edit],
     gone: IndexSet<u32>,
-    /// The rows that come, in the order of their edits.
+    /// The new rows, in the order of their edits.
     come: Vec<RowView<'c>>,
     coming: Vec<ComingIndex<'c>>,
 }
@@ -47,8 +47,8 @@ impl<'c> Model for EditIndex<'c> {
 }
 
 impl<'c> EditIndex<'c> {
-    /// Edits of a table, of which the rows that come are staged, with a hash index on each of these columns over the rows that come. No
-    /// row is counted as read. `AllocError` where memory is refused.
+    /// Returns the edits of a table, whose new rows are staged, with a hash index on each of these columns over the new rows. No row is
+    /// counted as read. Fails with `AllocError` if an allocation fails.
     pub(crate) fn new<'a: 'c>(
         alloc: Global,
         view: &View<'a>,
@@ -74,21 +74,21 @@ impl<'c> EditIndex<'c> {
         })
     }
 
-    /// Whether no edit takes the row of this reference away.
+    /// Returns whether no edit deletes or replaces the row of a reference.
     fn stays(&self, at: RowRef) -> bool
         ensures { result ≡ stays self.now.edits at }
     {
         !self.gone.contains(&at.slot)
     }
 
-    /// Leaves out the references of which an edit takes the row away.
+    /// Removes the references whose rows an edit deletes or replaces.
     pub(crate) fn leave_standing(&self, refs: &mut Vec<RowRef>)
         ensures { refs.new.items ≡ filter (stays self.now.edits) refs.old.items }
     {
         refs.retain(|at| self.stays(*at));
     }
 
-    /// The index on a column over the rows that come, if there is one.
+    /// Returns the index on a column over the new rows, if there is one.
     fn coming_on(&self, column: usize) -> Option<&ComingIndex<'c>>
         ensures column { IfSome result (λ index. index.now.column ≡ column) }
         ensures rows { IfSome result (λ index. AreUnder column self.now.come index.now.rows.entries) }
@@ -102,8 +102,8 @@ impl<'c> EditIndex<'c> {
         None
     }
 
-    /// Adds those of the rows that come that have what a look-up requires, in the order of the edits. They are not gone over where
-    /// there is an index on the column of the look-up. `AllocError` where memory is refused.
+    /// Appends the new rows that have the value that a look-up requires, or all of them if there is no look-up, in the order of the edits.
+    /// They are not searched linearly if the column of the look-up has an index. Fails with `AllocError` if an allocation fails.
     pub(crate) fn add_coming(
         &self,
         rows: &mut Vec<RowView<'c>>,
@@ -120,7 +120,8 @@ impl<'c> EditIndex<'c> {
     }
 }
 
-/// The slots of the references of the rows that edits take away, in a hash table. `AllocError` where memory is refused.
+/// Returns the slots of the references of the rows that edits delete or replace, in a hash table. Fails with `AllocError` if an allocation
+/// fails.
 pub fn references_of_gone(alloc: Global, edits: &[Edit]) -> Result<IndexSet<u32>, AllocError>
     ensures { IfOk result (λ gone. AreGone edits.now gone.keys) }
 {
@@ -131,7 +132,7 @@ pub fn references_of_gone(alloc: Global, edits: &[Edit]) -> Result<IndexSet<u32>
     Ok(gone)
 }
 
-/// Adds the slot of the row that an edit takes away, if it does. `AllocError` where memory is refused.
+/// Inserts the slot of the row that an edit deletes or replaces, if there is one. Fails with `AllocError` if an allocation fails.
 fn add_gone(gone: &mut IndexSet<u32>, edit: &Edit) -> Result<(), AllocError>
     ensures { OnOk result ((at : Reference) → list_any (eqb at.slot) gone.new.keys ≡ list_any (eqb at.slot) gone.old.keys || takes at edit.now) }
 {
@@ -141,7 +142,7 @@ fn add_gone(gone: &mut IndexSet<u32>, edit: &Edit) -> Result<(), AllocError>
     Ok(())
 }
 
-/// A hash index on each of these columns over the rows that edits bring. `AllocError` where memory is refused.
+/// Returns a hash index on each of these columns over the new rows of edits. Fails with `AllocError` if an allocation fails.
 fn coming_by<'c>(
     alloc: Global,
     come: &[RowView<'c>],

@@ -12,11 +12,11 @@ use mm_value::RowRef;
 pub struct TableChange<'c> {
     /// The table's place in the store.
     pub table: usize,
-    /// What is to be changed of its rows. The rows that come lie in hidden slots of the table.
+    /// The edits of its rows. The new rows are staged in hidden slots of the table.
     pub edits: &'c [Edit],
 }
 
-/// The edits of a table.
+/// Returns the edits of a table.
 pub(crate) fn edits_of<'c>(changes: &[TableChange<'c>], table: usize) -> &'c [Edit]
     ensures { result.now ≡ edits_at changes.now table }
 {
@@ -28,7 +28,7 @@ pub(crate) fn edits_of<'c>(changes: &[TableChange<'c>], table: usize) -> &'c [Ed
     &[]
 }
 
-/// The reference of the row that an edit takes away, if any.
+/// Returns the reference of the row that an edit deletes or replaces, if any.
 pub fn row_gone(edit: &Edit) -> Option<RowRef>
     ensures { result ≡ old_slot edit.now }
 {
@@ -38,7 +38,7 @@ pub fn row_gone(edit: &Edit) -> Option<RowRef>
     }
 }
 
-/// The reference of the row that an edit brings, if any.
+/// Returns the reference of the new row of an edit, if any.
 pub(crate) fn row_come(edit: &Edit) -> Option<RowRef>
     ensures { result ≡ new_slot edit.now }
 {
@@ -48,7 +48,7 @@ pub(crate) fn row_come(edit: &Edit) -> Option<RowRef>
     }
 }
 
-/// Whether an edit takes the row of this reference away.
+/// Returns whether an edit deletes or replaces the row of a reference.
 fn takes(at: RowRef, edit: &Edit) -> bool
     ensures { result ≡ takes at edit.now }
 {
@@ -58,7 +58,7 @@ fn takes(at: RowRef, edit: &Edit) -> bool
     }
 }
 
-/// Whether no edit takes the row of this reference away.
+/// Returns whether no edit deletes or replaces the row of a reference.
 pub(crate) fn stays(edits: &[Edit], at: RowRef) -> bool
     ensures { result ≡ stays edits.now at }
 {

@@ -1,4 +1,4 @@
-//! The edits of tables, with what is found among them by hash.
+//! The edits of tables, with hash indexes over some of them.
 ghost use Rattle.std.specs.Prelude.{◌≡◌, ◌<◌, length, All, IfOk};
 ghost use Rattle.mm_indexed.specs.Kept.{StoredRows};
 ghost use Rattle.mm_partition.specs.Places.{slot_at};
@@ -18,7 +18,7 @@ use mm_tables::Edit;
 use std::alloc::{AllocError, Global};
 use std::marker::Model;
 
-/// So many edits are gone over faster than they are hashed.
+/// Up to this number of edits, a linear search is faster than hashing.
 const FEW: usize = 8;
 
 /// Hash indexes over the edits of one table.
@@ -26,11 +26,11 @@ const FEW: usize = 8;
 struct TableIndex<'c> {
     /// The table's place in the store.
     table: usize,
-    /// What is found among its edits.
+    /// The index over its edits.
     index: EditIndex<'c>,
 }
 
-/// The edits of the tables that are changed, and hash indexes over those of some of them.
+/// The edits of the changed tables, and hash indexes over those of some of them.
 #[derive(Drop)]
 pub(crate) struct IndexedChanges<'c> {
     changes: &'c [TableChange<'c>],
@@ -50,8 +50,8 @@ impl<'c> Model for IndexedChanges<'c> {
 }
 
 impl<'c> IndexedChanges<'c> {
-    /// The edits of tables. Those of a table have hash indexes where a row that is edited meets them row by row: where the table
-    /// stands in FROM before a place whose table is changed too. A few edits have none. `AllocError` where memory is refused.
+    /// Returns the edits of tables. Those of a table have hash indexes if an edited row meets them row by row: if the table is in FROM
+    /// before a place whose table is changed too. At most `FEW` edits have no index. Fails with `AllocError` if an allocation fails.
     pub(crate) fn new<'a: 'c>(
         alloc: Global,
         view: &View<'a>,
@@ -76,14 +76,14 @@ impl<'c> IndexedChanges<'c> {
         Ok(IndexedChanges { changes, indexes })
     }
 
-    /// The edits of a table.
+    /// Returns the edits of a table.
     pub(crate) fn edits_of(&self, table: usize) -> &'c [Edit]
         ensures { result.now ≡ edits_at self.now.edits table }
     {
         edits_of(self.changes, table)
     }
 
-    /// The edits of a table, by hash indexes if it has them.
+    /// Returns the edits of a table, with hash indexes if it has them.
     pub(crate) fn overlay(&self, table: usize) -> Overlay<'_, 'c>
         ensures edits { overlay_edits result ≡ edits_at self.now.edits table }
         ensures read { (store : Tables) (stored : StoredRows) → AreOf store self.now → IsAt store table stored
@@ -98,7 +98,7 @@ impl<'c> IndexedChanges<'c> {
     }
 }
 
-/// Whether the table at a place of FROM has more than a few edits, and one behind it is changed too.
+/// Returns whether the table at a place of FROM has more than `FEW` edits, and a table after it is changed too.
 fn is_met(changes: &[TableChange<'_>], tables: &[usize], place: usize) -> bool
     requires { place < length tables.now }
 {

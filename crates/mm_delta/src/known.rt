@@ -1,4 +1,4 @@
-//! Values that are known of the rows that are there.
+//! Known values of the chosen rows.
 ghost use Rattle.std.specs.Prelude.{◌≡◌, ◌-ℤ◌, pos, map, IfOk};
 ghost use Rattle.std.specs.Option.{option_map};
 ghost use Rattle.mm_value.specs.Views.{value_of};
@@ -14,7 +14,7 @@ use mm_query::{FieldPlace, Operand};
 use mm_value::{Value, ValueRef};
 use std::alloc::{AllocError, Global};
 
-/// The value of a row in a column, and 0 past its end.
+/// Returns the value of a row in a column, or 0 if the row has no such column.
 pub(crate) fn value_in<'v>(row: RowView<'v>, column: usize) -> ValueRef<'v>
     ensures { value_of result ≡ value_in column (viewed row.entry) }
 {
@@ -24,7 +24,7 @@ pub(crate) fn value_in<'v>(row: RowView<'v>, column: usize) -> ValueRef<'v>
     }
 }
 
-/// The value of a field, where its place has a row. A row that ends before the column reads as 0.
+/// Returns the value of a field if its place has a row, with 0 for a column that the row does not have.
 pub(crate) fn field_value<'v>(
     rows: &[Option<RowView<'v>>],
     field: FieldPlace,
@@ -37,7 +37,7 @@ pub(crate) fn field_value<'v>(
     }
 }
 
-/// A copy of a value, if there is one. `AllocError` where memory is refused.
+/// Returns a copy of a value, if there is one. Fails with `AllocError` if an allocation fails.
 pub(crate) fn copied(
     alloc: Global,
     value: Option<ValueRef<'_>>,
@@ -50,7 +50,7 @@ pub(crate) fn copied(
     }
 }
 
-/// A value with a number added, without bound, if there is one. A text stays. `AllocError` where memory is refused.
+/// Returns a value plus a number, without bound, if there is a value. A text is unchanged. Fails with `AllocError` if an allocation fails.
 pub(crate) fn raised(
     alloc: Global,
     value: Option<ValueRef<'_>>,
@@ -65,7 +65,7 @@ pub(crate) fn raised(
     }
 }
 
-/// A value with a number taken away, without bound, if there is one. A text stays. `AllocError` where memory is refused.
+/// Returns a value minus a number, without bound, if there is a value. A text is unchanged. Fails with `AllocError` if an allocation fails.
 pub(crate) fn lowered(
     alloc: Global,
     value: Option<ValueRef<'_>>,
@@ -80,7 +80,7 @@ pub(crate) fn lowered(
     }
 }
 
-/// The value of an operand, where it is known. `AllocError` where memory is refused.
+/// Returns the value of an operand, if it is known. Fails with `AllocError` if an allocation fails.
 pub(crate) fn known_operand(
     alloc: Global,
     operand: &Operand<FieldPlace>,

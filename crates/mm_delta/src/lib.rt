@@ -1,4 +1,4 @@
-//! How the rows that a standing query shows change with the rows of its tables.
+//! The change of a standing query's rows when the rows of its tables change.
 #![tactic(auto)]
 
 mod asked_columns;

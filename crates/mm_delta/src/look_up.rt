@@ -1,4 +1,4 @@
-//! By which index the rows at a place are found.
+//! The index by which the rows at a place are found.
 ghost use Rattle.std.specs.Prelude.{◌≡◌, ◌<◌, length, map, is_some, IfOk, IfSome};
 ghost use Rattle.mm_partition.specs.Views.{viewed};
 ghost use Rattle.mm_indexed.specs.Kept.{StoredRows};
@@ -28,7 +28,7 @@ pub(crate) struct LookUp {
     pub(crate) wanted: Wanted,
 }
 
-/// What is known where rows are looked for.
+/// What is known when rows are looked up.
 #[derive(Drop)]
 pub(crate) struct Site<'s, 'a> {
     /// The store.
@@ -37,12 +37,12 @@ pub(crate) struct Site<'s, 'a> {
     pub(crate) table: usize,
     /// Its place in FROM.
     pub(crate) place: usize,
-    /// The rows that are there at the other places.
+    /// The rows chosen at the other places.
     pub(crate) rows: &'s [Option<RowView<'s>>],
 }
 
 impl Site<'_, '_> {
-    /// The index on a column, if there is one.
+    /// Returns the index on a column, if there is one.
     fn index_of(&self, column: usize) -> Option<IndexRef>
         requires { self.now.table < length self.now.view.now.store.tables }
         ensures there { is_some result ≡ has_index self.now.view.now.store self.now.table column }
@@ -51,7 +51,7 @@ impl Site<'_, '_> {
         self.view.index_on(self.table, column)
     }
 
-    /// The look-up by what an equality asks of its left side. `AllocError` where memory is refused.
+    /// Returns the look-up of the value that an equality requires of its left side. Fails with `AllocError` if an allocation fails.
     fn by_left(&self, alloc: Global, atom: &Atom<FieldPlace>) -> Result<Option<LookUp>, AllocError>
         requires { self.now.table < length self.now.view.now.store.tables }
         ensures ok { IfOk result (λ found. asked found ≡ asked_of (has_index self.now.view.now.store self.now.table) self.now.place atom.now.left
@@ -75,7 +75,7 @@ impl Site<'_, '_> {
         }))
     }
 
-    /// The look-up by what an equality asks of its right side. `AllocError` where memory is refused.
+    /// Returns the look-up of the value that an equality requires of its right side. Fails with `AllocError` if an allocation fails.
     fn by_right(&self, alloc: Global, atom: &Atom<FieldPlace>) -> Result<Option<LookUp>, AllocError>
         requires { self.now.table < length self.now.view.now.store.tables }
         ensures ok { IfOk result (λ found. asked found ≡ asked_of_right (has_index self.now.view.now.store self.now.table) self.now.place
@@ -106,7 +106,7 @@ impl Site<'_, '_> {
         }))
     }
 
-    /// The look-up by what an atom asks. `AllocError` where memory is refused.
+    /// Returns the look-up of the value that an atom requires. Fails with `AllocError` if an allocation fails.
     fn by_atom(&self, alloc: Global, atom: &Atom<FieldPlace>) -> Result<Option<LookUp>, AllocError>
         requires { self.now.table < length self.now.view.now.store.tables }
         ensures ok { IfOk result (λ found. asked found ≡ asked_by (has_index self.now.view.now.store self.now.table) self.now.place
@@ -122,7 +122,8 @@ impl Site<'_, '_> {
         }
     }
 
-    /// The look-up by what the first atom that does requires of a row there, if any does. `AllocError` where memory is refused.
+    /// Returns the look-up of the value that the first such atom requires of a row there, if there is such an atom. Fails with `AllocError`
+    /// if an allocation fails.
     pub(crate) fn look_up(
         &self,
         alloc: Global,

@@ -1,4 +1,4 @@
-//! The edits that count where rows are looked for.
+//! Edits that are added to the rows of a table when rows are looked up.
 ghost use Rattle.std.specs.Prelude.{◌≡◌, ◌++◌, ◌<◌, filter, length, map, OnOk};
 ghost use Rattle.mm_indexed.specs.Kept.{StoredRows};
 ghost use Rattle.mm_partition.specs.Places.{slot_at};
@@ -18,17 +18,17 @@ use mm_tables::Edit;
 use mm_value::RowRef;
 use std::alloc::AllocError;
 
-/// The overlay of a table: its edits, which count beside its rows.
+/// The edits of a table, read together with its rows.
 #[derive(Drop)]
 pub(crate) enum Overlay<'w, 'c> {
-    /// A list of them, which is gone over.
+    /// A list of edits, searched linearly.
     Listed(&'c [Edit]),
-    /// Hash indexes over them.
+    /// Hash indexes over the edits.
     Indexed(&'w EditIndex<'c>),
 }
 
 impl<'c> Overlay<'_, 'c> {
-    /// Leaves out the references of which an edit takes the row away.
+    /// Removes the references whose rows an edit deletes or replaces.
     pub(crate) fn leave_standing(&self, refs: &mut Vec<RowRef>)
         ensures { refs.new.items ≡ filter (stays (overlay_edits self.now)) refs.old.items }
     {
@@ -38,8 +38,8 @@ impl<'c> Overlay<'_, 'c> {
         }
     }
 
-    /// Adds those of the rows that the edits of a table bring that have what a look-up requires, where they lie. No row is counted as
-    /// read. `AllocError` where memory is refused.
+    /// Appends the new rows that have the value that a look-up requires, or all of them if there is no look-up, read in place. No row is
+    /// counted as read. Fails with `AllocError` if an allocation fails.
     pub(crate) fn add_coming<'a: 'c>(
         &self,
         view: &View<'a>,

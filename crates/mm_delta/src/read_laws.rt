@@ -1,5 +1,5 @@
-//! Laws of how many rows a change may read. The clauses of the code bound the reads from above, so a definition that counts a row
-//! too many would leave them proved. These laws refuse it. No code calls them.
+//! Laws on the number of rows that a change may read. The clauses of the code are upper bounds, so they would still be proved if a
+//! definition counted a row too many. These laws would fail then. No code calls them.
 ghost use Rattle.std.specs.Prelude.{◌≡◌, ◌+◌, ◌++◌, ◌<◌, ℕ, ℤ, Bool, true, false, All, FitsSigned, List, [], ◌∷◌, Option, Some, None, get_or, length, set};
 ghost use Rattle.std.specs.Int.{w64};
 ghost use Rattle.mm_store.specs.Tables.{Tables};
@@ -17,7 +17,7 @@ ghost use Rattle.mm_delta.specs.Steps.{reads_for, row_reads, term_reads};
 ghost use Rattle.mm_delta.specs.Walk.{one_row, other_places};
 ghost use Rattle.mm_delta.specs.declared.edited.TableChange.{TableChange};
 
-/// An edited row that is left out reads no row beside itself. Any other reads those with which it may be combined.
+/// An edited row that is left out reads no other row. Any other edited row reads its candidates.
 pub fn left_out_rows_are_not_combined()
     ensures left_out { (query : BoundQuery) (store : Tables) (changes : List TableChange) (tables : List ℕ) (skipped : ℕ → List Value → Bool) (k : ℕ) (row : List Value)
         → skipped k row ≡ true → row_reads query store changes tables skipped k row ≡ 0 }
@@ -26,8 +26,8 @@ pub fn left_out_rows_are_not_combined()
         ≡ reads_for query store changes tables k (other_places (length tables) k) (one_row (length tables) k row) }
 {}
 
-/// A place of FROM whose table has no edited row reads nothing. If all edited rows of a place are left out, only these
-/// rows are read. A place with a single edited row reads it, and what it may be combined with.
+/// A place of FROM whose table has no edited row reads nothing. If all edited rows of a place are left out, only these rows are read. A
+/// place with a single edited row reads it and its candidates.
 pub fn each_edited_row_is_read_once()
     ensures unedited { (query : BoundQuery) (store : Tables) (changes : List TableChange) (tables : List ℕ) (skipped : ℕ → List Value → Bool) (k : ℕ)
         → gone_at store changes (get_or tables k 0) ≡ [] → come_at store changes (get_or tables k 0) ≡ []
@@ -41,8 +41,8 @@ pub fn each_edited_row_is_read_once()
         → term_reads query store changes tables skipped k ≡ 1 + row_reads query store changes tables skipped k row }
 {}
 
-/// If an atom is already false, nothing more is read, however many places are still empty. Nothing more is read either once every
-/// place has a row. If one place is empty and no atom is false, the rows are read that were there before and have what is required.
+/// If an atom is already false, nothing more is read, however many places are still empty. Nothing more is read either once every place has
+/// a row. If one place is empty and no atom is false, the rows read are those before the change that have the required value.
 pub fn rows_that_fail_have_no_candidates()
     ensures fails { (indexed : ℕ → ℕ → Bool) (atoms : List (Atom FieldPlace)) (before rows : ℕ → List (List Value)) (places : List ℕ) (m : Partial)
         → none_fails atoms m ≡ false → candidates indexed atoms before rows places m ≡ 0 }
@@ -53,7 +53,7 @@ pub fn rows_that_fail_have_no_candidates()
         ≡ length (having (required (indexed place) atoms m place) (before place)) }
 {}
 
-/// The first atom that requires something of a row decides what is required. If no atom requires anything, nothing is required.
+/// The first atom that requires a value of a row determines the required value. If no atom requires one, none is required.
 pub fn the_first_atom_that_requires_decides()
     ensures first { (indexed : ℕ → Bool) (atom : Atom FieldPlace) (atoms : List (Atom FieldPlace)) (m : Partial) (place : ℕ) (asked : Required)
         → asked_by indexed place m atom atom.comparison ≡ Some asked → required indexed (atom ∷ atoms) m place ≡ Some asked }
@@ -62,15 +62,15 @@ pub fn the_first_atom_that_requires_decides()
     ensures none { (indexed : ℕ → Bool) (m : Partial) (place : ℕ) → required indexed [] m place ≡ None }
 {}
 
-/// A row has what an atom requires just where the atom is true of it and of the rows that are there. So each row that is read for
-/// an atom meets it, and no row that meets it is passed over.
+/// A row has the value that an atom requires exactly if the atom is true of it and of the chosen rows. So each row that is read for an atom
+/// satisfies it, and no row that satisfies it is skipped.
 pub fn rows_with_what_is_required_meet_the_atom()
     ensures { (indexed : ℕ → Bool) (atom : Atom FieldPlace) (m : Partial) (place : ℕ) (asked : Required) (row : List Value)
         → place < length m → get_or m place None ≡ None → asked_by indexed place m atom atom.comparison ≡ Some asked
         → has_required asked row ≡ holds (value_at (set m place (Some row))) atom }
 {}
 
-/// No row contains a number that does not fit into 64 bits, so looking one up reads no row.
+/// No row of storable values contains a number that does not fit into 64 bits, so looking one up reads no row.
 pub fn no_row_has_a_number_past_64_bits()
     ensures { (column : ℕ) (number : ℤ) (rows : List (List Value)) → ¬ FitsSigned w64 number → All AreStorable rows
         → having (Some (column, Int number)) rows ≡ [] }

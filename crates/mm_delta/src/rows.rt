@@ -1,4 +1,4 @@
-//! The rows that are gone over at a place of FROM.
+//! The rows that are read at a place of FROM.
 ghost use Rattle.std.specs.Prelude.{◌≡◌, ◌+◌, ◌++◌, ◌<◌, ◌≤◌, [], filter, length, map, All, IfOk, IfSome, None, OnOk, Some};
 ghost use Rattle.mm_value.specs.Views.{value_of};
 ghost use Rattle.mm_partition.specs.Views.{viewed};
@@ -24,8 +24,8 @@ use mm_tables::Edit;
 use mm_value::{RowRef, ValueRef};
 use std::alloc::{AllocError, Global};
 
-/// The references of the rows of a table that have a value in the column of an index, each once and in no promised order. No row
-/// is read. `AllocError` where memory is refused.
+/// Returns the references of the rows of a table that have a value in the column of an index, each once and in no particular order. No row
+/// is read. Fails with `AllocError` if an allocation fails.
 fn having_value(
     alloc: Global,
     view: &View<'_>,
@@ -43,8 +43,8 @@ fn having_value(
     Ok(found)
 }
 
-/// The references of the rows of a table that have the value of a look-up, each once and in no promised order. No row is read.
-/// `AllocError` where memory is refused.
+/// Returns the references of the rows of a table that have the value of a look-up, each once and in no particular order. No row is read.
+/// Fails with `AllocError` if an allocation fails.
 fn matching(
     alloc: Global,
     view: &View<'_>,
@@ -66,7 +66,8 @@ fn matching(
     }
 }
 
-/// The references of all rows of a table, each once and in no promised order. No row is read. `AllocError` where memory is refused.
+/// Returns the references of all rows of a table, each once and in no particular order. No row is read. Fails with `AllocError` if an
+/// allocation fails.
 fn all_of(alloc: Global, view: &View<'_>, table: usize) -> Result<Vec<RowRef>, AllocError>
     requires { table < length view.now.store.tables }
     ensures { IfOk result (λ found. (stored : StoredRows) → IsAt view.now.store table stored → IsFoundOf None stored found.items) }
@@ -76,8 +77,8 @@ fn all_of(alloc: Global, view: &View<'_>, table: usize) -> Result<Vec<RowRef>, A
     Ok(found)
 }
 
-/// The references of the rows of a table that have what a look-up requires, or of all rows where there is none, each once and in
-/// no promised order. No row is read. `AllocError` where memory is refused.
+/// Returns the references of the rows of a table that have the value of a look-up, or of all rows if there is no look-up, each once and in
+/// no particular order. No row is read. Fails with `AllocError` if an allocation fails.
 pub(crate) fn references(
     alloc: Global,
     view: &View<'_>,
@@ -94,7 +95,7 @@ pub(crate) fn references(
     }
 }
 
-/// Leaves out the references of which an edit takes the row away.
+/// Removes the references whose rows an edit deletes or replaces.
 pub(crate) fn leave_standing(edits: &[Edit], refs: &mut Vec<RowRef>)
     ensures { refs.new.items ≡ filter (stays edits.now) refs.old.items }
 {
@@ -103,7 +104,7 @@ pub(crate) fn leave_standing(edits: &[Edit], refs: &mut Vec<RowRef>)
     }
 }
 
-/// The rows of references. Each is read once. `AllocError` where memory is refused.
+/// Returns the rows of references. Each is read once. Fails with `AllocError` if an allocation fails.
 pub(crate) fn read_all<'c, 'a: 'c>(
     alloc: Global,
     view: &mut View<'a>,
@@ -124,7 +125,7 @@ pub(crate) fn read_all<'c, 'a: 'c>(
     Ok(rows)
 }
 
-/// Whether a row has what a look-up requires, if there is one.
+/// Returns whether a row has the value of a look-up, if there is a look-up.
 fn fits(look_up: &Option<LookUp>, row: RowView<'_>) -> bool
     ensures { result ≡ passes (asked look_up.now) (viewed row.entry) }
 {
@@ -134,7 +135,7 @@ fn fits(look_up: &Option<LookUp>, row: RowView<'_>) -> bool
     }
 }
 
-/// The row that an edit of a table brings, where it lies, if it has what a look-up requires. No row is counted as read.
+/// Returns the new row of an edit of a table, in place, if it has the value of a look-up. No row is counted as read.
 fn coming<'c, 'a: 'c>(
     view: &View<'a>,
     table: usize,
@@ -150,7 +151,7 @@ fn coming<'c, 'a: 'c>(
     if fits(look_up, row) { Some(row) } else { None }
 }
 
-/// Adds a row, if there is one. `AllocError` where memory is refused.
+/// Appends a row, if there is one. Fails with `AllocError` if an allocation fails.
 fn push_some<'c>(rows: &mut Vec<RowView<'c>>, row: Option<RowView<'c>>) -> Result<(), AllocError>
     ensures { OnOk result (map viewed rows.new.items ≡ map viewed rows.old.items ++ cons_option (option_map viewed row.entry) []) }
 {
@@ -160,8 +161,8 @@ fn push_some<'c>(rows: &mut Vec<RowView<'c>>, row: Option<RowView<'c>>) -> Resul
     Ok(())
 }
 
-/// Adds those of the rows that edits of a table bring that have what a look-up requires, where they lie. No row is counted as read.
-/// `AllocError` where memory is refused.
+/// Appends the new rows of edits of a table that have the value of a look-up, in place. No row is counted as read. Fails with `AllocError`
+/// if an allocation fails.
 pub(crate) fn add_coming<'c, 'a: 'c>(
     view: &View<'a>,
     table: usize,
@@ -180,7 +181,7 @@ pub(crate) fn add_coming<'c, 'a: 'c>(
     Ok(())
 }
 
-/// Adds those of some rows that have what a look-up requires. `AllocError` where memory is refused.
+/// Appends those of some rows that have the value of a look-up. Fails with `AllocError` if an allocation fails.
 pub(crate) fn add_fitting<'c>(
     rows: &mut Vec<RowView<'c>>,
     from: &[RowView<'c>],

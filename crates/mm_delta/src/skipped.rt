@@ -1,4 +1,4 @@
-//! Edited rows that are left out, each for a cycle that was checked.
+//! Edited rows that are left out, each because of a cycle that was checked.
 ghost use Rattle.std.specs.Prelude.{◌≡◌, ◌↔◌, true, IfOk, IsTrue, MatchOption};
 ghost use Rattle.mm_partition.specs.Views.{viewed};
 ghost use Rattle.mm_relevance.specs.Relevance.{IsAccepted, IsCyclic};
@@ -8,8 +8,8 @@ use mm_query::BoundQuery;
 use mm_relevance::{Cycle, check_cycle, irrelevant};
 use std::alloc::{AllocError, Global};
 
-/// Whether a certificate shows that no combination with this row at this place of FROM fits the query. It may be any: where it
-/// holds a cycle, this is checked.
+/// Returns whether a certificate shows that no combination with this row at this place of FROM matches the query. Any certificate may be
+/// passed: a cycle is checked.
 fn is_shown(query: &BoundQuery, place: usize, row: RowView<'_>, certificate: &Option<Cycle>) -> bool
     ensures sound { IsTrue result → IsCyclic query.now place (viewed row.entry) }
     ensures accepted { MatchOption certificate.now ⊥ (λ cycle. IsAccepted query.now place (viewed row.entry) cycle.edges.items) → result ≡ true }
@@ -20,8 +20,8 @@ fn is_shown(query: &BoundQuery, place: usize, row: RowView<'_>, certificate: &Op
     }
 }
 
-/// Whether this row is left out at this place of FROM: a cycle of at most 32 edges, which was checked, shows that no combination
-/// with it fits the query. Where there is such a cycle, it is. `AllocError` where memory is refused.
+/// Returns whether this row is left out at this place of FROM: whether a cycle of at most 32 edges, which is checked, shows that no
+/// combination with the row matches the query. The row is left out if such a cycle exists. Fails with `AllocError` if an allocation fails.
 pub(crate) fn is_skipped(
     alloc: Global,
     query: &BoundQuery,

@@ -1,4 +1,4 @@
-//! What the edited rows at one place of FROM add.
+//! The term of one place of FROM.
 ghost use Rattle.std.specs.Prelude.{◌≡◌, ℕ, ◌+◌, ◌<◌, ◌≤◌, Bool, [], ◌∷◌, List, get_or, length, map, All, OnOk};
 ghost use Rattle.std.specs.List.{sum_by};
 ghost use Rattle.mm_partition.specs.Views.{viewed};
@@ -20,8 +20,8 @@ use mm_store::View;
 use std::alloc::{AllocError, Global};
 
 impl<'c> Walk<'_, 'c> {
-    /// Counts the projected row of each fitting combination that has one of these rows at the place of the edited row, for each
-    /// of them. `AllocError` where memory is refused.
+    /// Counts the projected row of each matching combination that has one of these rows at the place of the edited row, for each of them.
+    /// Fails with `AllocError` if an allocation fails.
     pub(crate) fn from_rows<'a: 'c>(
         &self,
         alloc: Global,
@@ -50,9 +50,9 @@ impl<'c> Walk<'_, 'c> {
         Ok(())
     }
 
-    /// Counts the projected row of each fitting combination that has an edited row at the place of one: those with a row that
-    /// comes into the one bag, those with a row that goes into the other. Where a row comes in the place of one of which the query
-    /// makes the same, neither is counted, since they would be counted alike. `AllocError` where memory is refused.
+    /// Counts the projected row of each matching combination that has an edited row at the place of the edited row: with a new row in
+    /// `comes`, with a deleted row in `goes`. If a row replaces another one and the query reads no column in which they differ, neither is
+    /// counted, since the counts would cancel out. Fails with `AllocError` if an allocation fails.
     pub(crate) fn add_term<'a: 'c>(
         &self,
         alloc: Global,

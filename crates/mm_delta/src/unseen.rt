@@ -1,4 +1,4 @@
-//! What a query sees of edits: nothing of a row that changes in other columns than it reads.
+//! The edits that a query reads: not those of rows that change only in other columns.
 ghost use Rattle.std.specs.Prelude.{◌≡◌, ◌+◌, ◌++◌, ◌∷◌, ◌<◌, ◌≤◌, [], filter_map, length, map, All, IfOk, OnOk};
 ghost use Rattle.std.specs.List.{cons_option, list_all};
 ghost use Rattle.mm_partition.specs.Views.{viewed};
@@ -18,12 +18,12 @@ use mm_tables::Edit;
 use mm_value::compare;
 use std::alloc::{AllocError, Global};
 
-/// The rows by which edits of a table change what a query makes of it at a place of FROM.
+/// The rows by which edits of a table change the result of a query at a place of FROM.
 #[derive(Drop)]
 pub(crate) struct SeenRows<'c> {
-    /// Those that go.
+    /// The deleted and replaced rows.
     pub(crate) gone: Vec<RowView<'c>>,
-    /// Those that come.
+    /// The new rows.
     pub(crate) come: Vec<RowView<'c>>,
 }
 
@@ -35,7 +35,7 @@ pub(crate) struct Sight<'c> {
 }
 
 impl<'c> Sight<'c> {
-    /// Whether two rows have the same value in the column of a field, if it is a field of the place.
+    /// Returns whether two rows have the same value in the column of a field, if it is a field of the place.
     fn agree_in(&self, a: RowView<'_>, b: RowView<'_>, field: FieldPlace) -> bool
         ensures { result ≡ agree_in self.now.place (viewed a.entry) (viewed b.entry) field }
     {
@@ -43,7 +43,7 @@ impl<'c> Sight<'c> {
             || compare(&value_in(a, field.column), &value_in(b, field.column)).is_eq()
     }
 
-    /// Whether two rows have the same values in the columns of the place that an atom compares.
+    /// Returns whether two rows have the same values in the columns of the place that an atom compares.
     fn agree_for(&self, a: RowView<'_>, b: RowView<'_>, atom: &Atom<FieldPlace>) -> bool
         ensures { result ≡ agree_for self.now.place (viewed a.entry) (viewed b.entry) atom.now }
     {
@@ -54,21 +54,21 @@ impl<'c> Sight<'c> {
         self.agree_in(a, b, atom.left) && agree_right
     }
 
-    /// Whether two rows have the same values in the columns of the place that atoms compare.
+    /// Returns whether two rows have the same values in the columns of the place that atoms compare.
     fn agree_for_all(&self, a: RowView<'_>, b: RowView<'_>, atoms: &[Atom<FieldPlace>]) -> bool
         ensures { result ≡ list_all (agree_for self.now.place (viewed a.entry) (viewed b.entry)) atoms.now }
     {
         atoms.iter().all(|atom| self.agree_for(a, b, atom))
     }
 
-    /// Whether two rows have the same values in the columns of fields, if these are fields of the place.
+    /// Returns whether two rows have the same values in the columns of fields, if these are fields of the place.
     fn agree_in_all(&self, a: RowView<'_>, b: RowView<'_>, fields: &[FieldPlace]) -> bool
         ensures { result ≡ list_all (agree_in self.now.place (viewed a.entry) (viewed b.entry)) fields.now }
     {
         fields.iter().all(|field| self.agree_in(a, b, *field))
     }
 
-    /// Whether the query makes the same of two rows at the place: they have the same values in all columns that it reads there.
+    /// Returns whether two rows at the place are equal for the query: whether they have the same values in all columns that it reads there.
     fn looks_alike(&self, a: RowView<'_>, b: RowView<'_>) -> bool
         ensures { result ≡ looks_alike self.now.query.now self.now.place (viewed a.entry) (viewed b.entry) }
     {
@@ -76,8 +76,8 @@ impl<'c> Sight<'c> {
             && self.agree_in_all(a, b, self.query.fields.as_slice())
     }
 
-    /// Adds the rows that go and come by an edit of a table, unless the query makes the same of both. A row that goes is read once.
-    /// `AllocError` where memory is refused.
+    /// Appends the old and the new row of an edit of a table, unless they are equal for the query. An old row is read once. Fails with
+    /// `AllocError` if an allocation fails.
     fn add_seen<'a: 'c>(
         &self,
         view: &mut View<'a>,
@@ -110,8 +110,8 @@ impl<'c> Sight<'c> {
         Ok(())
     }
 
-    /// The rows that go and come by edits of a table, but for those that change in columns that the query does not read. Each row
-    /// that goes or changes is read once. `AllocError` where memory is refused.
+    /// Returns the old and the new rows of edits of a table, except for rows that change only in columns that the query does not read. Each
+    /// old row is read once. Fails with `AllocError` if an allocation fails.
     pub(crate) fn seen_rows<'a: 'c>(
         &self,
         alloc: Global,

@@ -31,21 +31,21 @@ use mm_query::{BoundQuery, MAX_FROM, none_fails, values_of};
 use mm_store::View;
 use std::alloc::{AllocError, Global};
 
-/// What is walked: a query, a change, and the place of FROM that has an edited row.
+/// A query, a change, and the place of FROM that has an edited row.
 #[derive(Drop)]
 pub(crate) struct Walk<'w, 'c> {
     /// The query.
     pub(crate) query: &'c BoundQuery,
     /// The store's place of each table of FROM.
     pub(crate) tables: &'c [usize],
-    /// The edits of the tables that are changed.
+    /// The edits of the changed tables.
     pub(crate) changes: &'w IndexedChanges<'c>,
     /// The place of FROM that has an edited row.
     pub(crate) place: usize,
 }
 
 impl<'w, 'c> Walk<'w, 'c> {
-    /// The edits that count at a place of FROM: those of its table before the place of the edited row, and none behind it.
+    /// Returns the edits that apply at a place of FROM: those of its table at places before that of the edited row, and none after it.
     fn edits_at(&self, place: usize, table: usize) -> Overlay<'w, 'c>
         ensures edits { overlay_edits result ≡ edits_walked self.now.changes.now.edits self.now.place place table }
         ensures read { (store : Tables) (stored : StoredRows) → AreOf store self.now.changes.now → IsAt store table stored
@@ -58,7 +58,7 @@ impl<'w, 'c> Walk<'w, 'c> {
         }
     }
 
-    /// The look-up of the rows at a place, if one serves. `AllocError` where memory is refused.
+    /// Returns the look-up of the rows at a place, if an index serves. Fails with `AllocError` if an allocation fails.
     fn look_up_at(
         &self,
         alloc: Global,
@@ -80,8 +80,8 @@ impl<'w, 'c> Walk<'w, 'c> {
         site.look_up(alloc, self.query.atoms.as_slice())
     }
 
-    /// The rows at a place that have what is required of them: before the place of the edited row those after the change, behind
-    /// it those before the change. Only rows that were there before are read. `AllocError` where memory is refused.
+    /// Returns the rows at a place that have the required value: those after the change at places before that of the edited row, and those
+    /// before the change at places after it. Only rows before the change are read. Fails with `AllocError` if an allocation fails.
     fn rows_at<'a: 'c>(
         &self,
         alloc: Global,
@@ -109,8 +109,8 @@ impl<'w, 'c> Walk<'w, 'c> {
         Ok(rows)
     }
 
-    /// Counts the projected row of each fitting combination that completes the chosen rows by rows at the other places.
-    /// `AllocError` where memory is refused.
+    /// Counts the projected row of each matching combination that completes the chosen rows by rows at the other places. Fails with
+    /// `AllocError` if an allocation fails.
     pub(crate) fn extend<'a: 'c>(
         &self,
         alloc: Global,
@@ -148,8 +148,8 @@ impl<'w, 'c> Walk<'w, 'c> {
         }
     }
 
-    /// Whether the row at the place of the edited row, of which alone these rows consist, is left out, since no combination with
-    /// it fits: an atom is false of it already, or it has a cycle. No row is read. `AllocError` where memory is refused.
+    /// Returns whether the edited row, which is the only chosen row, is left out because no combination with it matches: an atom is already
+    /// false of it, or it has a cycle. No row is read. Fails with `AllocError` if an allocation fails.
     fn is_left_out(
         &self,
         alloc: Global,
@@ -165,8 +165,8 @@ impl<'w, 'c> Walk<'w, 'c> {
         is_skipped(alloc, self.query, self.place, row)
     }
 
-    /// Counts the projected row of each fitting combination that has this row at the place of the edited row. Nothing is read
-    /// where the row has a cycle, or an atom is false of it already. `AllocError` where memory is refused.
+    /// Counts the projected row of each matching combination that has this row at the place of the edited row. Nothing is read if the row
+    /// has a cycle or an atom is already false of it. Fails with `AllocError` if an allocation fails.
     pub(crate) fn from_row<'a: 'c>(
         &self,
         alloc: Global,
@@ -199,7 +199,7 @@ impl<'w, 'c> Walk<'w, 'c> {
     }
 }
 
-/// All places but one.
+/// Returns all places but one.
 fn other_places(places: usize, place: usize) -> ArrayVec<usize, MAX_FROM>
     requires { places ≤ MAX_FROM }
     ensures { result.items ≡ other_places_lem places place }

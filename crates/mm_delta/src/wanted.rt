@@ -14,12 +14,12 @@ use mm_value::{Value, ValueRef, compare};
 pub(crate) enum Wanted {
     /// A value of a row or of the query.
     Value(Value),
-    /// A whole number to which a shift was added. Where it is past 64 bits, no row has it.
+    /// An integer plus a shift. No row has it if it exceeds 64 bits.
     Sum(i128),
 }
 
 impl Wanted {
-    /// Whether a value is the wanted one.
+    /// Returns whether a value is the wanted one.
     pub(crate) fn is(&self, value: ValueRef<'_>) -> bool
         ensures { result ≡ is_eq (value_cmp (value_of value.entry) (value_wanted self.now)) }
     {
@@ -33,7 +33,7 @@ impl Wanted {
     }
 }
 
-/// A whole number as a value, which it is only where it has 64 bits.
+/// Returns an integer as a value if it fits 64 bits.
 pub(crate) fn number_value(number: i128) -> Option<Value>
     ensures { MatchOption result (¬ FitsSigned w64 number) (λ value. value ≡ Int number) }
 {

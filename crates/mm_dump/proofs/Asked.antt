@@ -1,4 +1,4 @@
--- The standing queries of every state can be asked anew: each is a query that nothing refuses, bound.
+-- The standing queries of every state can be bound again: each is the bound form of a query that the catalog accepts.
 use Rattle.std.proofs.Common.{◌≡◌, ◌⊎◌, ◌≤◌, ◌-◌, ℕ, Bool, true, false, cond, not, ◌&&◌, ◌||◌, leb, ltb, List, [], ◌∷◌, ◌++◌, Option, Some, None}
 use Rattle.std.proofs.Common.{filter, find, is_none, is_some, length, map}
 use Rattle.std.proofs.Common.{inl, inr, refl, sym, ap, ◌∙◌, subst, length-append, arith}
@@ -59,7 +59,7 @@ use Rattle.mm_dump.proofs.Named.{query_named_back}
 use Rattle.mm_dump.proofs.Restorable.{state_of}
 use Rattle.mm_dump.proofs.Creatable.{length-filter_le}
 
--- The catalog of some tables alone.
+-- The catalog that has only some tables.
 abbrev pub schema_of : List Table → Schema
 schema_of tables = record { tables = tables; standing = [] }
 
@@ -89,7 +89,7 @@ module _ (old new : List Table) where
     told_same (Some t) None a_there b_there same = absurd (false≢true (sym b_there))
     told_same (Some t) (Some u) a_there b_there same = ap tell same
 
-    -- What the columns of an alias's table tell stays, where the tables of FROM do.
+    -- The facts about the columns of an alias's table stay the same if the tables of FROM do.
     told_of : (from : List FromItem) → items_there from → list_any (λ (item : FromItem). lacks_table item.table (schema_of old)) from ≡ false
         → (alias : List ℕ) → told (table_of (schema_of new) from alias) ≡ told (table_of (schema_of old) from alias)
     told_of [] there tables alias = refl
@@ -178,7 +178,7 @@ module _ (old new : List Table) where
 
 -- ---- the limit of combinations
 
--- At most so many combinations of the rows of tables fit a query.
+-- A query stays within the limit on combinations of the rows of tables.
 abbrev pub Fits : List Table → Instance → BoundQuery → Type 0
 Fits tables rows query = outgrows (state_of tables rows) query ≡ false
 
@@ -214,7 +214,7 @@ each_within : (state : State) (queries : List BoundQuery) → list_any (outgrows
 each_within state [] within = tt
 each_within state (q ∷ qs) within = let p = or_parts (outgrows state q) (list_any (outgrows state) qs) within in (p.0, each_within state qs p.1)
 
--- ---- what each command keeps of the standing queries
+-- ---- each command keeps these properties of the standing queries
 
 pub record AreKept (state : State) : Type 0 where
   pub asked : AllByRecursion (IsAsked state.schema.tables) state.queries
@@ -375,7 +375,7 @@ kept_by_command (RollbackTo name) state due beside has is = record {
 
 -- ---- every state
 
--- What each step keeps of a state: its rows in key order, and its standing queries.
+-- Each step keeps these properties of a state: its rows in key order, and its standing queries.
 pub record IsSound (state : State) : Type 0 where
   pub rows : HoldsThroughout IsKept state
   pub has : HasQueries state
@@ -405,6 +405,6 @@ pub sound_after : (commands : List Command) (state : State) → IsSound state �
 sound_after [] state is = is
 sound_after (c ∷ cs) state is = sound_after cs (step c state).state (sound_by_step c state is)
 
--- Each standing query of a state that commands lead to has its query beside it, which can be asked anew.
+-- Each standing query of a state that commands lead to has its query beside it, which can be bound again.
 pub reached_asked : (commands : List Command) → HasQueries (after_all commands first_state) × AreKept (after_all commands first_state)
 reached_asked commands = let is = sound_after commands first_state sound_at_first in (is.has, is.kept)

@@ -56,7 +56,7 @@ groups_script table (g ∷ gs) = ap (λ l. (insert_text table g ++ 10 ∷ []) ++
 abbrev AreShort : List Table → List Groups → Type 0
 AreShort tables groups = AllZip (λ (t : Table) (gs : Groups). AllByRecursion (FitsIfMany (name_of t)) gs) tables groups
 
--- The INSERT lines of the rows that stand under names.
+-- The INSERT lines of the rows of tables with these names.
 abbrev lines_of_tables : List Table → Instance → List Table → List ℕ
 lines_of_tables tables rows listed = flat_map (λ (t : Table). put_texts (name_of t) (rows_named (name_of t) tables rows)) listed
 

@@ -23,7 +23,7 @@ distinct_behind [] tables distinct = distinct
 distinct_behind (f ∷ fs) tables distinct =
     distinct_behind fs tables (IsDistinct-tail same_name (name_of f) (map name_of (fs ++ tables)) distinct)
 
--- what holds of each element holds of one in the middle
+-- a property of each element holds for one in the middle
 in_middle : (P : List ℕ → Type 0) (fs : List Table) (t : Table) (ts : List Table) → AllByRecursion P (map name_of (fs ++ t ∷ ts)) → P (name_of t)
 in_middle P [] t ts all = all.0
 in_middle P (f ∷ fs) t ts all = in_middle P fs t ts all.1
@@ -72,7 +72,7 @@ module _ (front : List Table) (t : Table) (behind : List Table) (distinct : AreD
       rows_found_behind (name_of t) front (t ∷ behind) done (rows ∷ others) beside (lack_before front t behind distinct)
       ∙ ap (λ b. cond b rows (rows_named (name_of t) behind others)) (same_name_refl (name_of t))
 
--- The rows of one of the tables before are those that stand beside these.
+-- If a name is that of one of the tables before, its rows are those beside these tables.
 pub rows_found_before : (name : List ℕ) (front behind : List Table) (done others : Instance) → AreBeside front done
     → list_any (same_name name) (map name_of front) ≡ true → rows_named name (front ++ behind) (done ++ others) ≡ rows_named name front done
 rows_found_before name [] behind [] others beside some = absurd (false≢true some)
@@ -86,7 +86,7 @@ rows_found_before name (f ∷ fs) behind (d ∷ ds) others beside some = by (has
 rows_found_before name [] behind (d ∷ ds) others beside some = absurd beside
 rows_found_before name (f ∷ fs) behind [] others beside some = absurd beside
 
--- A change of the rows of one table changes its own rows alone.
+-- A change of the rows of one table changes only its own rows.
 module _ (name : List ℕ) (pairs : List Pair) where
   changed_parts : (front behind : List Table) (done others : Instance) → AreBeside front done
       → changed_instance (front ++ behind) (edits_of_one name pairs) (done ++ others)

@@ -16,7 +16,7 @@ use Rattle.mm_lang.specs.Tokens.{Word, Signed, Quoted, Mark, Inside, begins_word
 use Rattle.mm_lang.proofs.Lexing.{text_byte, text_end, text_quotes, tokens_blank, tokens_quote, word_step}
 use Rattle.mm_dump.proofs.Phrases.{IsLexed, IsSeparator, Reads, ends_token}
 
--- What ends a token begins with no byte of a word, ..
+-- The end of a token begins with no byte of a word, ..
 no_word : (rest : List ℕ) → ends_token rest ≡ true → begins_word rest ≡ false
 no_word [] end = refl
 no_word (b ∷ bs) end = by (is_word_byte b) (eqb b 39) end
@@ -120,7 +120,7 @@ signed_lexed (b ∷ bs) numeral =
       free = refl;
     }
 
--- What a text says, from behind its opening quote on.
+-- The content of a text, from its opening quote on.
 body_front : (said rest : List ℕ) → AllByRecursion (λ b. b ≢ 10) said → get_or rest 0 0 ≢ 39
     → lexed Inside (doubled said ++ 39 ∷ rest) ≡ Quoted said ∷ tokens rest
 body_front [] rest one_line end = text_end rest end

@@ -14,7 +14,7 @@ use Rattle.mm_dump.specs.Texts.{comma_separated, insert_text}
 abbrev Row : Type 0
 Row = List Value
 
--- A further text goes after the others.
+-- A further text is appended to the others.
 separated_push : (rows : List Row) (row : Row) → rows ≢ []
     → comma_separated row_text (rows ++ row ∷ []) ≡ comma_separated row_text rows ++ (codes ", " ++ row_text row)
 separated_push [] row some = absurd (some refl)
@@ -56,7 +56,7 @@ module _ (table : List ℕ) where
   line_ends : (used : ℕ) → 0 < used → line_end used ≡ 10 ∷ []
   line_ends used begun = cond-true (ltb 0 used) (10 ∷ []) [] (lt-ltb 0 used begun)
 
-  -- What is written of rows, to the end of the last line, where the open line has some bytes.
+  -- The text of rows, to the end of the last line, after an open line of some length.
   abbrev ended : ℕ → List Row → List ℕ
   ended used rows = rows_put table used rows ++ line_end (used_after_rows table used rows)
 
@@ -136,7 +136,7 @@ module _ (table : List ℕ) where
         text_is = append_assoc first (rows_put table used rows) (line_end (used_after_rows table used rows)) ∙ lines.text_is;
       }
 
-  -- Groups fit lines, where each row alone does.
+  -- Groups fit lines if each row alone does.
   pub groups_fit : (groups : Groups) → AllByRecursion (FitsIfMany table) groups
       → AllByRecursion (λ (row : Row). length (insert_text table (row ∷ [])) ≤ 4096) (flat_map (λ (group : List Row). group) groups)
       → AllByRecursion (λ (group : List Row). group ≢ []) groups → AllByRecursion (λ (group : List Row). length (insert_text table group) ≤ 4096) groups

@@ -35,7 +35,7 @@ use Rattle.mm_dump.specs.Texts.{watch_text}
 
 -- ---- the least bytes of tokens
 
--- 1 where tokens begin with a word, which a blank separates from a word before it.
+-- 1 if tokens begin with a word, which a blank separates from a word before it.
 abbrev pub word_first : List Token → ℕ
 word_first [] = 0
 word_first (Word w ∷ ts) = 1
@@ -54,7 +54,7 @@ size_of (Mark symbol) = length (symbol_text symbol)
 size_of Hole = 1
 size_of Unreadable = 0
 
--- 1 where a token ends in a byte of a word.
+-- 1 if a token ends in a byte of a word.
 abbrev pub ends_word : Token → ℕ
 ends_word (Word w) = 1
 ends_word (Signed w) = 1
@@ -77,7 +77,7 @@ abbrev pub least : List Token → ℕ
 least [] = 0
 least (t ∷ ts) = size_of t + (gap t ts + least ts)
 
--- 1 where tokens end in a byte of a word.
+-- 1 if tokens end in a byte of a word.
 abbrev pub word_last : List Token → ℕ
 word_last [] = 0
 word_last (t ∷ []) = ends_word t
@@ -126,7 +126,7 @@ least_word (t ∷ u ∷ ts) w us =
     let same = same_gap t u (ts ++ Word w ∷ us) ts in
     omega (arith, later, same)
 
--- Tokens take no fewer bytes where others follow.
+-- Tokens take no fewer bytes if others follow.
 least_both : (ts us : List Token) → least ts + least us ≤ least (ts ++ us)
 least_both [] us = omega arith
 least_both (t ∷ []) us = let n : gap t [] ≡ 0 = none t in omega (arith, n)
@@ -169,7 +169,7 @@ free_parts ts us free = or_parts (has_hole ts) (has_hole us) (sym (list_any-appe
 
 -- ---- phrases
 
--- A text has no more bytes than tokens that begin with a word, and the tokens end in a word if a space comes after the text.
+-- A text has no more bytes than tokens that begin with a word, and the tokens end in a word if a space follows the text.
 record IsLeast (ts : List Token) (text space : List ℕ) : Type 0 where
   size : length text ≤ least ts
   first : word_first ts ≡ 1
@@ -210,7 +210,7 @@ module _ {X : Type 0} (text : X → List ℕ) (Spells : List Token → X → Typ
         last = last_behind 1 is.0 (Mark Comma) is.1 others.last;
       })
 
--- A text after a word and a space, behind another text and its space.
+-- A text after a word and a space, which come after another text and its space.
 with_word : (ts : List Token) (w : List ℕ) (us : List Token) (text space other end : List ℕ) → IsLeast ts text space → IsLeast us other end
     → IsLeast (ts ++ Word w ∷ us) (text ++ (space ++ (w ++ (codes " " ++ other)))) end
 with_word ts w us text space other end a b =
@@ -286,7 +286,7 @@ literal_least Unreadable v free is stored = absurd is
 
 -- ---- operands
 
--- A text has no more bytes than tokens, which end in a word if a space comes after the text.
+-- A text has no more bytes than tokens, which end in a word if a space follows the text.
 record EndsLeast (ts : List Token) (text space : List ℕ) : Type 0 where
   size : length text ≤ least ts
   last : length space ≤ word_last ts

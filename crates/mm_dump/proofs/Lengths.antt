@@ -38,7 +38,7 @@ quoted_bound bytes short = omega (arith, short, count_by-le-length (λ b. eqb b 
 
 -- ---- rows
 
--- The bytes of a value and of what separates it from another one.
+-- The bytes of a value and of its separator.
 abbrev pub spaced_len : Value → ℕ
 spaced_len value = length (value_text value) + 2
 

@@ -16,14 +16,17 @@ mod Lines
 mod LinesRead
 mod Loading
 mod Named
+mod PartLists
 mod Phrases
 mod Printable
 mod Queries
 mod QueryFitting
 mod Reached
 mod Readings
+mod Remaining
 mod Restorable
 mod Restoring
+mod RowTails
 mod Rows
 mod Scripts
 mod StorableRows

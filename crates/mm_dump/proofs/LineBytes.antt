@@ -1,4 +1,4 @@
--- What the bytes of a line say of its tokens: how many there are, and which texts stand in them.
+-- The tokens of a line by its bytes: their number, and the texts among them.
 use Rattle.std.proofs.Common.{◌≡◌, ◌≢◌, ◌≤◌, ◌+◌, ℕ, suc, Bool, true, false, cond, eqb, List, [], ◌∷◌, ◌++◌, length, refl, sym, ap, ◌∙◌, subst, length-append}
 use Rattle.std.proofs.Common.{arith}
 use Rattle.std.specs.List.{AllByRecursion}
@@ -115,7 +115,7 @@ text_least b (Mark symbol ∷ ts) n is none = (omega (arith, is), none)
 text_least b (Hole ∷ ts) n is none = (omega (arith, is), none)
 text_least b (Unreadable ∷ ts) n is none = (omega (arith, is), none)
 
--- Bytes have a token's bytes and a blank before each word after another one; those of a text come after its opening quote.
+-- Bytes have a token's bytes and a blank before each word after another one; those of a text follow its opening quote.
 abbrev IsBounded : Place → List ℕ → Type 0
 IsBounded Outside bs = least (lexed Outside bs) + spare (begins_word bs) (lexed Outside bs) ≤ length bs
 IsBounded Inside bs = (least (lexed Inside bs) ≤ suc (length bs)) × (word_first (lexed Inside bs) ≡ 0)

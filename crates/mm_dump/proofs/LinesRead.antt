@@ -28,7 +28,7 @@ lines_lead (line ∷ lines) state = by (reading line) (lines_lead lines)
     by (Ok c) later = later (step c state).state
     by (Err refusal) later = later state
 
--- What holds of each command that a line reads as holds of all of them.
+-- A property of each command that a line reads as holds for all of them.
 pub all_read : (P : Command → Type 0) → ((line : List ℕ) (c : Command) → reading line ≡ Ok c → P c) → (lines : List (List ℕ))
     → AllByRecursion P (commands_read lines)
 all_read P each [] = tt

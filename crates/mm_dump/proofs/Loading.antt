@@ -67,7 +67,7 @@ all_fit columns (r ∷ rs) all =
     let later = all_fit columns rs all.1 in
     (or_from _ _ here.0 later.0, or_from _ _ (ap not (eq-eqb (length r) (length columns) here.1)) later.1)
 
--- ---- rows that come
+-- ---- rows that are inserted
 
 in_longer : (xs ys : List Row) (row : Row) → IsIn row xs → IsIn row (xs ++ ys)
 in_longer [] ys row here = absurd here
@@ -82,7 +82,7 @@ neither : (a b : Bool) → b ≡ false → (a && b) ≡ false
 neither true b none = none
 neither false b none = refl
 
--- Rows that come take no key away.
+-- Inserted rows remove no key.
 none_referred : (name : List ℕ) (group : List Row) (state : State) → some_is_referred (edits_of_one name (additions group)) state ≡ false
 none_referred name group state =
     or_from _ _
@@ -212,7 +212,7 @@ beside_none : (tables : List Table) → AreBeside tables (no_rows tables)
 beside_none [] = tt
 beside_none (t ∷ ts) = beside_none ts
 
--- Tables that come to have their rows, after tables that have theirs.
+-- Rows are inserted into tables without rows, after tables that have theirs.
 pub loaded : (front tables : List Table) (done rows : Instance) (groups : List Groups) → AreDistinct (front ++ tables) → AreBeside front done
     → AreInKeyOrder tables rows → AreTyped tables rows → AllByRecursion (λ (l : List Row). length l ≤ most_rows) rows
     → RefersBack (map name_of front) tables

@@ -1,4 +1,4 @@
--- Texts that read as phrases of the grammar: their tokens, and what these spell.
+-- Texts that read as phrases of the grammar: their tokens, and the words of these.
 use Rattle.std.proofs.Common.{◌≡◌, ℕ, Bool, true, false, not, ◌||◌, eqb, List, [], ◌∷◌, ◌++◌, refl, sym, ap, ◌∙◌, append_assoc, append-nil}
 use Rattle.std.specs.List.{AllByRecursion}
 use Rattle.std.proofs.lemmas.Bool.{or_from}
@@ -8,7 +8,7 @@ use Rattle.mm_lang.specs.Spelling.{SpellsList}
 use Rattle.mm_lang.specs.Tokens.{Token, has_hole, is_hole, is_word_byte, tokens}
 use Rattle.mm_lang.proofs.Lexing.{tokens_none}
 
--- Bytes end a token that stands before them: they begin with no byte of a word and with no quote.
+-- Bytes end the token before them: they begin with no byte of a word and with no quote.
 abbrev pub ends_token : List ℕ → Bool
 ends_token [] = true
 ends_token (b ∷ bs) = not (is_word_byte b || eqb b 39)
@@ -24,7 +24,7 @@ pub record Reads {A : Type 0} (Spells : List Token → A → Type 0) (text : Lis
   pub lexed : IsLexed text ts
   pub spelled : Spells ts x
 
--- The tokens of the text alone.
+-- The tokens of only the text.
 pub lexed_alone : {text : List ℕ} {ts : List Token} → IsLexed text ts → tokens text ≡ ts
 lexed_alone {text} {ts} is = ap tokens (sym (append-nil text)) ∙ is.front [] refl ∙ ap (λ l. ts ++ l) tokens_none ∙ append-nil ts
 

@@ -35,7 +35,7 @@ rows_printable columns [] one typed stored = tt
 rows_printable columns (r ∷ rs) one typed stored =
     ((some_values columns r one typed.0, stored.0), rows_printable columns rs one typed.1 stored.1)
 
--- What holds of the rows of all groups holds of those of each.
+-- A property of the rows of all groups holds for those of each.
 each_group : (P : Row → Type 0) (groups : Groups) → AllByRecursion P (flat_map (λ (group : List Row). group) groups)
     → AllByRecursion (λ (group : List Row). All P group) groups
 each_group P [] all = tt

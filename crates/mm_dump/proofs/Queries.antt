@@ -48,7 +48,7 @@ dot_front : (bs : List ℕ) → tokens (46 ∷ bs) ≡ Mark Dot ∷ tokens bs
 unfolding lexed
 dot_front bs = refl
 
--- a name behind a dot
+-- a name after a dot
 dotted : (n : List ℕ) → IsName n → IsLexed (46 ∷ n) (Mark Dot ∷ Word n ∷ [])
 dotted n named = record {
   front = λ rest end. dot_front (n ++ rest) ∙ ap (λ l. Mark Dot ∷ l) ((name_lexed n named).front rest end);
@@ -62,7 +62,7 @@ field_reads field named = record {
   spelled = (named.0, named.1, refl);
 }
 
--- a word behind a blank
+-- a word after a blank
 behind_blank : {text : List ℕ} {ts : List Token} → IsLexed text ts → IsLexed (32 ∷ text) ts
 behind_blank {text} is = record { front = λ rest end. blank_front (text ++ rest) ∙ is.front rest end; free = is.free }
 
@@ -154,7 +154,7 @@ operand_reads (operand.Shifted field (negsuc n)) printable =
 
 -- ---- tests
 
--- Bytes begin with no equals sign where they begin with a digit, ..
+-- Bytes begin with no equals sign if they begin with a digit, ..
 numeral_no_equal : (ds rest : List ℕ) → IsNumeral ds → begins_equal (ds ++ rest) ≡ false
 numeral_no_equal [] rest numeral = absurd (false≢true numeral)
 numeral_no_equal (d ∷ ds) rest numeral =
@@ -212,7 +212,7 @@ test_reads test printable =
     let right = operand_reads test.right printable.1 in
     let symbol = comparison_symbol test.comparison in
     let text = operand_text test.right in
-    -- what follows the field, where the tokens of what follows the symbol are known
+    -- the tokens after the field, if the tokens after the symbol are known
     let behind = λ (rest : List ℕ) (us : List Token) (is : tokens (text ++ rest) ≡ right.ts ++ us).
     ap tokens (append_assoc (symbol_text symbol) text rest) ∙ symbol_front test.comparison (text ++ rest) (no_equal test.right printable.1 rest)
     ∙ ap (λ l. Mark symbol ∷ l) is in
@@ -294,7 +294,7 @@ positions_read : (position : ℕ) (positions : List ℕ) → AllByRecursion (λ 
 positions_read position positions all =
     list_reads decimal (SpellsOne SpellsPosition) bare_comma position positions (AllByRecursion-weaker position_reads (position ∷ positions) all)
 
--- The tests and the positions of a query, which stand before the end of a line.
+-- The tests and the positions of a query, before the end of a line.
 record ReadsClauses (tests : List (Atom FieldName)) (positions : List ℕ) : Type 0 where
   asked : List Token
   order : List Token

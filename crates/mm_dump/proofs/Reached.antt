@@ -52,7 +52,7 @@ use Rattle.mm_dump.proofs.Creatable.{conditions_same, creatable_kept, creatable_
 
 -- ---- indexes
 
--- What each step keeps of the indexes of tables.
+-- Each step keeps these properties of the indexes of tables.
 record AreIndexed (tables : List Table) : Type 0 where
   in_place : All HasOwnIndexes tables
   distinct : has_duplicate_indexes (indexes_of tables) ≡ false
@@ -175,7 +175,7 @@ small_without gone (t ∷ ts) (r ∷ rs) small = by (same_name gone (name_of t))
     by false later = (small.0, later)
 
 module _ (name : List ℕ) (pairs : List Pair) where
-  -- A change of one table keeps all sizes where it keeps its own.
+  -- A change of one table keeps all sizes if it keeps its own.
   small_changed : (ts : List Table) (rows : Instance) → AreBeside ts rows → IsDistinct same_name (map name_of ts) → AreSmall rows
       → IsSmall (rows_named name ts (changed_instance ts (edits_of_one name pairs) rows)) → AreSmall (changed_instance ts (edits_of_one name pairs) rows)
   small_changed [] [] beside distinct small own = tt
@@ -255,7 +255,7 @@ small_after (Delete table tests) state due kept small =
 
 -- ---- every step
 
--- What each step keeps of a catalog and rows.
+-- Each step keeps these properties of a catalog and rows.
 record IsDumpable (schema : Schema) (rows : Instance) : Type 0 where
   kept : IsKept schema rows
   creatable : AreCreatable [] schema.tables
@@ -338,7 +338,7 @@ module _ (commands : List Command) where
   abbrev reached : State
   reached = after_all commands first_state
 
-  -- Where no row of it lacks its target, a state that commands lead to can be restored.
+  -- If no row lacks its target, a state that commands lead to can be restored.
   pub reached_restorable : ((name : List ℕ) → some_lacks_target name reached ≡ false) → AreRestorable reached.schema.tables reached.rows
   reached_restorable targets =
       let held : HoldsThroughout IsDumpable reached =

@@ -212,7 +212,7 @@ unless_ok : (fault : Option Refusal) (c : Command) → unless c fault ≡ Ok c �
 unless_ok None c e = refl
 unless_ok (Some refusal) c e = absurd (cc)
 
--- What is read is within its limits.
+-- The command that is read is within its limits.
 read_within : (o : Option Command) (c : Command) → read_as o ≡ Ok c → (o ≡ Some c) × (first_fault (literals_of c) ≡ None)
 read_within o c e =
     let is = read_some o c e in

@@ -30,7 +30,7 @@ use Rattle.mm_dump.proofs.Found.{AreDistinct}
 use Rattle.mm_dump.proofs.Indexing.{all_indexed}
 use Rattle.mm_dump.proofs.Loading.{loaded}
 
--- ---- what holds of tables that can be created
+-- ---- properties of tables that can be created
 
 none_distinct : AreDistinct []
 unfolding IsDistinct

@@ -213,7 +213,7 @@ module _ (state : State) (stored : AreStored state.rows) where
         let rows = coming (own_pairs (Update table assignments tests) state) in
         All-from_recursion AreStorable rows (rows_stored rows (recursion_from_All (λ (row : Row). AllByRecursion HasText row) rows texts) range)
 
-  -- What a change refuses by values that it computes is not due where nothing is.
+  -- If a change refuses nothing, it does not refuse a value that it computes.
   values_due : (mutation : Mutation) → first_refusal (change_conditions mutation state) ≡ None → first_refusal (value_conditions mutation state) ≡ None
   values_due mutation due =
       none_in_front (value_conditions mutation state)

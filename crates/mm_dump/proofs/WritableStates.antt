@@ -118,7 +118,7 @@ watched_left schema name (s ∷ ss) [] beside is = absurd beside
 
 -- ---- states
 
--- What each step keeps of a state that can be written.
+-- Each step keeps these properties of a state that can be written.
 record IsWritten (state : State) : Type 0 where
   tables : AreNamed state.schema.tables
   rows : AreStored state.rows

@@ -1,4 +1,4 @@
--- How rows are divided into INSERT lines: a row joins the open line, if it has room there, and begins a line otherwise.
+-- The division of rows into INSERT lines: a row joins the open line if it fits there, and begins a line otherwise.
 use Rattle.std.specs.Prelude.{ℕ, ◌+◌, ◌&&◌, Bool, if◌then◌else◌, List, [], ◌∷◌, ◌++◌, codes, length, min, nat_le, nat_lt}
 use Rattle.mm_value.specs.Written.{row_text}
 use Rattle.mm_value.specs.declared.values.Value.{Value}
@@ -13,7 +13,7 @@ table_of lines = lines.table
 abbrev pub used_bytes : InsertLines → ℕ
 used_bytes lines = lines.line
 
--- The open line has some bytes, 0 if no line is open, and the row has room in it.
+-- A line of this length is open (0 if no line is open), and the row fits into it.
 abbrev pub has_room : ℕ → List Value → Bool
 has_room used row = nat_lt 0 used && nat_le (used + length (row_text row) + 2) 4096
 
@@ -21,25 +21,25 @@ has_room used row = nat_lt 0 used && nat_le (used + length (row_text row) + 2) 4
 abbrev pub line_end : ℕ → List ℕ
 line_end used = if nat_lt 0 used then 10 ∷ [] else []
 
--- What is written of a row after some bytes of an open line.
+-- The text of a row that is added to an open line of this length.
 abbrev pub put_text : List ℕ → ℕ → List Value → List ℕ
 put_text table used row = if has_room used row then codes ", " ++ row_text row else line_end used ++ insert_text table (row ∷ [])
 
--- How many bytes the open line has then; a line that is longer than 4,096 bytes counts as 4,097.
+-- The length of the open line after that; a line that is longer than 4,096 bytes counts as 4,097.
 abbrev pub used_after : List ℕ → ℕ → List Value → ℕ
 used_after table used row =
     if has_room used row then used + length (row_text row) + 2 else min (length (insert_text table (row ∷ []))) 4097
 
--- What is written of rows, one after another.
+-- The text of rows that are added one after another.
 abbrev pub rows_put : List ℕ → ℕ → List (List Value) → List ℕ
 rows_put table used [] = []
 rows_put table used (row ∷ rows) = put_text table used row ++ rows_put table (used_after table used row) rows
 
--- How many bytes the open line has after rows.
+-- The length of the open line after rows.
 abbrev pub used_after_rows : List ℕ → ℕ → List (List Value) → ℕ
 used_after_rows table used [] = used
 used_after_rows table used (row ∷ rows) = used_after_rows table (used_after table used row) rows
 
--- What is written of all rows of a table, to the end of the last line.
+-- The text of all rows of a table, to the end of the last line.
 abbrev pub put_texts : List ℕ → List (List Value) → List ℕ
 put_texts table rows = rows_put table 0 rows ++ line_end (used_after_rows table 0 rows)

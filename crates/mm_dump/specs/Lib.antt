@@ -2,5 +2,8 @@ pub mod DumpText
 pub mod Dumps
 pub mod Entries
 pub mod Inserts
+pub mod Parts
+pub mod Places
+pub mod RowLines
 pub mod Texts
 pub mod Writable

@@ -1,4 +1,4 @@
--- How the rows and the standing queries of a dump are written.
+-- The text of the rows and the standing queries of a dump.
 use Rattle.std.specs.Prelude.{ℕ, List, ◌∷◌, ◌++◌, codes}
 use Rattle.mm_value.specs.Written.{row_text}
 use Rattle.mm_value.specs.declared.values.Value.{Value}

@@ -12,8 +12,8 @@ use Rattle.mm_dump.specs.Dumps.{IsPrintableState, watch_entries}
 use Rattle.mm_dump.specs.Entries.{FitsLine, IsPrintable}
 use Rattle.mm_dump.specs.Entries as entry
 
--- What a command adds to a state can be written: the names of a new table, index or standing query are names, a table has exactly one
--- key, the WATCH of a standing query fits a line, and the literals of a change of rows can be stored.
+-- The names and values that a command adds to a state can be written: the names of a new table, index or standing query are names, a table
+-- has exactly one key, the WATCH of a standing query fits a line, and the literals of a change of rows can be stored.
 abbrev pub IsWritable : Command → Type 0
 IsWritable (Define (define.Table definition)) = IsPrintable (entry.Table definition)
 IsWritable (Define (define.Index index)) = IsPrintable (entry.Index index)

@@ -5,7 +5,7 @@ ghost use Rattle.mm_value.specs.Literal.{quoted};
 ghost use Rattle.mm_value.specs.Views.{value_of};
 ghost use Rattle.mm_value.specs.Watched.{has_failed};
 ghost use Rattle.mm_value.specs.Written.{row_text, value_text};
-ghost use Rattle.mm_dump.specs.Inserts.{line_end, put_text, table_of, used_after, used_bytes};
+ghost use Rattle.mm_dump.specs.Inserts.{has_room, line_end, put_text, table_of, used_after, used_bytes};
 ghost use Rattle.mm_dump.specs.Texts.{insert_text};
 
 use crate::open_line::{MAX_COUNTED_BYTES, OpenLine};
@@ -15,7 +15,7 @@ use mm_schema::{Name, NameRef};
 use mm_value::{AsRow, ValueRef, Watched, WriteError, put_all};
 use std::io::Write;
 
-/// The INSERT lines of the rows of one table. Several rows are in one line if it has at most 4,096 bytes. It keeps no row.
+/// The INSERT lines of the rows of one table. Several rows share a line if it has at most 4,096 bytes. The writer keeps no row.
 #[derive(Drop)]
 pub struct InsertLines<'t> {
     table: NameRef<'t>,
@@ -23,7 +23,7 @@ pub struct InsertLines<'t> {
 }
 
 impl<'t> InsertLines<'t> {
-    /// No lines yet.
+    /// Returns a writer with no open line.
     pub fn new(table: &'t Name) -> InsertLines<'t>
         ensures table { table_of result ≡ table.now }
         ensures used { used_bytes result ≡ 0 }
@@ -34,7 +34,7 @@ impl<'t> InsertLines<'t> {
         }
     }
 
-    /// Writes a row: after a comma in the open line if it has room there, and otherwise in a new line. Allocates nothing. After
+    /// Writes a row: after a comma in the open line if the row fits there, and otherwise in a new line. Allocates nothing. After
     /// `WriteError` the writer has failed, and a prefix of this was written.
     pub fn add_row<R: AsRow, W: Write>(
         &mut self,
@@ -54,6 +54,13 @@ impl<'t> InsertLines<'t> {
         }
     }
 
+    /// Returns whether a line is open and the row fits into it.
+    pub fn has_room<R: AsRow>(&self, row: &R) -> bool
+        ensures { result ≡ has_room (used_bytes self.now) (R.AsRow.row row.now) }
+    {
+        self.line.has_room(row_len(row))
+    }
+
     /// Writes the end of the open line, if a line is open. Allocates nothing. After `WriteError` the writer has failed.
     pub fn finish<W: Write>(self, writer: &mut Watched<W>) -> Result<(), WriteError>
         requires { has_failed writer.old ≡ false }
@@ -62,7 +69,7 @@ impl<'t> InsertLines<'t> {
         write_line_end(&self.line, writer)
     }
 
-    // Writes a row of so many bytes in the open line.
+    // Writes a row of `len` bytes in the open line.
     fn join_line<R: AsRow, W: Write>(
         &mut self,
         row: &R,
@@ -80,7 +87,7 @@ impl<'t> InsertLines<'t> {
         Ok(())
     }
 
-    // Ends the open line, and writes a row of so many bytes in a new one.
+    // Ends the open line, and writes a row of `len` bytes in a new one.
     fn begin_line<R: AsRow, W: Write>(
         &mut self,
         row: &R,
@@ -135,7 +142,7 @@ fn write_insert<R: AsRow, W: Write>(
     write_row(row, writer)
 }
 
-// The number of bytes of a row, or 4,097 if it has more.
+// Returns the number of bytes of a row, or 4,097 if it has more.
 fn row_len<R: AsRow>(row: &R) -> usize
     ensures { result ≡ min (length (row_text (R.AsRow.row row.now))) 4097 }
 {
@@ -149,7 +156,7 @@ fn row_len<R: AsRow>(row: &R) -> usize
     len
 }
 
-// The number of bytes of a value.
+// Returns the number of bytes of a value.
 fn value_len(value: ValueRef<'_>) -> usize
     ensures len { result ≡ length (value_text (value_of value.entry)) }
     ensures bound { result ≤ 130 }
@@ -163,7 +170,7 @@ fn value_len(value: ValueRef<'_>) -> usize
     }
 }
 
-// The number of bytes of a text in quotes, each quote in it doubled.
+// Returns the number of bytes of a text in quotes, with each quote in it doubled.
 #[tactic(auto, using(crate::proofs::Lengths::length_of_quoted, crate::proofs::Lengths::quoted_bound))]
 fn quoted_len(bytes: &[u8]) -> usize
     requires { length bytes.now ≤ 64 }

@@ -6,7 +6,7 @@ ghost use Rattle.mm_schema.specs.declared.index.IndexDef.{IndexDef};
 ghost use Rattle.mm_schema.specs.declared.table.TableDef.{TableDef};
 ghost use Rattle.mm_query.specs.Machine.{after_all, step};
 ghost use Rattle.mm_query.specs.Resolving.{exceeds_query_limits};
-ghost use Rattle.mm_query.specs.State.{first_state};
+ghost use Rattle.mm_query.specs.State.{State, first_state};
 ghost use Rattle.mm_query.specs.declared.command.Command.{Command};
 ghost use Rattle.mm_query.specs.declared.command.Command.TheVariants.{Define};
 ghost use Rattle.mm_query.specs.declared.command.Definition.TheVariants.{Watch as Create};
@@ -18,8 +18,10 @@ ghost use Rattle.mm_dump.specs.DumpText.{dump_text};
 ghost use Rattle.mm_dump.specs.Dumps.{AreGroups, FitsIfMany, Groups, IsDump, IsPrintableState, after_lines, script_of};
 ghost use Rattle.mm_dump.specs.Entries.{Entry, FitsLine, HasShortAliases, Index, IsPrintable, Rows, Table, Watch, entry_command, entry_text};
 ghost use Rattle.mm_dump.specs.Inserts.{put_texts};
+ghost use Rattle.mm_dump.specs.Places.{ArePieces, dump_rest, dump_start};
 ghost use Rattle.mm_dump.specs.Texts.{insert_text, watch_text};
 ghost use Rattle.mm_dump.specs.Writable.{IsWritable, IsWritableState};
+ghost use Rattle.mm_dump.specs.declared.place.DumpPlace.{DumpPlace as Place};
 
 use mm_lang::definitions_are_listed_as_written;
 use mm_laws::rows_keep_their_targets;
@@ -31,9 +33,8 @@ pub fn entries_read_as_commands()
     definitions_are_listed_as_written();
 }
 
-/// A dump restores. From each state that commands lead to, the commands of its dump lead from the first state to the same state, outside
-/// a transaction: to the same tables with their indexes, the same rows, and the same standing queries. Rows may be divided
-/// into any groups.
+/// A dump restores. From each state that commands lead to, the commands of its dump lead from the first state to the same state, outside a
+/// transaction: to the same tables with their indexes, the same rows, and the same standing queries. Rows may be divided into any groups.
 pub fn dumps_restore()
     ensures { (commands : List Command) (entries : List Entry) → let state = after_all commands first_state in
         IsDump state entries → after_all (map entry_command entries) first_state ≡ record state { saved = None } }
@@ -81,8 +82,8 @@ pub fn printable_states_have_printable_dumps()
     rows_keep_their_targets();
 }
 
-/// Rows that are put one after another are the INSERT lines of groups of these rows. Each line of several rows has at most 4,096 bytes,
-/// and so has each line of one row, if each row alone fits a line.
+/// Rows that are put one after another are the INSERT lines of groups of these rows. Each line of several rows has at most 4,096 bytes. So
+/// has each line of one row, if each row alone fits a line.
 pub fn rows_are_put_in_lines()
     ensures groups { (table : List ℕ) (rows : List (List Val)) → (groups : Groups) × AreGroups rows groups × All (FitsIfMany table) groups
         × (put_texts table rows ≡ flat_map (λ (group : List (List Val)). insert_text table group ++ 10 ∷ []) groups) }
@@ -102,7 +103,8 @@ pub fn lines_read_as_writable_commands()
     ensures templates { (line : List ℕ) (command : Command) → template_of line ≡ Ok command → IsWritable command }
 {}
 
-/// Commands that can be written lead to states that can be written. So do they after any other commands, from a state that can be written.
+/// Commands that can be written lead to states that can be written, from the first state, and after any other commands from a state that
+/// can be written.
 pub fn writable_commands_lead_to_writable_states()
     ensures first { IsWritableState first_state }
     ensures step { (commands : List Command) (command : Command) → let state = after_all commands first_state in
@@ -110,7 +112,7 @@ pub fn writable_commands_lead_to_writable_states()
     ensures all { (commands : List Command) → All IsWritable commands → IsWritableState (after_all commands first_state) }
 {}
 
-/// The bytes of `write_dump` are those of a dump. All its entries are printable and fit lines, if the state can be written.
+/// The bytes of `dump_text` are those of a dump. All its entries are printable and fit lines, if the state can be written.
 pub fn written_bytes_are_a_dump()
     ensures { (commands : List Command) → let state = after_all commands first_state in
         (entries : List Entry) × IsDump state entries × (dump_text state ≡ script_of entries)
@@ -119,8 +121,8 @@ pub fn written_bytes_are_a_dump()
     rows_keep_their_targets();
 }
 
-/// The bytes of `write_dump`, as the input of the empty database where no allocation fails, lead to the dumped state, outside a
-/// transaction, if the state can be written. So they do for each state to which lines lead.
+/// The bytes of `dump_text`, as the input of the empty database where no allocation fails, lead to the dumped state, outside a transaction,
+/// if the state can be written or lines lead to it.
 pub fn written_dumps_restore()
     ensures state { (commands : List Command) → let state = after_all commands first_state in
         IsWritableState state → after_lines (lines_of (dump_text state)) first_state ≡ record state { saved = None } }
@@ -131,4 +133,23 @@ pub fn written_dumps_restore()
     lines_read_as_writable_commands();
     writable_commands_lead_to_writable_states();
     dumped_scripts_restore();
+}
+
+/// From the start of a dump on, all of `dump_text` remains. Pieces that lead, one after another, from the start to a place where nothing
+/// remains are `dump_text`.
+pub fn pieces_are_the_dump()
+    ensures start { (state : State) → dump_rest state dump_start ≡ dump_text state }
+    ensures pieces { (state : State) (pieces : List (List ℕ)) (place : Place) → ArePieces state pieces dump_start place → dump_rest state place ≡ []
+        → flat_map (λ (piece : List ℕ). piece) pieces ≡ dump_text state }
+{}
+
+/// Pieces that lead, one after another, from the start of a dump to a place where nothing remains restore: as the input of the empty
+/// database where no allocation fails, they lead to the dumped state, outside a transaction, if lines lead to it.
+pub fn pieces_restore()
+    ensures { (lines pieces : List (List ℕ)) (place : Place) → let state = after_lines lines first_state in
+        ArePieces state pieces dump_start place → dump_rest state place ≡ []
+        → after_lines (lines_of (flat_map (λ (piece : List ℕ). piece) pieces)) first_state ≡ record state { saved = None } }
+{
+    pieces_are_the_dump();
+    written_dumps_restore();
 }

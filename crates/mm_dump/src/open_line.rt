@@ -4,7 +4,7 @@ ghost use Rattle.std.specs.Prelude.{◌≡◌, ◌≤◌, ◌+◌, ◌&&◌, nat
 use mm_lang::MAX_LINE_BYTES;
 use std::marker::Model;
 
-/// The most bytes that are counted: one more than a line has.
+/// The greatest length that is counted: one byte more than a line has.
 pub(crate) const MAX_COUNTED_BYTES: usize = MAX_LINE_BYTES + 1;
 
 /// The number of bytes of the open line: 0 if no line is open, and 4,097 if the line is longer than 4,096 bytes.
@@ -24,7 +24,7 @@ impl Model for OpenLine {
 }
 
 impl OpenLine {
-    /// A line of so many bytes.
+    /// Returns a line of `used` bytes.
     pub(crate) fn of(used: usize) -> OpenLine
         requires { used ≤ 4097 }
         ensures { result ≡ used }
@@ -32,14 +32,14 @@ impl OpenLine {
         OpenLine { used }
     }
 
-    /// Whether a line is open.
+    /// Returns whether a line is open.
     pub(crate) fn is_open(&self) -> bool
         ensures { result ≡ nat_lt 0 self.now }
     {
         self.used > 0
     }
 
-    /// Whether a row of so many bytes has room in the line, after a comma and a space.
+    /// Returns whether a row of `len` bytes fits into the line, after a comma and a space.
     pub(crate) fn has_room(&self, len: usize) -> bool
         requires { len ≤ 4097 }
         ensures { result ≡ (nat_lt 0 self.now && nat_le (self.now + len + 2) 4096) }
@@ -47,7 +47,7 @@ impl OpenLine {
         self.used > 0 && self.used + len + 2 <= MAX_LINE_BYTES
     }
 
-    /// Counts a row of so many bytes, with a comma and a space before it.
+    /// Counts a row of `len` bytes, with a comma and a space before it.
     pub(crate) fn count_row(&mut self, len: usize)
         requires { self.old + len + 2 ≤ 4096 }
         ensures { self.new ≡ self.old + len + 2 }

@@ -1,4 +1,4 @@
--- How many entries name a place, after an entry is written or entries come behind the others.
+-- The number of entries that refer to a slot, after an entry is written or entries are appended.
 use Rattle.std.proofs.Common.{◌≡◌, ◌≢◌, ℕ, zero, suc, ◌+◌, ◌-◌, ◌<◌, ◌≤◌, ◌^◌, List, [], ◌∷◌, ◌++◌, length, Option, Some, None, cond, get_or, set, replicate}
 use Rattle.std.proofs.Common.{refl, sym, ap, ◌∙◌, ⊎_elim, arith, length-set}
 use Rattle.std.specs.Prelude.{count_by, sum_by}
@@ -8,7 +8,7 @@ use Rattle.std.proofs.lemmas.List.Sums.{sum_by-set, sum_by-cons, sum_by-append, 
 use Rattle.mm_value.specs.declared.row_ref.RowRef.{RowRef}
 use Rattle.mm_foreign_key.specs.Counts.{refers_to, IsCounted}
 
--- what an entry adds to the count of a place
+-- the part of a slot's count from an entry
 weight : ℕ → Option RowRef → ℕ
 weight place entry = cond (refers_to place entry) 1 0
 
@@ -24,12 +24,12 @@ weight-other : (place : ℕ) (target : RowRef) → target.slot ≢ place → wei
 unfolding weight
 weight-other place target other = cond-false _ _ _ (ne_eqb target.slot place other)
 
--- a count is a sum of what the entries add
+-- a count is the sum of the parts from the entries
 count_by-weight : (place : ℕ) (targets : List (Option RowRef)) → count_by (refers_to place) targets ≡ sum_by (weight place) targets
 unfolding weight
 count_by-weight place targets = refl
 
--- a place that is counted is named by an entry
+-- an entry refers to a slot whose count is not 0
 named_by : (place : ℕ) (targets : List (Option RowRef)) → 0 < sum_by (weight place) targets
     → (i : ℕ) × (get_or targets i None ≡ Some (record { slot = place }))
 named_by place [] some = absurd (omega arith)
@@ -46,7 +46,7 @@ pub entry_from_count : (place : ℕ) (targets : List (Option RowRef)) → 0 < co
     → (i : ℕ) × (get_or targets i None ≡ Some (record { slot = place }))
 entry_from_count place targets some = named_by place targets (omega (arith, count_by-weight place targets))
 
--- an entry is one of the list
+-- the entry exists
 pub entry_within : (targets : List (Option RowRef)) (i : ℕ) (to : RowRef) → get_or targets i None ≡ Some to → i < length targets
 entry_within targets i to is =
     ⊎_elim
@@ -54,7 +54,7 @@ entry_within targets i to is =
     (λ (h : length targets ≤ i). let both : None ≡ Some to = sym (get_or_past targets i None h) ∙ is in cc)
     (cases_lt i (length targets))
 
--- a row that an entry names is counted
+-- a row that an entry refers to is counted
 pub count_from_entry : (targets : List (Option RowRef)) (i : ℕ) (to : RowRef) → get_or targets i None ≡ Some to → 0 < count_by (refers_to to.slot) targets
 count_from_entry targets i to is =
     omega (
@@ -65,7 +65,7 @@ count_from_entry targets i to is =
       weight-same to.slot to refl,
     )
 
--- a row that an entry names has a count, which isn't 0
+-- a row that an entry refers to has a count, which is not 0
 pub count_within : (targets : List (Option RowRef)) (counts : List ℕ) (i : ℕ) (to : RowRef) → IsCounted targets counts → get_or targets i None ≡ Some to
     → to.slot < length counts
 count_within targets counts i to counted is =
@@ -87,7 +87,7 @@ after_set place i targets was now within is =
       ap (weight place) is,
     )
 
--- a count goes up where an entry names a place more
+-- a count that grows by one more entry still fits 32 bits
 pub count_fits : (targets : List (Option RowRef)) (counts : List ℕ) (i : ℕ) (to : RowRef) → i < length targets → get_or targets i None ≡ None
     → IsCounted targets counts → get_or counts to.slot 0 + 1 < 2 ^ 32
 count_fits targets counts i to within free counted =
@@ -151,7 +151,7 @@ at_replicate zero i d = refl
 at_replicate (suc more) zero d = refl
 at_replicate (suc more) (suc i) d = at_replicate more i d
 
--- what comes behind a list is what is read past its end
+-- reading past the end of a list gives the value that was appended
 pub get_or-grown : {A : Type 0} (xs : List A) (more i : ℕ) (d : A) → get_or (xs ++ replicate more d) i d ≡ get_or xs i d
 get_or-grown xs more i d =
     ⊎_elim
@@ -164,7 +164,7 @@ none_weigh : (place more : ℕ) → sum_by (weight place) (replicate more None) 
 none_weigh place zero = refl
 none_weigh place (suc more) = omega (arith, sum_by-cons (weight place) None (replicate more None), weight-none place, none_weigh place more)
 
--- entries that name nothing come behind the others, and so do counts of 0
+-- appending entries without a target, and counts of 0, keeps the invariant
 pub IsCounted-grown : (targets : List (Option RowRef)) (counts : List ℕ) (more_targets more_counts : ℕ) → length targets + more_targets < 2 ^ 32
     → length counts + more_counts < 2 ^ 32 → IsCounted targets counts
     → IsCounted (targets ++ replicate more_targets None) (counts ++ replicate more_counts 0)

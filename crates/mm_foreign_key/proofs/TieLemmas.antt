@@ -1,4 +1,4 @@
--- Which row a row refers to, read from the entries.
+-- The row that a row refers to, read from the entries.
 use Rattle.std.proofs.Common.{◌≡◌, ℕ, ◌<◌, List, ◌++◌, length, Option, Some, None, get_or, set, replicate, sym, ap, ◌∙◌, arith}
 use Rattle.std.specs.Prelude.{count_by}
 use Rattle.std.proofs.lemmas.List.{get_or-set_other, get_or-set_same}
@@ -8,12 +8,12 @@ use Rattle.mm_foreign_key.specs.Ties.{Ties, target_at, HasTarget, IsReferred, Ke
 use Rattle.mm_foreign_key.proofs.CountLemmas.{entry_within, entry_from_count, count_from_entry, get_or-grown}
 use Rattle.mm_foreign_key.proofs.EntryLemmas.{as_many_entries, entry_at, slot_of_entry}
 
--- the entry of a row is what it refers to
+-- the entry of a row is its target
 pub entry_is : (ties : Ties) (targets : List (Option RowRef)) (from : RowRef) → targets ≡ ties.targets
     → get_or targets from.slot None ≡ target_at ties from
 entry_is ties targets from view = ap (λ (xs : List (Option RowRef)). get_or xs from.slot None) view
 
--- a row is referred to where its slot is counted
+-- a row whose slot is counted is referenced
 pub IsReferred-from_count : (ties : Ties) (targets : List (Option RowRef)) (to : RowRef) → targets ≡ ties.targets
     → 0 < count_by (refers_to to.slot) targets → IsReferred ties to
 IsReferred-from_count ties targets to view some =
@@ -24,7 +24,7 @@ pub count-from_IsReferred : (ties : Ties) (targets : List (Option RowRef)) (to :
     → 0 < count_by (refers_to to.slot) targets
 count-from_IsReferred ties targets to view (from, is) = count_from_entry targets from.slot to (entry_is ties targets from view ∙ is)
 
--- no entry is written, and none that names a row comes behind the others
+-- no entry is written, and entries without a target are appended
 pub KeepsTargets-grown : (old : Ties) (targets grown : List (Option RowRef)) (more : ℕ) → targets ≡ old.targets
     → grown ≡ targets ++ replicate more None → KeepsTargets old (record { targets = grown; extent = old.extent })
 KeepsTargets-grown old targets grown more view is from =
@@ -42,12 +42,12 @@ ChangesTarget-set old new targets from target view written within = record {
       ∙ entry_is old targets other view);
 }
 
--- the number that is kept for a row is the slot of the row that it refers to
+-- the stored number of a row is the slot of its target
 pub record IsTied (numbers : List ℕ) (from : RowRef) (number : ℕ) : Type 0 where
   pub within : from.slot < length numbers
   pub entry : get_or (entries_of numbers) from.slot None ≡ Some (record { slot = number })
 
--- such is the number that is read for a row which refers to some row
+-- the number that is read for a row with a target is such a number
 pub IsTied-read : (ties : Ties) (numbers : List ℕ) (from : RowRef) (number d : ℕ) → entries_of numbers ≡ ties.targets → HasTarget ties from
     → number ≡ get_or numbers from.slot d → IsTied numbers from number
 IsTied-read ties numbers from number d view (to, is) read =

@@ -1,4 +1,4 @@
-//! The tuple references of one foreign key.
+//! The tuple pointers of one foreign key.
 ghost use Rattle.std.specs.Prelude.{◌≡◌, ◌+◌, ◌<◌, ◌≤◌, ◌↔◌, ◌^◌, ◌++◌, ℕ, max, Some, None, length, vec_len, vec_capacity, replicate, IsTrue, IsOk, OnOk, OnErr};
 ghost use Rattle.mm_foreign_key.specs.declared.foreign_key.TheConstants.{MAX_SLOTS};
 ghost use Rattle.mm_foreign_key.specs.Ties.{target_at, HasTarget, IsReferred, KeepsTargets, ChangesTarget};
@@ -9,22 +9,20 @@ use std::alloc::{AllocError, Global};
 use std::marker::Model;
 use std::mem;
 
-/// The most slots of either table: an index and a count have 32 bits.
+/// The maximum number of slots of either table: an index and a count have 32 bits.
 const MAX_SLOTS: usize = u32::MAX as usize;
 
-/// The tuple references of one foreign key: which row of the target table each row of the referring
-/// table refers to (tuple pointers in place of values, Lehman and Carey, SIGMOD 1986). To follow a
-/// reference needs no search, and neither does the question whether a row is referred to: beside the
-/// rows of the target table stands how many refer to each.
+/// The tuple pointers of one foreign key: for each row of the referring table, the row of the target table that it refers to (Lehman and
+/// Carey, SIGMOD 1986). Following a reference needs no search. Testing whether a row is referenced needs none either, since the number of
+/// rows that refer to each target is stored.
 ///
-/// It knows a row by its reference alone, and has an entry for each slot of the referring table and a count
-/// for each of the target table, at most 2^32 - 1 of either. No call but `reserve` takes memory, and each of
-/// the others takes the same time however many rows there are.
+/// A row is known by its reference only. There is an entry for each slot of the referring table and a count for each slot of the target
+/// table, at most 2^32 - 1 of either. Only `reserve` allocates, and the time of every other call does not depend on the number of rows.
 #[derive(Drop)]
 pub struct ForeignKey {
-    /// By the slot index of a row, the slot index of the row that it refers to, `NONE` where it refers to none.
+    /// For each slot of the referring table, the slot index of its row's target, or `NONE`.
     targets: Vec<u32>,
-    /// By the slot index of a row, how many rows refer to it.
+    /// For each slot of the target table, the number of rows that refer to its row.
     counts: Vec<u32>,
 }
 
@@ -44,8 +42,8 @@ impl Model for ForeignKey {
     ghost invariant = { λ key. IsCounted (entries_of key.targets.items) key.counts.items };
 }
 
-/// Makes room so that there can be `len` items. The items stay; `AllocError` where memory is refused, or
-/// where that is more than there are now and more than slots can be.
+/// Reserves capacity for `len` items in total. Fails with `AllocError` if an allocation fails, or if `len` exceeds both the number of items
+/// and the maximum number of slots. The items are unchanged in any case.
 fn reserve_to<T>(items: &mut Vec<T>, len: usize) -> Result<(), AllocError>
     ensures room { OnOk result (len ≤ vec_capacity items.new) }
     ensures limit { OnOk result (len ≤ max (vec_len items.old) MAX_SLOTS) }
@@ -59,7 +57,7 @@ fn reserve_to<T>(items: &mut Vec<T>, len: usize) -> Result<(), AllocError>
     items.reserve(more)
 }
 
-/// Appends copies of a value until there are `len` items, where there are fewer, in room that is there.
+/// Appends copies of a value until there are at least `len` items. Requires the capacity.
 fn fill_to<T: Copy>(items: &mut Vec<T>, len: usize, value: T)
     requires { len ≤ vec_capacity items.old }
     ensures len { vec_len items.new ≡ max (vec_len items.old) len }
@@ -71,7 +69,7 @@ fn fill_to<T: Copy>(items: &mut Vec<T>, len: usize, value: T)
 }
 
 impl ForeignKey {
-    /// No row refers to any, and there are entries for no rows. It takes no memory.
+    /// Returns a foreign key without references and entries. Allocates nothing.
     pub fn new(alloc: Global) -> Self
         ensures targets { (from : RowRef) → target_at result from ≡ None }
         ensures referrers { length result.targets ≡ 0 }
@@ -83,10 +81,9 @@ impl ForeignKey {
         }
     }
 
-    /// Makes entries for all referring rows whose slot index is below `referrers`, and counts for all
-    /// targets whose slot index is below `targets`. `AllocError` where memory is refused or where either
-    /// number is above 2^32 - 1, and then all is as before. Every row refers to what it did, and no entry
-    /// goes. It looks at no entry that was there, but for those that the allocator moves.
+    /// Creates entries for all referring rows whose slot index is below `referrers`, and counts for all targets whose slot index is below
+    /// `targets`. Fails with `AllocError` if an allocation fails, or if a number exceeds 2^32 - 1; then nothing changes. No reference
+    /// changes, and no entry is removed. Existing entries are not visited, except when the allocator moves them.
     pub fn reserve(
         &mut self,
         _alloc: Global,
@@ -108,7 +105,7 @@ impl ForeignKey {
         Ok(())
     }
 
-    /// The row that a row refers to, if it refers to one.
+    /// Returns the row that a row refers to, or `None` if it refers to none.
     pub fn target(&self, from: RowRef) -> Option<RowRef>
         ensures { result ≡ target_at self.now from }
     {
@@ -119,7 +116,7 @@ impl ForeignKey {
         reference_to(self.targets[index])
     }
 
-    /// Whether some row refers to a row.
+    /// Returns whether some row refers to a row.
     pub fn is_referred(&self, to: RowRef) -> bool
         ensures { IsTrue result ↔ IsReferred self.now to }
     {
@@ -127,8 +124,7 @@ impl ForeignKey {
         index < self.counts.len() && self.counts[index] > 0
     }
 
-    /// Has a row refer to a row, where it referred to none. There is an entry for the one and a count for
-    /// the other.
+    /// Sets the target of a row without one. Requires an entry for the row and a count for the target.
     pub fn tie(&mut self, from: RowRef, to: RowRef)
         requires from_within { from.slot < length self.old.targets }
         requires to_within { to.slot < self.old.extent }
@@ -141,7 +137,7 @@ impl ForeignKey {
         self.targets[from.slot as usize] = to.slot;
     }
 
-    /// Has a row refer to none, where it referred to one.
+    /// Removes the target of a row, which must have one.
     pub fn untie(&mut self, from: RowRef)
         requires { HasTarget self.old from }
         ensures untied { ChangesTarget self.old self.new from None }

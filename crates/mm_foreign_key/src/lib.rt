@@ -1,6 +1,6 @@
-//! The tuple references of one foreign key: which row each row refers to, and whether any refers to a row.
+//! The tuple pointers of one foreign key: the row that each row refers to, and whether some row refers to a row.
 //!
-//! A call that may take memory is handed the allocator; no other call takes any.
+//! Every public function that may allocate has a parameter for the allocator.
 #![tactic(auto)]
 
 mod foreign_key;

@@ -1,4 +1,4 @@
--- Where no two rows have one key, the order of references is that of their rows.
+-- If no two rows have one key, the order of references is that of their rows.
 use Rattle.std.proofs.Common.{◌≡◌, ◌≢◌, ℕ, List, get_or, ap, ◌∙◌, arith}
 use Rattle.std.specs.List.{All, AllPairs}
 use Rattle.std.specs.Ordering.{nat_cmp, ordering_then}
@@ -32,7 +32,7 @@ module _ (column key : ℕ) (now : Slots) (refs : List RowRef) where
       by_rows (column_cmp column (row_at now a) (row_at now b)) (column_cmp key (row_at now a) (row_at now b)) (nat_cmp a.slot b.slot)
       (ordered.ascending i j d before within) (apart i j d before within)
 
-  -- .. and the other way round
+  -- .. and the converse
   pub InOrder-from_rows : All (IsWide column key now) refs → AllPairs (λ a b. rows_by column key (row_at now a) (row_at now b) ≡ Less) refs
       → InOrder column key now refs
   InOrder-from_rows wide strict = record {

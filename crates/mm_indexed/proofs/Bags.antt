@@ -1,4 +1,4 @@
--- Lists that are bags: one more element on both sides may be left out.
+-- Multisets: one more element on both sides can be left out.
 use Rattle.std.proofs.Common.{◌≡◌, ℕ, ◌+◌, ◌≤◌, List, [], ◌∷◌, Bool, true, false, cond, refl, sym, ap, ◌∙◌, subst, zero-add, arith}
 use Rattle.std.specs.Prelude.{sum_by, IsPermutation}
 use Rattle.std.specs.List.{Contains, remove, filter}
@@ -21,12 +21,12 @@ module _ {X : Type 0} (same : X → X → Bool) (told : (a b : X) → same a b �
   found x y ys true is some rest = here x y ys (sym (told x y is))
   found x y ys false is some rest = Contains-append_right (y ∷ []) ys x (rest (omega arith))
 
-  -- what is counted is there
+  -- a counted element is in the list
   counted : (x : X) (ys : List X) → 1 ≤ count x ys → Contains ys x
   counted x [] some = absurd (omega arith)
   counted x (y ∷ ys) some = found x y ys (same x y) refl (omega (arith, sum_by-cons (one x) y ys)) (counted x ys)
 
-  -- lists that count alike are one bag
+  -- lists with equal counts are permutations of each other
   pub IsPermutation-from_counts : (xs ys : List X) → ((x : X) → count x xs ≡ count x ys) → IsPermutation xs ys
   IsPermutation-from_counts [] [] alike = IsPermutation-refl []
   IsPermutation-from_counts [] (y ∷ ys) alike =
@@ -48,13 +48,13 @@ module _ {X : Type 0} (same : X → X → Bool) (told : (a b : X) → same a b �
       )) in
       IsPermutation-trans (x ∷ xs) (x ∷ remove ys at) ys (IsPermutation-cons x xs (remove ys at) rest) (IsPermutation-sym ys (x ∷ remove ys at) moved)
 
-  -- without the same element on both sides two bags are one still
+  -- without the same element on both sides, two multisets are still equal
   pub IsPermutation-uncons : (x : X) (xs ys : List X) → IsPermutation (x ∷ xs) (x ∷ ys) → IsPermutation xs ys
   IsPermutation-uncons x xs ys moved =
       IsPermutation-from_counts xs ys
       (λ z. omega (arith, sum_by-IsPermutation (one z) (x ∷ xs) (x ∷ ys) moved, sum_by-cons (one z) x xs, sum_by-cons (one z) x ys))
 
--- the sum over what passes a test
+-- the sum over the elements that pass a test
 module _ {X : Type 0} (f : X → ℕ) (p : X → Bool) where
   abbrev tested : X → ℕ
   tested x = cond (p x) (f x) 0
@@ -68,7 +68,7 @@ module _ {X : Type 0} (f : X → ℕ) (p : X → Bool) where
   sum_by-passing (x ∷ xs) =
       sum_step (p x) x (filter p xs) (sum_by tested xs) (sum_by-passing xs) ∙ sym (sum_by-cons tested x xs)
 
--- what passes a test of one bag is what passes it of another that is the same
+-- equal multisets, filtered by one test, are equal
 pub IsPermutation-filter : {X : Type 0} (same : X → X → Bool) (told : (a b : X) → same a b ≡ true → a ≡ b)
     (itself : (a : X) → same a a ≡ true) (p : X → Bool) (xs ys : List X) → IsPermutation xs ys
     → IsPermutation (filter p xs) (filter p ys)

@@ -47,7 +47,7 @@ distinct key now refs ordered i j d before within same =
     less_than_itself (refs_by key key now a a) ((refs_by_total key key now).antisymm a a)
     (ap (refs_by key key now a) same ∙ ordered.ascending i j d before within)
 
--- a table with one index more
+-- a table with one more index
 pub IsKept-added : (types : List ColType) (key : ℕ) (now : Slots) (refs : List RowRef) (indexes : List Index) (x : Index)
     → IsKept types key now refs indexes → column_of x < length types → Keeps key now refs x → IsKept types key now refs (indexes ++ x ∷ [])
 IsKept-added types key now refs indexes x was within keeps = record {
@@ -60,7 +60,7 @@ IsKept-added types key now refs indexes x was within keeps = record {
   keep = All-append (Keeps key now refs) indexes (x ∷ []) was.keep (All-cons (Keeps key now refs) x [] keeps (All-nil (Keeps key now refs)));
 }
 
--- .. and with one less
+-- .. and with one index less
 pub IsKept-removed : (types : List ColType) (key : ℕ) (now : Slots) (refs : List RowRef) (indexes : List Index)
     → IsKept types key now refs indexes → (i : ℕ) → IsKept types key now refs (remove indexes i)
 IsKept-removed types key now refs indexes was i = record {

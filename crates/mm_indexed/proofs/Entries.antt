@@ -70,7 +70,7 @@ module _ (column key : ℕ) (now : Slots) (at : RowRef) where
       (λ k d within. before_apart (get_or adds.front k d) (adds.above_front k d within))
       (λ k d within. behind_apart (get_or adds.back k d) (adds.below_back k d within)))
 
-  -- .. also where it is left out of the list
+  -- .. also if it is left out of the list
   pub absent_without : (refs : List RowRef) (i : ℕ) → i < length refs → at ≡ get_or refs i at → InOrder column key now refs
       → All (λ a. a ≢ at) (remove refs i)
   absent_without refs i inside here ordered k d within =
@@ -89,7 +89,7 @@ module _ (column key : ℕ) (now : Slots) (at : RowRef) where
       subst (λ (x : RowRef). x ≢ at) (sym is) (behind_apart (get_or refs (k + 1) at) less))
       (cases_lt k i)
 
--- bags of references cancel
+-- multisets of references cancel
 pub refs_uncons : (at : RowRef) (xs ys : List RowRef) → IsPermutation (at ∷ xs) (at ∷ ys) → IsPermutation xs ys
 refs_uncons at xs ys moved = IsPermutation-uncons same_ref same_from_test (λ a. test_from_same a a refl) at xs ys moved
 
@@ -123,7 +123,7 @@ pub inserted_beside : (at : RowRef) (refs more held : List RowRef) → IsPermuta
     → IsPermutation more (at ∷ held)
 inserted_beside at refs more held inserted was = IsPermutation-trans more (at ∷ refs) (at ∷ held) inserted (IsPermutation-cons at refs held was)
 
--- the same of pairs
+-- the same for pairs
 pub pair_removed_beside : (f : RowRef → ℕ × RowRef) (at : RowRef) (pairs less : List (ℕ × RowRef)) (held : List RowRef) (stay : Bool) → stay ≡ false
     → IsPermutation pairs (f at ∷ less) → IsPermutation pairs (map f (at ∷ held)) → IsPermutation less (map f (beside stay at held))
 pair_removed_beside f at pairs less held true is removed was = let no : ⊥ = cc in absurd no

@@ -41,7 +41,7 @@ pub one_value : (column : ℕ) (a b : List Value) → column_cmp column a b ≡ 
 one_value column a b same = options_exact (slice_get a column) (slice_get b column) same
 
 module _ (column key : ℕ) (old new : Slots) where
-  -- two rows that change places agree as before, ..
+  -- two rows that change places agree as before
   pub agrees_swapped : (at other : RowRef) → row_at new at ≡ row_at old other → row_at new other ≡ row_at old at
       → agrees column key new at (Some other) ≡ agrees column key old at (Some other)
   agrees_swapped at other first second =
@@ -49,7 +49,7 @@ module _ (column key : ℕ) (old new : Slots) where
       λ c. ap₂ (same_in_column c) first second ∙ same_in_column_comm c (row_at old other) (row_at old at) in
       ap₂ (λ x y. x && y) (one column) (one key)
 
-  -- .. and where they do, the reference has the same values
+  -- if they agree, the reference has the same values
   pub level_swapped : (at other : RowRef) → row_at new at ≡ row_at old other → agrees column key old at (Some other) ≡ true
       → IsLevel column key old new at
   level_swapped at other first alike =
@@ -59,13 +59,13 @@ module _ (column key : ℕ) (old new : Slots) where
       ∙ sym (one_value c (row_at old at) (row_at old other) (equal_from_is_eq (column_cmp c (row_at old at) (row_at old other)) same)) in
       (one column parts.0, one key parts.1)
 
-  -- rows that stay as they are have the same values
+  -- unchanged rows have the same values
   pub levels_same : (refs : List RowRef) → All (λ r. new r ≡ old r) refs → All (IsLevel column key old new) refs
   levels_same refs same k d within =
       let row : row_at new (get_or refs k d) ≡ row_at old (get_or refs k d) = ap row_in (same k d within) in
       (ap (λ r. slice_get r column) row, ap (λ r. slice_get r key) row)
 
-  -- ---- what the order and the pairs make of them
+  -- ---- the effect on the order and the pairs
 
   pub InOrder-level : (refs : List RowRef) → All (IsLevel column key old new) refs → All (IsWide column key new) refs
       → InOrder column key old refs → InOrder column key new refs
@@ -84,7 +84,7 @@ module _ (column key : ℕ) (old new : Slots) where
       ap (λ o. (hash_of o, r)) (level 0 r (omega arith)).0 in
       ap₂ (λ p ps. p ∷ ps) first (pairs_level rs (λ k d within. level (suc k) d (omega arith)))
 
--- an index keeps rows of which it sees no change
+-- an index keeps rows whose values in its columns do not change
 pub Keeps-level : (key : ℕ) (old new : Slots) (held : List RowRef) (x : Index) → All (IsLevel (column_of x) (tie_column key x) old new) held
     → All (IsWide (column_of x) key new) held → Keeps key old held x → Keeps key new held x
 Keeps-level key old new held (Tree column refs) level wide keeps =
@@ -116,7 +116,7 @@ Keeps-permutation key now held other moved (Hash column pairs) keeps =
     IsPermutation-trans pairs.entries (map (hashed_pair column now) held) (map (hashed_pair column now) other) keeps
     (IsPermutation-map (hashed_pair column now) held other moved)
 
--- what stands at each of these references is what stood there
+-- these references have the same content as before
 abbrev pub Same : Slots → Slots → List RowRef → Type 0
 Same old new refs = All (λ r. new r ≡ old r) refs
 
@@ -130,7 +130,7 @@ InOrder-stays column key old new refs same was =
     let same_b : row_at new b ≡ row_at old b = ap row_in (All-contains (λ r. new r ≡ old r) refs b same in_b) in
     rw (same_a, same_b))
 
--- slots that it has no entry of may change
+-- slots without an entry may change
 pub Keeps-stays : (key : ℕ) (old new : Slots) (held : List RowRef) → Same old new held → (x : Index) → Keeps key old held x → Keeps key new held x
 Keeps-stays key old new held same (Tree column refs) keeps =
     let own : Same old new refs.refs = λ k d within. All-contains (λ r. new r ≡ old r) held (get_or refs.refs k d) same

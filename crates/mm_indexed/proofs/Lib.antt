@@ -2,6 +2,8 @@ pub mod Apart
 pub mod Bags
 pub mod Building
 pub mod Entries
+pub mod Exchanging
+pub mod Hiding
 pub mod Levels
 pub mod Matches
 pub mod OneKey

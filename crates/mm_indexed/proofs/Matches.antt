@@ -20,7 +20,7 @@ use Rattle.mm_indexed.proofs.RefTests.{same_ref, same_from_test, test_from_same,
 use Rattle.mm_row_order.proofs.Seeks.{place_exact}
 use Rattle.mm_schema.proofs.Orderings.{equal_from_is_eq}
 
--- so far some are kept of those from a place on, and these are left
+-- some references from a place on were kept so far, and these remain
 pub record Keeping {X : Type 0} (p : X → Bool) (P : X → Type 0) (from : ℕ) (old out : List X) (kept i : ℕ) : Type 0 where
   pub size : length out ≡ length old
   pub behind : kept ≤ i
@@ -66,12 +66,12 @@ module _ {X : Type 0} (p : X → Bool) (P : X → Type 0) (from : ℕ) (old out 
             ∙ (ap (λ (l : List X). take kept out ++ l) (sym passed) ∙ result_left)));
       }
 
--- the first of those that are left is among those that are done
+-- the first of the remaining elements becomes the last one done
 pub split_next : {X : Type 0} (all done left rest : List X) (x : X) → all ≡ done ++ left → left ≡ x ∷ rest → all ≡ done ++ x ∷ [] ++ rest
 split_next all done left rest x split next =
     split ∙ (ap (λ l. done ++ l) next ∙ sym (append_assoc done (x ∷ []) rest))
 
--- the next element is found where it passes, else not, ..
+-- the next element is found if it passes, and not otherwise
 module _ {X : Type 0} (p : X → Bool) (done : List X) (x : X) where
   pub filter_found : (found : List X) → found ≡ filter p done → p x ≡ true → found ++ x ∷ [] ≡ filter p (done ++ x ∷ [])
   filter_found found was passes =
@@ -83,7 +83,7 @@ module _ {X : Type 0} (p : X → Bool) (done : List X) (x : X) where
       was
       ∙ sym (filter-append p done (x ∷ []) ∙ (ap (λ (b : Bool). filter p done ++ cond b (x ∷ []) []) fails ∙ append-nil (filter p done)))
 
-  -- .. and where it passes, more pass than those before it
+  -- if it passes, more elements pass than before it
   pub more_pass : (rest : List X) → p x ≡ true → length (filter p done) + 1 ≤ length (filter p (done ++ x ∷ rest))
   more_pass rest passes =
       let first : filter p (x ∷ rest) ≡ x ∷ filter p rest = ap (λ (b : Bool). cond b (x ∷ filter p rest) (filter p rest)) passes in
@@ -94,7 +94,7 @@ module _ {X : Type 0} (p : X → Bool) (done : List X) (x : X) where
         ap length first,
       )
 
--- a second test may be left out where the first one implies it
+-- a second test can be left out if the first one implies it
 module _ {X : Type 0} (p u : X → Bool) (implies : (x : X) → p x ≡ true → u x ≡ true) where
   skipped : (x : X) (rest : List X) (b : Bool) → p x ≡ b → u x ≡ false → rest ≡ cond b (x ∷ rest) rest
   skipped x rest true passes fails = let both : true ≡ false = sym (implies x passes) ∙ fails in cc
@@ -150,13 +150,13 @@ module _ (column : ℕ) (now : Slots) (pairs : List (ℕ × RowRef)) (refs : Lis
       subst (IsPermutation behind) (refs_of_pairs column now hash refs)
       (IsPermutation-trans behind (refs_of hash pairs) (refs_of hash (map (hashed_pair column now) refs)) found moved)
 
-  -- what holds of the references of all rows holds of those that are found
+  -- a property of the references of all rows holds for those found
   pub All-found : (P : RowRef → Type 0) → All P refs → All P behind
   All-found P holds =
       let some : List RowRef = filter (has_hash column now hash) refs in
       All-permutation P some behind (IsPermutation-sym behind some found_of_hash) (All-filter (has_hash column now hash) P refs holds)
 
-  -- of those that are found the ones that have the value are all that have it
+  -- the references found that have the value are all that have it
   pub matches_found : (value : Value) → hash ≡ value_hash value
       → IsPermutation (filter (has_value column now value) behind) (filter (has_value column now value) refs)
   matches_found value is =

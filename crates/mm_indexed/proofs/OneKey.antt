@@ -1,4 +1,4 @@
--- The range of a key to itself, where no two rows have one key.
+-- The range from a key to itself, if no two rows have one key.
 use Rattle.std.proofs.Common.{◌≡◌, ◌≢◌, ◌⊎◌, ℕ, zero, suc, ◌<◌, Bool, true, false, ◌&&◌, cond, List, [], ◌∷◌, ◌++◌, Option, None, Some, Result, Ok, Err}
 use Rattle.std.proofs.Common.{get_or, length, append-nil, refl, sym, ap, ◌∙◌, subst, ⊎_elim, arith}
 use Rattle.std.specs.Prelude.{◌↔◌, IfNone, IfSome, OnOk, slice_get}
@@ -52,7 +52,7 @@ tied_by_value key now value a b is_a is_b =
     subst (λ (o : Option Value). option_cmp value_cmp (slice_get (row_at now a) key) o ≡ Equal) (sym is_b)
     (place_own (slice_get (row_at now a) key) value is_a)
 
--- where no two rows have one key, the row that is found is the only one of the key
+-- if no two rows have one key, the row found is the only one with the key
 pub found_only : (key : ℕ) (now : Slots) (value : Value) (refs : List RowRef) → ((r : RowRef) → Contains refs r ↔ HasRow now r) → AreApart key now
     → (found : Option RowRef) → IfSome found (Contains refs) → IfSome found (λ at. slice_get (row_at now at) key ≡ Some value)
     → IfSome found (IsOnly key now value)
@@ -63,7 +63,7 @@ found_only key now value refs held apart (Some at) here fits = λ other live own
     (λ (differ : other ≢ at). absurd (apart at ((held at).0 here) (other, live, differ, tied_by_value key now value other at own fits)))
     (same_or_apart other at)
 
--- what follows under a premise from what is said of success
+-- a consequence, under a premise, of a success
 pub OnOk-under : {T E : Type 0} (A P : Type 0) (result : Result T E) → (A → OnOk result P) → OnOk result (A → P)
 OnOk-under A P (Err error) holds = tt
 OnOk-under A P (Ok done) holds = holds
@@ -86,7 +86,7 @@ module _ (key : ℕ) (now : Slots) (refs : List RowRef) (keys_apart : KeysApart 
       place_exact (slice_get (row_at now r) key) value
       (equal_from_is_eq (option_cmp value_cmp (slice_get (row_at now r) key) (Some value)) passes)
 
-  -- Where no row has the key, there is none.
+  -- If no row has the key, the range is empty.
   pub none_of_key : All (λ at. slice_get (row_at now at) key ≢ Some value) refs
       → entries_between (end_place key now (Some value)) (end_place key now (Some value)) refs ≡ []
   none_of_key none = matches ∙ none_pass has refs (λ k d within. ⊎_elim
@@ -111,7 +111,7 @@ module _ (key : ℕ) (now : Slots) (refs : List RowRef) (keys_apart : KeysApart 
         (tied_by_value key now value (get_or refs place.0 d) (get_or refs k d) theirs mine)) o)
         (cases_order k place.0)
 
-    -- Where one has, there is just that one.
+    -- If a row has the key, the range is exactly that row.
     pub one_of_key : entries_between (end_place key now (Some value)) (end_place key now (Some value)) refs ≡ at ∷ []
     one_of_key = matches ∙ one_passes has refs place.0 at place.1 place.2 (ap is_eq (place_own (slice_get (row_at now at) key) value own))
         (λ k d within other. ⊎_elim
@@ -119,7 +119,7 @@ module _ (key : ℕ) (now : Slots) (refs : List RowRef) (keys_apart : KeysApart 
         (λ (fails : has (get_or refs k d) ≡ false). fails)
         (cases_Bool (has (get_or refs k d))))
 
-  -- So what is sought by the key is that range.
+  -- So the result of a search by the key is that range.
   pub pushed_key : {T E : Type 0} (result : Result T E) (found : Option RowRef) (old new : List RowRef) → IfSome found (Contains refs)
       → IfSome found (λ at. slice_get (row_at now at) key ≡ Some value) → IfNone found (All (λ at. slice_get (row_at now at) key ≢ Some value) refs)
       → OnOk result (IfSome found (λ at. new ≡ old ++ at ∷ [])) → OnOk result (IfNone found (new ≡ old))

@@ -12,7 +12,7 @@ use Rattle.mm_indexed.specs.Reads.{HasIndex}
 use Rattle.mm_indexed.specs.Served.{is_on, same_kind}
 use Rattle.mm_indexed.specs.declared.indexes.index.Index.{Index}
 
--- ---- the test and what it says
+-- ---- the test and its meaning
 
 pub same_kind_told : (a b : IndexKind) → same_kind a b ≡ true → a ≡ b
 same_kind_told kind.Tree kind.Tree e = refl
@@ -47,7 +47,7 @@ module _ {X : Type 0} (p : X → Bool) (xs : List X) where
   position_is : (i : ℕ) → position p xs ≡ Some i → (i < length xs) × (position_or_len p xs ≡ i)
   position_is i found = cases_position i (nat_lt (position_or_len p xs) (length xs)) refl found
 
-  -- what stands there passes
+  -- the element there passes
   pub position_passes : (i : ℕ) (d : X) → position p xs ≡ Some i → p (get_or xs i d) ≡ true
   position_passes i d found =
       let (within, is) = position_is i found in
@@ -58,7 +58,7 @@ module _ {X : Type 0} (p : X → Bool) (xs : List X) where
   cases_none true in_list e = cc
   cases_none false in_list e = grind (arith, nat_tests, in_list)
 
-  -- Without one nothing passes.
+  -- If there is no place, no element passes.
   pub position_none : (k : ℕ) (d : X) → position p xs ≡ None → k < length xs → p (get_or xs k d) ≡ false
   position_none k d none within =
       let past : length xs ≤ position_or_len p xs = cases_none (nat_lt (position_or_len p xs) (length xs)) refl none in
@@ -80,7 +80,7 @@ module _ (column : ℕ) (k : IndexKind) (indexes : List Index) where
       any_of [] n within = absurd (omega arith)
       any_of (x ∷ xs) n within = x
 
-  -- .. and the same of what a search gives
+  -- .. and the same for the result of a search
   pub if_found : (found : Option ℕ) → found ≡ position (is_on column k) indexes → IfSome found (λ i. HasIndex indexes i column k)
   if_found None is = tt
   if_found (Some i) is = found_on i (sym is)

@@ -35,7 +35,7 @@ pub live_not_hidden : (now : Slots) (a b : RowRef) → HasRow now a → HasHidde
 live_not_hidden now a b live hidden same =
     let both : Live live.0 ≡ Hidden hidden.0 = sym live.1 ∙ (ap now same ∙ hidden.1) in cc
 
--- a list with one reference more
+-- a list with one more reference
 pub in_more : (refs more : List RowRef) (at r : RowRef) → IsPermutation more (at ∷ refs) → (r ≡ at) ⊎ Contains refs r → Contains more r
 in_more refs more at r moved which =
     Contains-permutation (at ∷ refs) more r (IsPermutation-sym more (at ∷ refs) moved)
@@ -51,7 +51,7 @@ from_more refs more at r moved here =
     (λ (rest : Contains refs r). inr rest)
     (Contains-append_cases (at ∷ []) refs r (Contains-permutation more (at ∷ refs) r moved here))
 
--- the column of an index that turned is still one of the table's
+-- the column of an index that changed is still a column of the table
 pub columns_removed : (types : List ColType) (key : ℕ) (now : Slots) (at : RowRef) (other : Option RowRef) (old new : List Index)
     → EachTurns (Removes key now at other) old new → All (λ x. column_of x < length types) old → All (λ x. column_of x < length types) new
 columns_removed types key now at other old new turned all =
@@ -105,7 +105,7 @@ module _ (types new_types : List ColType) (same_types : new_types ≡ types) (ke
       keep = λ k d within. Keeps-stays key (slot_at old) (slot_at new) refs same_aside (get_or indexes k d) (was.keep k d within);
     }
 
-  -- ---- a hidden row comes into use
+  -- ---- a hidden row is used
 
   module _ (at : RowRef) (row : List Value) (hidden : HasHidden (slot_at old) at) (changes : ChangesOnly old new at (Live row)) where
     pub absent_shown : All (λ a. a ≢ at) refs
@@ -287,7 +287,7 @@ module _ (types new_types : List ColType) (same_types : new_types ≡ types) (ke
             (λ k d within. wide_after key key_now (get_or refs k d) (live_refs (get_or refs k d) (Contains-get_or refs k d within)))
             was.by_key
 
--- more room alone
+-- only more capacity
 pub same_index : (x y : Index) → SameEntries x y → SameIndex x y
 same_index (Tree column refs) (Tree other more) same = (same.0, refl)
 same_index (Tree column refs) (Hash other more) same = absurd same
@@ -341,7 +341,7 @@ pub without_absent : (key : ℕ) (now : Slots) (refs : List RowRef) (at : RowRef
     → All (λ a. a ≢ at) (without refs at here)
 without_absent key now refs at here ordered = absent_without key key now at refs here.0 here.1 (sym here.2) ordered
 
--- ---- what stays of the table
+-- ---- the rest of the table stays
 
 -- a table of these parts
 abbrev pub stored : ℕ → Places → List RowRef → ℕ → List Index → StoredRows
@@ -380,7 +380,7 @@ exchanged_room key before after at other old rest new removed inserted =
     EachTurns-twice (Removes key before at other) (Inserts key after at other) (UsesRoom 1)
     (λ x y z t u. record { same = (u.same.0 ∙ t.same.0, u.same.1 ∙ t.same.1); spare = omega (arith, t.spare, u.spare) }) old rest new removed inserted
 
--- room is left in each index from which an entry was removed
+-- each index from which an entry was removed has capacity left
 pub spares_rest : (key : ℕ) (now : Slots) (at : RowRef) (other : Option RowRef) (old new : List Index) → EachTurns (Removes key now at other) old new
     → All (λ x. 1 ≤ spare_of x) old → All (λ x. 1 ≤ spare_of x) new
 spares_rest key now at other old new turned all =
@@ -395,13 +395,13 @@ pub wide_here : (types : List ColType) (key : ℕ) (now : Slots) (refs : List Ro
     → (at : RowRef) → HasRow now at → IsWide key key now at
 wide_here types key now refs indexes was at live = wide_from types key key now at live (was.typed at) was.key_in was.key_in
 
--- each index that grew has the room
+-- each index that grew has the capacity
 pub grown_entries : (n : ℕ) (old new : List Index) → EachTurns (GrownTo n) old new → All (λ x. n ≤ spare_of x) new
 grown_entries n old new turned k d within =
     let size : length new ≡ length old = turned.size in
     (turned.each k d (omega arith)).room
 
--- what follows from what is said of a success
+-- a consequence of a success
 pub on_ok : {T E : Type 0} (r : Result T E) {P Q : Type 0} → (P → Q) → OnOk r P → OnOk r Q
 on_ok (Ok x) follows holds = follows holds
 on_ok (Err e) follows holds = holds

@@ -1,4 +1,4 @@
--- A list whose elements turn one after another.
+-- A list whose elements change one after another.
 use Rattle.std.proofs.Common.{◌≡◌, ℕ, ◌+◌, ◌<◌, ◌≤◌, List, ◌++◌, length, take, get_or, refl, sym, ap, ◌∙◌, subst, arith, ⊎_elim}
 use Rattle.std.specs.Prelude.{slice_set}
 use Rattle.std.specs.List.{All}
@@ -28,24 +28,24 @@ module _ {X : Type 0} (R : X → X → Type 0) where
     rest = λ k e above h. get_or-set_other now i k y e (λ (same : k ≡ i). let no : ⊥ = omega arith in no) ∙ t.rest k e (omega arith) h;
   }
 
-  -- what each turning makes of what holds
+  -- each change turns one property into another
   pub All-turned : (P Q : X → Type 0) (start now : List X) → EachTurns R start now → ((x y : X) → P x → R x y → Q y) → All P start → All Q now
   All-turned P Q start now t step all k d within =
       let size : length now ≡ length start = t.size in
       step (get_or start k d) (get_or now k d) (all k d (omega arith)) (t.each k d (omega arith))
 
--- a vector that is written back whole is what was written
+-- a vector that is written back whole has the written elements
 pub written_back : {X : Type 0} (ys zs : List X) (n : ℕ) → n ≡ length ys → take n (ys ++ zs) ≡ ys
 written_back ys zs n e = ap (λ (m : ℕ). take m (ys ++ zs)) e ∙ take-append_seam ys zs
 
--- a loop that went over all elements, whose list is written back
+-- a loop over all elements, whose list is written back
 pub EachTurns-written_back : {X : Type 0} (R : X → X → Type 0) (i : ℕ) (start now rest : List X) (n : ℕ) → TurnedTo R i start now
     → length now ≤ i → n ≡ length start → EachTurns R start (take n (now ++ rest))
 EachTurns-written_back R i start now rest n t past all =
     let turned : EachTurns R start now = record { size = t.size; each = λ k d within. t.done k d (omega (arith, t.size)) within } in
     subst (EachTurns R start) (sym (written_back now rest n (omega (arith, t.size)))) turned
 
--- a loop that stops early: the element where it stopped has turned in the weaker way, the rest stays
+-- a loop that stops early: the element at which it stopped has changed in the weaker way, and the rest stays
 pub EachTurns-stopped : {X : Type 0} (R S : X → X → Type 0) → ((x y : X) → R x y → S x y) → ((x : X) → S x x) → (i : ℕ) (start now : List X) (d y : X)
     → i < length start → TurnedTo R i start now → S (get_or now i d) y → EachTurns S start (slice_set now i y)
 EachTurns-stopped {X} R S weaker same i start now d y within t turns =
@@ -65,7 +65,7 @@ SameEntries-refl (Hash column pairs) = (refl, refl)
 pub Grown-refl : (x : Index) → Grown x x
 Grown-refl x = record { same = SameEntries-refl x; spare = omega arith }
 
--- what turns in the one way turns in a weaker one
+-- a change in one way is a change in a weaker one
 pub EachTurns-weaker : {X : Type 0} (R S : X → X → Type 0) → ((x y : X) → R x y → S x y) → (start now : List X) → EachTurns R start now
     → EachTurns S start now
 EachTurns-weaker R S weaker start now t = record {
@@ -73,7 +73,7 @@ EachTurns-weaker R S weaker start now t = record {
   each = λ k d within. weaker (get_or start k d) (get_or now k d) (t.each k d within);
 }
 
--- a turn upon a turn
+-- two changes in sequence
 pub EachTurns-twice : {X : Type 0} (R S T : X → X → Type 0) → ((x y z : X) → R x y → S y z → T x z)
     → (start mid now : List X) → EachTurns R start mid → EachTurns S mid now → EachTurns T start now
 EachTurns-twice R S T both start mid now first second = record {

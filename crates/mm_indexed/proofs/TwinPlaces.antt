@@ -1,4 +1,4 @@
--- Rows of one key, sought along the order of the key.
+-- Searches for rows of one key in the order of the key.
 use Rattle.std.proofs.Common.{◌≡◌, ◌≢◌, ℕ, ◌<◌, ◌≤◌, ◌⊎◌, inl, inr, ⊎_elim}
 use Rattle.std.proofs.Common.{Bool, true, false, cond, nat_lt, List, Option, None, Some, refl, sym, ap, ◌∙◌, subst, arith}
 use Rattle.std.specs.Prelude.{◌↔◌, IsSome, IfSome, IfNone, slice_get}
@@ -131,7 +131,7 @@ module _ (key : ℕ) (now : Slots) (at : RowRef) where
   equal_both o s one other = subst (λ p. ordering_then p s ≡ Equal) (sym one) other
 
   module _ (refs : List RowRef) (held : (r : RowRef) → Contains refs r ↔ HasRow now r) where
-    -- what is found is a twin, and where nothing is found there is none
+    -- the reference found is a twin, and if none is found, there is no twin
     pub found_below : (found : Option RowRef) → IfSome found (Contains refs) → IfSome found (λ r. place_below key now at r ≡ Equal)
         → IsSome found → HasTwinBelow key now at
     found_below None here fits some = let no : ⊥ = cc in absurd no

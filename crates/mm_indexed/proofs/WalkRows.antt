@@ -1,4 +1,4 @@
--- Where no two rows have one key, the rows along an index are the table's rows, put in the index's order.
+-- If no two rows have one key, the rows along an index are the table's rows, sorted in the index's order.
 use Rattle.std.proofs.Common.{◌≡◌, ◌≢◌, ℕ, suc, ◌<◌, false, List, length, get_or, sym, ap, ◌∙◌, subst, arith, add-one}
 use Rattle.std.specs.Prelude.{map, slice_index_or, IsPermutation}
 use Rattle.std.specs.Cmp.{IsTotalOrder, then_total}
@@ -38,7 +38,7 @@ use Rattle.mm_value.proofs.Orders.{then_second}
 abbrev RowsApart : ℕ → List (List Value) → Type 0
 RowsApart key rows = AllPairs (λ x y. column_cmp key x y ≢ Equal) rows
 
--- the row at a place is that of the reference there, whatever stands past the ends
+-- the row at a place is that of the reference there, whatever the default past the end
 at_place : (now : Slots) (refs : List RowRef) (r : RowRef) (i : ℕ) (d : List Value) → i < length refs
     → get_or (map (row_at now) refs) i d ≡ row_at now (get_or refs i r)
 at_place now refs r i d within =
@@ -52,7 +52,7 @@ module _ (column key : ℕ) where
   keys_turn : (a b : List Value) → column_cmp key a b ≢ Equal → column_cmp key b a ≢ Equal
   keys_turn a b differ same = differ ((column_cmp_total key).antisymm a b ∙ ap ordering_reverse same)
 
-  -- where no two rows have one key no two tie, so put in order each is less than the next
+  -- if no two rows have one key, no two tie, so after sorting each is less than the next
   IsStrictlySortedBy-in_order : (rows : List (List Value)) → RowsApart key rows → IsStrictlySortedBy (rows_by column key) (in_order (rows_by column key) rows)
   IsStrictlySortedBy-in_order rows apart =
       let sorted : List (List Value) = in_order (rows_by column key) rows in
@@ -100,7 +100,7 @@ walk_rows column stored walk apart by_key is_walk =
     (IsStrictlySortedBy-in_order column key (rows_of stored) (rows_apart column key now stored.refs (KeysApart-refs key key now stored.refs apart by_key)))
     (in_from_permutation _ _ moved) (in_from_permutation _ _ (IsPermutation-sym _ _ moved))
 
--- A TREE index of the table gives a walk.
+-- A TREE index of the table is a walk.
 pub kept_walk : (stored : StoredRows) → IsKept stored.places.types stored.key (slot_at stored.places) stored.refs stored.indexes
     → (column place : ℕ) (x : Index) (own : ℕ) (tree : Held) → HasIndex stored.indexes place column kind.Tree → x ≡ slice_index_or stored.indexes place x
     → x ≡ Tree own tree → IsWalk column stored tree.refs

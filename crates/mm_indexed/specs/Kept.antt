@@ -10,8 +10,8 @@ use Rattle.mm_row_order.specs.InOrder.{InOrder}
 use Rattle.mm_indexed.specs.Index.{Keeps, EachTurns, SameIndex, column_of, spare_of}
 use Rattle.mm_indexed.specs.declared.indexes.index.Index.{Index}
 
--- What callers see: the key, the content of each reference and the types of the columns, the references in the order of the key, how
--- many more the index on the key takes without growing, and the further indexes.
+-- The model: the key, the content of each reference and the types of the columns, the references in the order of the key, the capacity of
+-- the index on the key for more entries, and the further indexes.
 pub record StoredRows : Type 0 where
   pub key : ℕ
   pub places : Places
@@ -29,12 +29,13 @@ pub record IsKept (types : List ColType) (key : ℕ) (now : Slots) (refs : List 
   pub by_key : InOrder key key now refs
   pub keep : All (Keeps key now refs) indexes
 
--- the index is the same one, and has at most so much less room
+-- the index has the same column and kind, and its capacity decreases by at most n
 pub record UsesRoom (n : ℕ) (old new : Index) : Type 0 where
   pub same : SameIndex old new
   pub spare : spare_of old ≤ spare_of new + n
 
--- The table has the same key, columns and indexes. The index on the key has at most so much less room, and each further one, too.
+-- The table has the same key, columns and indexes. The capacity of the index on the key decreases by at most n, and that of each further
+-- index by at most m.
 pub record SameTable (n m : ℕ) (old new : StoredRows) : Type 0 where
   pub key : new.key ≡ old.key
   pub types : new.places.types ≡ old.places.types

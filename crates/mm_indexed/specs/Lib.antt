@@ -1,4 +1,6 @@
+pub mod Exchanges
 pub mod HashedPairs
+pub mod Hiding
 pub mod Index
 pub mod Stays
 pub mod Kept

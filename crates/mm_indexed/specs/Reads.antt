@@ -1,4 +1,4 @@
--- What reads along an index return.
+-- The results of reads along an index.
 use Rattle.std.specs.Prelude.{◌≡◌, ℕ, ◌<◌, Bool, List, ◌++◌, Option, Some, length, filter, IsPermutation, slice_get, slice_index_or}
 use Rattle.std.specs.Ordering.{is_eq}
 use Rattle.mm_value.specs.declared.row_ref.RowRef.{RowRef}
@@ -17,7 +17,7 @@ use Rattle.mm_schema.specs.declared.index.IndexKind.{IndexKind}
 abbrev pub HasIndex : List Index → ℕ → ℕ → IndexKind → Type 0
 HasIndex indexes place column kind = (place < length indexes) × ((d : Index) → IsOn column kind (slice_index_or indexes place d))
 
--- No row in use but that of this reference has this value in the column.
+-- No row in use other than that of this reference has this value in the column.
 abbrev pub IsOnly : ℕ → Slots → Value → RowRef → Type 0
 IsOnly column now value at = (other : RowRef) → HasRow now other → slice_get (row_at now other) column ≡ Some value → other ≡ at
 
@@ -39,6 +39,6 @@ has_value column now value at = is_eq (place_by column now value at)
 abbrev pub AreMatches : ℕ → Slots → Value → List RowRef → List RowRef → Type 0
 AreMatches column now value refs found = IsPermutation found (filter (has_value column now value) refs)
 
--- The list is continued by one for which this holds.
+-- A list with this property was appended.
 abbrev pub Appends : (List RowRef → Type 0) → List RowRef → List RowRef → Type 0
 Appends Holds old new = (found : List RowRef) × (new ≡ old ++ found) × Holds found

@@ -6,7 +6,7 @@ use Rattle.mm_row_order.specs.Refs.{Slots, row_at}
 use Rattle.mm_indexed.specs.Index.{Keeps, SameIndex, column_of, tie_column, spare_of}
 use Rattle.mm_indexed.specs.declared.indexes.index.Index.{Index}
 
--- The row of a reference has the values of the other one's row in two columns. With no other row, there is none that has them.
+-- The row of a reference has the same values as the other row in two columns. False if there is no other row.
 abbrev pub agrees : ℕ → ℕ → Slots → RowRef → Option RowRef → Bool
 agrees column tie now at None = false
 agrees column tie now at (Some other) =

@@ -26,10 +26,10 @@ HasTwinAbove key now at = (other : RowRef) × HasRow now other × (at.slot < oth
 abbrev pub AreApart : ℕ → Slots → Type 0
 AreApart key now = (at : RowRef) → HasRow now at → HasTwin key now at → ⊥
 
--- how a reference compares to those that have the key of a row and lower slots
+-- the comparison of a reference to those that have the key of a row and lower slots
 abbrev pub place_below : ℕ → Slots → RowRef → RowRef → Ordering
 place_below key now at a = ordering_then (keys_by key now a at) (cond (nat_lt a.slot at.slot) Equal Greater)
 
--- how a reference compares to those that have the key of a row and higher slots
+-- the comparison of a reference to those that have the key of a row and higher slots
 abbrev pub place_above : ℕ → Slots → RowRef → RowRef → Ordering
 place_above key now at a = ordering_then (keys_by key now a at) (cond (nat_lt at.slot a.slot) Equal Less)

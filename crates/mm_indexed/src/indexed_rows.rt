@@ -13,6 +13,8 @@ ghost use Rattle.mm_indexed.specs.Index.{spare_of};
 ghost use Rattle.mm_indexed.specs.Kept.{SameTable};
 ghost use Rattle.mm_indexed.specs.Twins.{HasTwin, keys_by};
 
+mod exchanging;
+mod hiding;
 mod indexing;
 mod laws;
 mod look_up;
@@ -33,8 +35,8 @@ use std::alloc::{AllocError, Global};
 use std::marker::Model;
 use ttree::{Iter, TTree};
 
-/// The rows of a table, with a T-tree over their key and any further indexes. A change of one slot keeps each index. Two rows may have
-/// one key: a command goes through such states, and `has_twin` says whether it ended in one.
+/// The rows of a table, with a T-tree over their key and any further indexes. A change of one slot keeps each index. Two rows may have one
+/// key while a command runs, and `has_twin` finds such rows.
 #[derive(Drop)]
 pub struct IndexedRows {
     key: usize,
@@ -61,8 +63,8 @@ impl Model for IndexedRows {
 }
 
 impl IndexedRows {
-    /// No rows, of columns of these types, with one of them as the key, and no further index. Prefixes of the key are kept if it is a
-    /// text. `AllocError` if an allocation fails.
+    /// Returns a table without rows and further indexes, of columns of these types, with one of them as the key. Prefixes of the key are
+    /// kept if it is a text. `AllocError` if an allocation fails.
     pub fn new(alloc: Global, types: &[ColType], key: usize) -> Result<IndexedRows, AllocError>
         requires { key < length types.now }
         ensures places { IfOk result (λ table. (at : RowRef) → slot_at table.places at ≡ Free) }
@@ -84,21 +86,21 @@ impl IndexedRows {
         })
     }
 
-    /// The number of rows in use.
+    /// Returns the number of rows in use.
     pub fn len(&self) -> usize
         ensures { result ≡ length self.now.refs }
     {
         self.by_key.len()
     }
 
-    /// The place of the key column, counted from 0.
+    /// Returns the place of the key column, counted from 0.
     pub fn key(&self) -> usize
         ensures { result ≡ self.now.key }
     {
         self.key
     }
 
-    /// The type of a column.
+    /// Returns the type of a column.
     pub fn column_type(&self, column: usize) -> ColType
         requires { column < length self.now.places.types }
         ensures { slice_get self.now.places.types column ≡ Some result }
@@ -106,14 +108,14 @@ impl IndexedRows {
         self.rows.column_type(column)
     }
 
-    /// The number of slots used so far: the slot of each reference to a row, in use or hidden, is below it.
+    /// Returns the number of slots used so far: the slot of each reference to a row, in use or hidden, is below it.
     pub fn extent(&self) -> usize
         ensures { result ≡ extent_of self.now.places }
     {
         self.rows.extent()
     }
 
-    /// The row of a reference in use, where it stands.
+    /// Returns the row of a reference in use, without a copy.
     pub fn row(&self, at: RowRef) -> RowView<'_>
         requires { IsLive self.now.places at }
         ensures { slot_at self.now.places at ≡ Live (viewed result) }
@@ -121,7 +123,7 @@ impl IndexedRows {
         self.rows.get(at)
     }
 
-    /// The hidden row of a reference, where it stands.
+    /// Returns the hidden row of a reference, without a copy.
     pub fn hidden_row(&self, at: RowRef) -> RowView<'_>
         requires { IsHidden self.now.places at }
         ensures { slot_at self.now.places at ≡ Hidden (viewed result) }
@@ -129,7 +131,7 @@ impl IndexedRows {
         self.rows.get_hidden(at)
     }
 
-    /// The references of the rows in use, in the order of the key, of which there are at most 1,048,576.
+    /// Iterates over the references of the rows in use, in the order of the key. Requires at most 1,048,576 rows.
     pub fn by_key(&self) -> Iter<'_>
         requires { length self.now.refs ≤ most_rows }
         ensures refs { result ≡ self.now.refs }
@@ -138,15 +140,15 @@ impl IndexedRows {
         self.by_key.iter()
     }
 
-    /// The indexes beside that on the key.
+    /// Returns the further indexes, without that on the key.
     pub fn indexes(&self) -> &[Index]
         ensures { result.now ≡ self.now.indexes }
     {
         self.indexes.as_slice()
     }
 
-    /// Makes room for `n` more rows, for `key` more entries in the index on the key, and for `m` more in each further index.
-    /// `AllocError` if an allocation fails; then there may be more room, and all else is as before.
+    /// Reserves capacity for `n` more rows, for `key` more entries in the index on the key, and for `m` more in each further index.
+    /// `AllocError` if an allocation fails; then there may be more capacity, and all else is as before.
     pub fn reserve(
         &mut self,
         alloc: Global,
@@ -196,14 +198,14 @@ impl IndexedRows {
         self.rows.have_types();
     }
 
-    /// Whether a slot has a hidden row.
+    /// Returns whether a slot has a hidden row.
     pub fn is_hidden(&self, at: RowRef) -> bool
         ensures { IsTrue result ↔ IsHidden self.now.places at }
     {
         self.rows.is_hidden(at)
     }
 
-    /// Brings a hidden row into use.
+    /// Uses a hidden row: its slot becomes one in use.
     pub fn show(&mut self, at: RowRef)
         requires hidden { IsHidden self.old.places at }
         requires spare { 1 ≤ self.old.spare }
@@ -220,7 +222,7 @@ impl IndexedRows {
         insert_into_all(&self.rows, self.key, &mut self.indexes, at, None);
     }
 
-    /// Takes a row out of use. It keeps its slot.
+    /// Hides a row in use. It keeps its slot.
     pub fn hide(&mut self, at: RowRef)
         requires { IsLive self.old.places at }
         ensures hidden { (row : List Value) → slot_at self.old.places at ≡ Live row
@@ -235,8 +237,8 @@ impl IndexedRows {
         self.rows.have_types();
     }
 
-    /// Exchanges a row in use and a hidden row with the same key. The index on the key is not touched, and a further one only if the
-    /// rows differ in its column.
+    /// Exchanges a row in use and a hidden row with the same key. The index on the key does not change, and a further one only if the rows
+    /// differ in its column.
     pub fn exchange_kept(&mut self, at: RowRef, other: RowRef)
         requires live { IsLive self.old.places at }
         requires hidden { IsHidden self.old.places other }
@@ -277,7 +279,7 @@ impl IndexedRows {
         insert_into_all(&self.rows, self.key, &mut self.indexes, at, Some(other));
     }
 
-    /// Whether a row in use and a hidden row have the same key.
+    /// Returns whether a row in use and a hidden row have the same key.
     pub fn keeps_key(&self, at: RowRef, other: RowRef) -> bool
         requires live { IsLive self.now.places at }
         requires hidden { IsHidden self.now.places other }
@@ -286,7 +288,7 @@ impl IndexedRows {
         have_one_value(&self.rows, self.key, at, other)
     }
 
-    /// Whether another row in use has the key of a row.
+    /// Returns whether another row in use has the key of a row.
     pub fn has_twin(&self, at: RowRef) -> bool
         requires { IsLive self.now.places at }
         ensures { IsTrue result ↔ HasTwin self.now.key (slot_at self.now.places) at }

@@ -2,12 +2,13 @@
 ghost use Rattle.std.specs.Prelude.{◌≡◌, ◌≢◌, ◌<◌, ◌≤◌, ◌∷◌, List, length, All, OnOk, IfSome};
 ghost use Rattle.mm_value.specs.declared.row_ref.RowRef.{RowRef};
 ghost use Rattle.mm_partition.specs.Places.{slot_at, IsLive, IsHidden};
-ghost use Rattle.mm_indexed.specs.Index.{Keeps, EachTurns, Grown, GrownTo, Trimmed, column_of, spare_of};
+ghost use Rattle.mm_indexed.specs.Index.{Keeps, EachTurns, Emptied, Grown, GrownTo, Trimmed, column_of, spare_of};
 ghost use Rattle.mm_indexed.specs.Stays.{Removes, Inserts, beside, stays};
 
 pub(crate) mod hash_entries;
 pub(crate) mod hash_reads;
 pub(crate) mod index;
+pub(crate) mod rebuilding;
 pub(crate) mod tree_entries;
 
 use crate::indexes::index::Index;
@@ -57,7 +58,7 @@ pub fn insert_into_all(
     }
 }
 
-/// Makes room for at least `n` more entries in each index.
+/// Reserves capacity for at least `n` more entries in each index. `AllocError` if an allocation fails; then some may have more capacity.
 pub fn reserve_all(alloc: Global, indexes: &mut Vec<Index>, n: usize) -> Result<(), AllocError>
     ensures grown { EachTurns Grown indexes.old.items indexes.new.items }
     ensures room { OnOk result (EachTurns (GrownTo n) indexes.old.items indexes.new.items) }
@@ -66,6 +67,15 @@ pub fn reserve_all(alloc: Global, indexes: &mut Vec<Index>, n: usize) -> Result<
         index.reserve(alloc, n)?;
     }
     Ok(())
+}
+
+/// Removes all entries of each index.
+pub fn clear_all(indexes: &mut Vec<Index>)
+    ensures { EachTurns Emptied indexes.old.items indexes.new.items }
+{
+    for index in indexes.iter_mut() {
+        index.clear();
+    }
 }
 
 /// Frees spare nodes of each TREE index until it has at most `n`.

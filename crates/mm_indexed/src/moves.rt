@@ -8,7 +8,7 @@ ghost use Rattle.mm_indexed.specs.Stays.{agrees};
 use mm_partition::Partitions;
 use mm_value::{RowRef, compare};
 
-/// Whether a row in use and a hidden one have the same value in a column.
+/// Returns whether a row in use and a hidden one have the same value in a column.
 pub fn have_one_value(rows: &Partitions, column: usize, at: RowRef, other: RowRef) -> bool
     requires column { column < length rows.now.types }
     requires live { IsLive rows.now at }
@@ -18,7 +18,7 @@ pub fn have_one_value(rows: &Partitions, column: usize, at: RowRef, other: RowRe
     compare(&rows.value(at, column), &rows.hidden_value(other, column)).is_eq()
 }
 
-/// Whether a row in use and a hidden one, if there is one, have the same values in two columns.
+/// Returns whether a row in use and a hidden one, if there is one, have the same values in two columns.
 pub fn agree(
     rows: &Partitions,
     column: usize,

@@ -15,7 +15,7 @@ use mm_value::RowRef;
 use std::cmp::Ordering;
 use ttree::TTree;
 
-/// `Equal` if the first slot is lower, and else `Greater`.
+/// Returns `Equal` if the first slot is lower, and otherwise `Greater`.
 #[inline(always)]
 fn equal_if_lower(slot: u32, than: u32) -> Ordering
     ensures { result ≡ cond (nat_lt slot than) Ordering.Equal Ordering.Greater }
@@ -27,7 +27,7 @@ fn equal_if_lower(slot: u32, than: u32) -> Ordering
     }
 }
 
-/// `Equal` if the first slot is higher, and else `Less`.
+/// Returns `Equal` if the first slot is higher, and otherwise `Less`.
 #[inline(always)]
 fn equal_if_higher(slot: u32, than: u32) -> Ordering
     ensures { result ≡ cond (nat_lt than slot) Ordering.Equal Ordering.Less }
@@ -39,13 +39,13 @@ fn equal_if_higher(slot: u32, than: u32) -> Ordering
     }
 }
 
-/// The references that have the key of a row and lower slots, as a place along the order of the key.
+/// The references that have the key of a row and lower slots, as a position in the order of the key.
 #[derive(Drop)]
 pub struct TwinBelow<'a> {
     pub rows: &'a Partitions,
     pub key: usize,
     pub at: RowRef,
-    /// What tells rows apart by the key.
+    /// The numbers or prefixes of the key.
     pub keys: ColumnKeys<'a>,
     ghost keys_agree: { AreKeys key rows.now keys } by { AreKeys-prop key rows.now keys },
 }
@@ -62,13 +62,13 @@ impl<'a> Probe for TwinBelow<'a> {
     }
 }
 
-/// The references that have the key of a row and higher slots, as a place along the order of the key.
+/// The references that have the key of a row and higher slots, as a position in the order of the key.
 #[derive(Drop)]
 pub struct TwinAbove<'a> {
     pub rows: &'a Partitions,
     pub key: usize,
     pub at: RowRef,
-    /// What tells rows apart by the key.
+    /// The numbers or prefixes of the key.
     pub keys: ColumnKeys<'a>,
     ghost keys_agree: { AreKeys key rows.now keys } by { AreKeys-prop key rows.now keys },
 }
@@ -85,7 +85,7 @@ impl<'a> Probe for TwinAbove<'a> {
     }
 }
 
-/// Whether another reference of the tree on the key has the key of a row and a lower slot.
+/// Returns whether another reference of the tree on the key has the key of a row and a lower slot.
 fn has_twin_below(rows: &Partitions, key: usize, tree: &TTree, at: RowRef) -> bool
     requires wide { IsWide key key (slot_at rows.now) at }
     requires ordered { InOrder key key (slot_at rows.now) tree.now.refs }
@@ -109,7 +109,7 @@ fn has_twin_below(rows: &Partitions, key: usize, tree: &TTree, at: RowRef) -> bo
     find_along(tree, &order, &below).is_some()
 }
 
-/// Whether another reference of the tree on the key has the key of a row and a higher slot.
+/// Returns whether another reference of the tree on the key has the key of a row and a higher slot.
 fn has_twin_above(rows: &Partitions, key: usize, tree: &TTree, at: RowRef) -> bool
     requires wide { IsWide key key (slot_at rows.now) at }
     requires ordered { InOrder key key (slot_at rows.now) tree.now.refs }
@@ -133,7 +133,7 @@ fn has_twin_above(rows: &Partitions, key: usize, tree: &TTree, at: RowRef) -> bo
     find_along(tree, &order, &above).is_some()
 }
 
-/// Whether another reference of the tree on the key has the key of a row.
+/// Returns whether another reference of the tree on the key has the key of a row.
 pub fn has_twin_in(rows: &Partitions, key: usize, tree: &TTree, at: RowRef) -> bool
     requires wide { IsWide key key (slot_at rows.now) at }
     requires ordered { InOrder key key (slot_at rows.now) tree.now.refs }

@@ -1,4 +1,4 @@
--- One round of a join: what it finds behind a combination of the outer list, and what that costs.
+-- One round of a join: the combinations found for a combination of the outer list, and the rows read.
 use Rattle.std.proofs.Common.{◌≡◌, ◌⊎◌, ℕ, ◌+◌, ◌<◌, ◌≤◌, List, [], ◌∷◌, ◌++◌, Err, Some, length, map, take, sym, ap, ◌∙◌, subst, arith}
 use Rattle.std.specs.List.{All, slice_get, sum_by}
 use Rattle.mm_query.specs.Queries.{Partial}
@@ -24,12 +24,12 @@ use Rattle.mm_join.specs.declared.access_methods.AccessMethod.TheVariants as met
 use Rattle.mm_join.specs.declared.look_up.Among.{Among}
 use Rattle.mm_join.specs.declared.look_up.Among.TheVariants as among
 
--- A join that is refused says why.
+-- A refused join has a valid reason.
 pub refused : (store : Tables) (join : Join) (table : ℕ) (refusal : Refusal)
     → (first_refusal (cap_conditions join.cap (found store join table)) ≡ Some refusal) ⊎ (refusal ≡ Memory) → Joins store join table (Err refusal)
 refused store join table refusal due = record { due = due; joined = tt; live = tt; tables = tt; fields = tt }
 
--- ---- the store, the tables and the atoms under the names that a call has for them
+-- ---- the store, the tables and the atoms, with the names that a call has for them
 
 module _ (store : Tables) (join : Join) (table : ℕ) (inner : Inner) (is : inner ≡ inner_of join table) (s : Tables) (same : s ≡ store) where
   module _ (front : List RowRef) (ts : List ℕ) (own : ts ≡ join.outer.now.tables) where
@@ -46,7 +46,7 @@ module _ (store : Tables) (join : Join) (table : ℕ) (inner : Inner) (is : inne
     few_here method w kept n few =
         subst (λ k. n ≤ k) (λ j. found_behind (kept j) (rows_at (same j).tables inner.table) (rows_of_combo (same j) (own j) front)) few
 
-  -- With what is found behind it a join is a combination further.
+  -- After the candidates of a combination, the join has processed one combination more.
   pub found_step : (i : ℕ) (combos : List (List RowRef)) (front : List RowRef) (rows : Partial) (candidates : List RowRef) (most : ℕ)
       → inner.table < length store.tables → All (AreLive store join.outer.now.tables) join.outer.now.combos
       → slice_get join.outer.now.combos i ≡ Some front → rows ≡ map Some (rows_of_combo store join.outer.now.tables front)
@@ -60,7 +60,7 @@ module _ (store : Tables) (join : Join) (table : ℕ) (inner : Inner) (is : inne
       (candidates_step store join.outer.now.tables inner.table join.atoms.now join.outer.now.combos i combos front rows candidates most within all there
       chosen are so_far)
 
-  -- What is past the cap on the way is past it in the end.
+  -- If the combinations so far exceed the cap, all combinations do.
   pub due_here : (i : ℕ) (tried : List (List RowRef)) (refusal : Refusal) → join.descriptor.tables.now ≡ join.outer.now.tables ++ table ∷ []
       → Progress store join.outer.now.tables inner.table join.atoms.now join.outer.now.combos i tried
       → first_refusal (cap_conditions inner.cap tried) ≡ Some refusal
@@ -69,9 +69,9 @@ module _ (store : Tables) (join : Join) (table : ℕ) (inner : Inner) (is : inne
       due_on_way store join.outer.now join.descriptor.tables.now join.atoms.now table inner.table (λ j. (is j).table) next join.cap i tried refusal so_far
       (subst (λ n. first_refusal (cap_conditions n tried) ≡ Some refusal) (λ j. (is j).cap) due)
 
--- ---- what it costs
+-- ---- rows read
 
--- The prefix counts the same whatever else is read.
+-- The prefix counts as one read, whatever else is read.
 prefix_counted : (method : AccessMethod) (n : ℕ) → with_prefix method n ≡ with_prefix method 0 + n
 prefix_counted (method.All refs) n = omega arith
 prefix_counted (method.Followed field) n = omega arith

@@ -1,4 +1,4 @@
--- What is found behind a combination has all that fits there.
+-- The references found for a combination include all that fit.
 use Rattle.std.proofs.Common.{◌≡◌, ℕ, suc, ◌<◌, ◌≤◌, Bool, true, false, cond, List, [], ◌∷◌, ◌++◌, Some, inl, inr, get_or, length, map, refl, sym, ap, ◌∙◌}
 use Rattle.std.proofs.Common.{subst, arith}
 use Rattle.std.specs.List.{count_by, filter}
@@ -33,7 +33,7 @@ use Rattle.mm_join.specs.AccessMethods.{AreCandidates, Finds, may_be}
 use Rattle.mm_join.specs.declared.key.JoinKey.{JoinKey}
 use Rattle.mm_join.specs.declared.look_up.Among.{Among}
 
--- A filter behind one that lets through whatever it does.
+-- Filtering first by a weaker test changes nothing.
 module _ {X : Type 0} (p q : X → Bool) where
   passed : (x : X) (xs : List X) (b : Bool) → b ≡ q x → (p x ≡ true → b ≡ true) → filter p (filter q xs) ≡ filter p xs
       → filter p (cond b (x ∷ filter q xs) (filter q xs)) ≡ cond (p x) (x ∷ filter p xs) (filter p xs)
@@ -68,11 +68,11 @@ module _ (seen : Seen) (table : ℕ) (stored : StoredRows) (here : IsAt seen.sto
   abbrev rows : List Row
   rows = rows_of_combo store outers front
 
-  -- the row of the reference fits behind the combination
+  -- the row of the reference fits with the combination
   abbrev met : RowRef → Bool
   met at = none_fails atoms (map Some rows ++ Some (row_of store table at) ∷ [])
 
-  -- What has all rows of the value that a key asks for has all rows that fit.
+  -- References of all rows with the value that a key requires include those of all rows that fit.
   have_cover : (key : JoinKey) → IsJoin atoms outers key → (found : List RowRef)
       → HaveMatches key.column (slot_at stored.places) (sought key (map Some rows)) stored.refs found → Covers store table atoms (map Some rows) found
   have_cover key joins found (passes, all, same) =
@@ -86,7 +86,7 @@ module _ (seen : Seen) (table : ℕ) (stored : StoredRows) (here : IsAt seen.sto
             (filter_moved met found (filter passes stored.refs) same),
       )
 
-  -- So it has the candidates, ..
+  -- So they are candidates.
   pub have_candidates : (key : JoinKey) → IsJoin atoms outers key → (most : ℕ) (found : List RowRef)
       → HaveMatches key.column (slot_at stored.places) (sought key (map Some rows)) stored.refs found → length found ≤ most
       → AreCandidates store table atoms rows most found
@@ -99,7 +99,7 @@ module _ (seen : Seen) (table : ℕ) (stored : StoredRows) (here : IsAt seen.sto
   rows_here : rows_of stored ≡ rows_at store.tables table
   rows_here = sym (ap (λ o. option_map_or rows_of o []) here)
 
-  -- .. also as it was found by that value, ..
+  -- The references that a look-up of this value finds are also candidates.
   pub found_candidates : (key : JoinKey) → IsJoin atoms outers key → (from : Among) (partial : Partial) → partial ≡ map Some rows → (found : List RowRef)
       → Finds stored key.column from (sought key partial) found
       → AreCandidates store table atoms rows
@@ -111,7 +111,7 @@ module _ (seen : Seen) (table : ℕ) (stored : StoredRows) (here : IsAt seen.sto
       (subst (λ (rs : List Row). length found ≤ count_by (λ (row : Row). may_be from (sought key (map Some rows)) (value_in key.column row)) rs) rows_here
       told.few)
 
-  -- .. and all references have them.
+  -- All references of the table are candidates.
   pub all_candidates : (found : List RowRef) → IsPermutation found stored.refs
       → AreCandidates store table atoms rows (count_by (any_row (map Some rows)) (rows_at store.tables table)) found
   all_candidates found same = record {

@@ -37,7 +37,7 @@ module _ (store : Tables) where
     next_ref : drop i refs ≡ at ∷ drop (i + 1) refs
     next_ref = drop_next refs i d within
 
-    -- There is a table for the next reference, ..
+    -- There is a table for the next reference.
     pub table_within : i < length tables
     table_within =
         let some : 0 < length (drop i tables) = live_tables (drop i tables) at (drop (i + 1) refs) (subst (AreLive store (drop i tables)) next_ref live) in
@@ -49,15 +49,15 @@ module _ (store : Tables) where
     live_both : AreLive store (get_or tables i 0 ∷ drop (i + 1) tables) (at ∷ drop (i + 1) refs)
     live_both = subst (λ ts. AreLive store ts (at ∷ drop (i + 1) refs)) next_table (subst (AreLive store (drop i tables)) next_ref live)
 
-    -- .. whose row is there, ..
+    -- The next reference is live.
     pub next_live : (stored : StoredRows) × IsAt store (get_or tables i 0) stored × IsLive stored.places at
     next_live = live_both.0
 
-    -- .. and the others are live too.
+    -- The references after it are live too.
     pub rest_live : AreLive store (drop (i + 1) tables) (drop (i + 1) refs)
     rest_live = live_both.1
 
-    -- The next row is put behind the others.
+    -- The next row is appended to the others.
     pub chosen_next : (chosen : List (Option (List Value))) (whole : List (Option (List Value)))
         → chosen ++ map Some (rows_of_combo store (drop i tables) (drop i refs)) ≡ whole
         → chosen ++ Some (row_of store (get_or tables i 0) at) ∷ [] ++ map Some (rows_of_combo store (drop (i + 1) tables) (drop (i + 1) refs)) ≡ whole
@@ -69,18 +69,18 @@ module _ (store : Tables) where
   no_rows [] = refl
   no_rows (table ∷ tables) = refl
 
-  -- Nothing is left to choose.
+  -- No reference is left.
   pub none_left : (tables : List ℕ) (refs : List RowRef) (i : ℕ) → length refs ≤ i → rows_of_combo store (drop i tables) (drop i refs) ≡ []
   none_left tables refs i past =
       let none : length (drop i refs) ≡ 0 = omega (arith, past, length-drop i refs) in
       ap (rows_of_combo store (drop i tables)) (empty_by_length (drop i refs) none) ∙ no_rows (drop i tables)
 
--- A row that is put behind some others is read behind them.
+-- A row that is appended is read after the others.
 pub pushed_row : (old new : List (Option RowView)) (last : Option RowView) → new ≡ old ++ last ∷ []
     → rows_read viewed new ≡ rows_read viewed old ++ option_map viewed last ∷ []
 pushed_row old new last pushed = ap (rows_read viewed) pushed ∙ map-append (option_map viewed) old (last ∷ [])
 
--- What the test of the rows with another row behind them tells of its reference.
+-- The test of the rows, with a further row appended, decides whether that row's reference matches.
 pub told_match : (store : Tables) (table : ℕ) (atoms : List (Atom FieldPlace)) (front : List RowRef) (at : RowRef) (b : Bool)
     (old new read : List (Option RowView)) (last : RowView) → row_of store table at ≡ viewed last → new ≡ old ++ Some last ∷ []
     → read ≡ new → b ≡ none_fails atoms (rows_read viewed read)
@@ -93,7 +93,7 @@ module _ (store : Tables) (table : ℕ) (atoms : List (Atom FieldPlace)) (rows :
   abbrev found : List RowRef → List (List RowRef)
   found candidates = matches store table atoms rows front candidates
 
-  -- What is found of one candidate more comes behind what was found, ..
+  -- The matches of one more candidate follow those found before.
   pub matches_step : (old : List (List RowRef)) (candidates : List RowRef) (i : ℕ) (d : RowRef) → i < length candidates
       → old ++ found (take i candidates) ++ found (get_or candidates i d ∷ []) ≡ old ++ found (take (i + 1) candidates)
   matches_step old candidates i d within =
@@ -101,7 +101,7 @@ module _ (store : Tables) (table : ℕ) (atoms : List (Atom FieldPlace)) (rows :
       ∙ ap (λ l. old ++ l)
       (sym (ap found (take_more candidates i d within) ∙ matches_append store table atoms rows front (take i candidates) (get_or candidates i d ∷ [])))
 
-  -- .. and is no longer than what is found of all.
+  -- There are no more of them than matches of all candidates.
   pub matches_part : (old : List (List RowRef)) (candidates : List RowRef) (i : ℕ) (d : RowRef) → i < length candidates
       → length (old ++ found (take i candidates) ++ found (get_or candidates i d ∷ [])) ≤ length (old ++ found candidates)
   matches_part old candidates i d within =

@@ -1,4 +1,4 @@
--- What a look-up by a value finds.
+-- The result of a look-up by value.
 use Rattle.std.proofs.Common.{◌≡◌, ℕ, ◌<◌, Bool, true, false, cond, List, [], ◌∷◌, ◌++◌, Option, Some, get_or, length, map, refl, sym, ap, ◌∙◌, subst, arith}
 use Rattle.std.specs.Prelude.{◌==◌, ℤ, FitsSigned, pos}
 use Rattle.std.specs.Int.{w64}
@@ -49,14 +49,14 @@ use Rattle.mm_join.specs.declared.look_up.Among.TheVariants as among
 
 -- ---- lists
 
--- Two tests that agree on all elements pass the same.
+-- Two tests that agree on all elements filter a list in the same way.
 filter_same : {X : Type 0} (p q : X → Bool) (xs : List X) → All (λ x. p x ≡ q x) xs → filter p xs ≡ filter q xs
 filter_same p q [] all = refl
 filter_same p q (x ∷ xs) all =
     λ i. cond (All-head (λ y. p y ≡ q y) x xs all i) (x ∷ filter_same p q xs (All-tail (λ y. p y ≡ q y) x xs all) i)
     (filter_same p q xs (All-tail (λ y. p y ≡ q y) x xs all) i)
 
--- As many references pass as rows do.
+-- As many references as rows pass.
 pub counted : {X Y : Type 0} (p : Y → Bool) (f : X → Y) (xs : List X) → length (filter (λ x. p (f x)) xs) ≡ count_by p (map f xs)
 counted p f xs = sym (length-map (filter (λ x. p (f x)) xs) f) ∙ (ap length (sym (filter-map p f xs)) ∙ length-filter p (map f xs))
 
@@ -66,11 +66,11 @@ module _ (stored : StoredRows) (column : ℕ) (from : Among) (value : Value) (it
   abbrev slots : Slots
   slots = slot_at stored.places
 
-  -- what the row has may be taken for the value
+  -- the structure may return this row for the value
   abbrev taken : RowRef → Bool
   taken at = may_be from value (value_in column (row_at slots at))
 
-  -- The references of just the rows that may be taken for those of the value have all of them.
+  -- The references of exactly the rows that may be returned include all rows with the value.
   pub finds_taken : (found : List RowRef) → IsPermutation found (filter taken stored.refs) → Finds stored column from value found
   finds_taken found are = record {
     matches = (taken, λ at among is. ap (may_be from value) is ∙ itself, are);
@@ -84,11 +84,11 @@ module _ (stored : StoredRows) (column : ℕ) (from : Among) (value : Value) (it
 -- ---- in an index
 
 module _ (stored : StoredRows) (kept : IsKept stored.places.types stored.key (slot_at stored.places) stored.refs stored.indexes) where
-  -- All references are live, ..
+  -- All references are live.
   pub all_live : All (IsLive stored.places) stored.refs
   all_live k d within = (kept.held (get_or stored.refs k d)).0 (Contains-get_or stored.refs k d within)
 
-  -- .. their rows have each column, ..
+  -- Each row has the column.
   placed : (column : ℕ) → column < length stored.places.types → (value : Value)
       → All (λ at. has_value column (slot_at stored.places) value at ≡ is_eq (value_cmp (value_in column (row_at (slot_at stored.places) at)) value))
       stored.refs
@@ -109,7 +109,7 @@ module _ (stored : StoredRows) (kept : IsKept stored.places.types stored.key (sl
   column_there (index.Tree place) column on = column_in stored kept place column kind.Tree on
   column_there (index.Hash place) column on = column_in stored kept place column kind.Hash on
 
-  -- .. and what is found in an index by a value are the references of all that have it.
+  -- The references that an index finds for a value are those of all rows with it.
   pub finds_matches : (at : IndexRef) (column : ℕ) → column < length stored.places.types → (value : Value) (found : List RowRef)
       → AreMatches column (slot_at stored.places) value stored.refs found → Finds stored column (among.Index at) value found
   finds_matches at column below value found are =
@@ -119,7 +119,7 @@ module _ (stored : StoredRows) (kept : IsKept stored.places.types stored.key (sl
       (λ at. is_eq (value_cmp (value_in column (row_at (slot_at stored.places) at)) value)) stored.refs (placed column below value))
       are)
 
-  -- What has all rows of a value is live.
+  -- References of rows with a value are live.
   pub have_live : (column : ℕ) (value : Value) (found : List RowRef) → HaveMatches column (slot_at stored.places) value stored.refs found
       → All (IsLive stored.places) found
   have_live column value found (passes, all, same) =
@@ -149,7 +149,7 @@ module _ (column : ℕ) (now : Slots) (hash : ℕ) where
       subst (IsPermutation found) (refs_of_rows refs)
       (IsPermutation-trans found (refs_of hash pairs) (refs_of hash (map (hashed_row column now) refs)) are moved)
 
--- A row more that is put into a hash table.
+-- A hash table with one more row.
 pub hashed_more : (column : ℕ) (now : Slots) (old new : List (ℕ × RowRef)) (done : List RowRef) (at : RowRef) (hash : ℕ)
     → IsPermutation old (map (hashed_row column now) done) → IsPermutation new ((hash, at) ∷ old)
     → hash ≡ value_hash (value_in column (row_at now at)) → IsPermutation new (map (hashed_row column now) (done ++ at ∷ []))
@@ -160,7 +160,7 @@ hashed_more column now old new done at hash held put is =
     (IsPermutation-push_more pairs old new (hashed_row column now at) (IsPermutation-sym old pairs held)
     (IsPermutation-sym new (hashed_row column now at ∷ old) (subst (λ n. IsPermutation new ((n, at) ∷ old)) is put))))
 
--- All rows are in it when those along a walk are.
+-- A hash table of the rows of a walk contains all rows.
 pub hashed_all : (column : ℕ) (now : Slots) (pairs : List (ℕ × RowRef)) (walk refs : List RowRef)
     → IsPermutation pairs (map (hashed_row column now) walk) → IsPermutation walk refs → IsPermutation pairs (map (hashed_row column now) refs)
 hashed_all column now pairs walk refs held same =
@@ -169,7 +169,7 @@ hashed_all column now pairs walk refs held same =
 
 -- ---- along a walk
 
--- The run of a prefix is of the rows whose values there have it.
+-- The entries with a prefix are those of the rows whose values have the prefix.
 pub run_of_walk : (column : ℕ) (now : Slots) (prefix : ℕ) (entries : List Entry) (walk refs : List RowRef) → IsPermutation walk refs
     → entries ≡ map (entry_of column now) walk
     → IsPermutation (map (λ (entry : Entry). entry.at) (filter (λ entry. entry.prefix == prefix) entries))
@@ -188,7 +188,7 @@ none_kept : (refs : List RowRef) → filter (λ at. false) refs ≡ []
 none_kept [] = refl
 none_kept (at ∷ refs) = none_kept refs
 
--- No row has a whole number past 64 bits, so no reference is needed to have all that have it.
+-- No row has an integer past 64 bits, so an empty list includes all rows that do.
 pub finds_none : (stored : StoredRows) (column : ℕ) (from : Among) (number : ℤ) (found : List RowRef) → AreRowsStorable stored.places
     → ¬ FitsSigned w64 number → found ≡ [] → Finds stored column from (Int number) found
 finds_none stored column from number found all past empty = record {
@@ -202,9 +202,9 @@ finds_none stored column from number found all past empty = record {
   few = omega (arith, ap length empty);
 }
 
--- ---- where no entry has a prefix
+-- ---- prefixes without an entry
 
--- Where no entry of a walk has the prefix of a value, no row has the value.
+-- If no entry of a walk has the prefix of a value, no row has the value.
 pub none_along : (stored : StoredRows) (column : ℕ) (value : Value) (prefix : ℕ) (entries : List Entry) (walk : List RowRef) → IsPermutation walk stored.refs
     → entries ≡ map (entry_of column (slot_at stored.places)) walk → order_prefix value ≡ prefix
     → filter (λ (entry : Entry). entry.prefix == prefix) entries ≡ [] → HaveMatches column (slot_at stored.places) value stored.refs []

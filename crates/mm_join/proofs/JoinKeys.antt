@@ -1,4 +1,4 @@
--- What an atom that is a join equality asks of a column.
+-- The requirements of join equalities.
 use Rattle.std.proofs.Common.{◌≡◌, ◌⊎◌, inl, inr, ℕ, zero, suc, ◌<◌, ℤ, neg_ℤ, true, List, [], ◌∷◌, ◌++◌, Option, Some, None, get_or, length, map, refl, sym}
 use Rattle.std.proofs.Common.{ap, ◌∙◌, subst, arith}
 use Rattle.std.specs.Prelude.{pos, ◌+ℤ◌}
@@ -22,7 +22,7 @@ use Rattle.mm_join.specs.Equated.{IsJoin, sought}
 use Rattle.mm_join.specs.declared.key.JoinKey.{JoinKey}
 use Rattle.mm_join.specs.declared.key.Shift.TheVariants as shift
 
--- A shift by nothing leaves a value, ..
+-- A shift by 0 leaves a value unchanged.
 pub shifted_by_0 : (value : Value) → shifted (pos 0) value ≡ value
 shifted_by_0 (Int number) = ap Int (plus_0 number)
   where
@@ -30,12 +30,12 @@ shifted_by_0 (Int number) = ap Int (plus_0 number)
     plus_0 k = omega (arith, ints)
 shifted_by_0 (Text text) = refl
 
--- .. and one back takes one away.
+-- The negated shift undoes a shift.
 shifted_back : (by : ℤ) (value : Value) → shifted (neg_ℤ by) (shifted by value) ≡ value
 shifted_back by (Int number) = ap Int (+ℤ-neg_ℤ_cancel number by)
 shifted_back by (Text text) = refl
 
--- ---- the rows of a combination with one more behind them
+-- ---- the rows of a combination, followed by one more
 
 behind_is : (rows : List Row) (row : Row) → get_or (map Some rows ++ Some row ∷ []) (length rows) None ≡ Some row
 behind_is [] row = refl
@@ -47,7 +47,7 @@ front_is [] row place within = absurd (omega (arith, within))
 front_is (x ∷ rows) row zero within = (x, refl, refl)
 front_is (x ∷ rows) row (suc place) within = front_is rows row place (omega (arith, within))
 
--- The operand is a field with a number added.
+-- The operand is a field plus a number.
 abbrev pub IsSum : Atom FieldPlace → FieldPlace → ℤ → Type 0
 IsSum atom right by = (read : FieldPlace → Option Value) → operand_of read atom.right ≡ option_map (shifted by) (read right)
 
@@ -69,7 +69,7 @@ module _ (rows : List Row) (row : Row) where
 
   module _ (atoms : List (Atom FieldPlace)) (atom : Atom FieldPlace) (among : Contains atoms atom) (equal : atom.comparison ≡ Equal)
       (fits : none_fails atoms all ≡ true) (right : FieldPlace) (by : ℤ) (is_sum : IsSum atom right by) where
-    -- The left side is the right one with the number added.
+    -- The left side equals the right side plus the number.
     told : (a b : Value) → value_at all atom.left ≡ Some a → value_at all right ≡ Some b → a ≡ shifted by b
     told a b is_a is_b =
         value_cmp_exact a (shifted by b)
@@ -77,17 +77,17 @@ module _ (rows : List Row) (row : Row) where
         (sym (λ i. holds_of (equal i) (is_a i) ((is_sum (value_at all) ∙ ap (option_map (shifted by)) is_b) i))
         ∙ holds_each atoms all atom among fits))
 
-    -- What is asked of a row whose column is on the left, ..
+    -- The required value, if the row's column is on the left.
     pub left_asked : atom.left.place ≡ length rows → right.place < length rows → value_in atom.left.column row ≡ shifted by (own right)
     left_asked is within = told (value_in atom.left.column row) (own right) (inner_value atom.left is) (outer_value right within)
 
-    -- .. and of one whose column is on the right.
+    -- The required value, if the row's column is on the right.
     pub right_asked : right.place ≡ length rows → atom.left.place < length rows → value_in right.column row ≡ shifted (neg_ℤ by) (own atom.left)
     right_asked is within =
         sym (shifted_back by (value_in right.column row))
         ∙ ap (shifted (neg_ℤ by)) (sym (told (own atom.left) (value_in right.column row) (outer_value atom.left within) (inner_value right is)))
 
--- What such an atom among others asks for, whichever side the column is on.
+-- Such an atom requires the key's value, whichever side the column is on.
 pub is_join : (atom : Atom FieldPlace) → atom.comparison ≡ Equal → (right : FieldPlace) (by : ℤ) → IsSum atom right by → (place : ℕ) (key : JoinKey)
     → ((atom.left.place ≡ place) × (right.place < place) × (key ≡ record { column = atom.left.column; field = right; shift = shift.Plus by }))
     ⊎ ((right.place ≡ place) × (atom.left.place < place) × (key ≡ record { column = right.column; field = atom.left; shift = shift.Minus by }))
@@ -101,7 +101,7 @@ is_join atom equal right by is_sum place key (inr (is, within, same)) atoms oute
     subst (λ (k : JoinKey). value_in k.column row ≡ sought k (map Some rows)) (sym same)
     (right_asked rows row atoms atom among equal fits right by is_sum (is ∙ sym there) (subst (λ n. atom.left.place < n) (sym there) within))
 
--- A column is itself with 0 added.
+-- A column equals itself plus 0.
 pub column_is_sum : (value : Option Value) → value ≡ option_map (shifted (pos 0)) value
 column_is_sum None = refl
 column_is_sum (Some value) = ap Some (sym (shifted_by_0 value))

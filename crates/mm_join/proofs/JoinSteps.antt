@@ -31,10 +31,10 @@ use Rattle.mm_join.specs.Joined.{joined}
 abbrev pub Row : Type 0
 Row = List Value
 
--- ---- a combination of more tables
+-- ---- a combination of one more table
 
 module _ {X : Type 0} where
-  -- each list with each element behind it
+  -- each list followed by each element
   abbrev behind : List (List X) → List X → List (List X)
   behind outers next = flat_map (λ outer. map (λ x. outer ++ x ∷ []) next) outers
 
@@ -55,15 +55,15 @@ module _ {X : Type 0} where
   singles [] = refl
   singles (x ∷ next) = ap (λ l. (x ∷ []) ∷ l) (singles next)
 
-  -- The combinations with one list more are those of the others with each of its elements behind them.
+  -- The combinations of one list more are those of the others, each followed by each element of that list.
   combinations_behind : (lists : List (List X)) (next : List X) → combinations (lists ++ next ∷ []) ≡ behind (combinations lists) next
   combinations_behind [] next = singles next
   combinations_behind (xs ∷ lists) next =
       ap (λ l. flat_map (λ x. map (λ c. x ∷ c) l) xs) (combinations_behind lists next) ∙ sym (behind_fronts (combinations lists) next xs)
 
--- ---- an atom that is false stays so
+-- ---- an atom that is false stays false
 
--- A value is as it will be, or not known yet.
+-- The value is known and stays the same, or it is not known yet.
 abbrev IsKnown : {X : Type 0} → Option X → Option X → Type 0
 IsKnown now then = (now ≡ None) ⊎ (now ≡ then)
 
@@ -112,7 +112,7 @@ module _ (c : List Row) (row : Row) where
       (known_value atom.left) (known_operand atom.right) parts.0 in
       λ i. first i && held atoms parts.1 i
 
-  -- What does not fit, fits with no further row.
+  -- A combination that does not fit does not fit with a further row either.
   stays_unfit : (atoms : List (Atom FieldPlace)) → none_fails atoms (map Some c) ≡ false → none_fails atoms (map Some (c ++ row ∷ [])) ≡ false
   stays_unfit atoms unfit =
       elim (cases_Bool (none_fails atoms (map Some (c ++ row ∷ [])))) [
@@ -120,7 +120,7 @@ module _ (c : List Row) (row : Row) where
         | inr unfit' ↦ unfit'
       ]
 
--- ---- what fits of the extended combinations
+-- ---- the extended combinations that fit
 
 module _ {X Y : Type 0} (p : Y → Bool) (f : X → List Y) where
   filter-flat_map : (xs : List X) → filter p (flat_map f xs) ≡ flat_map (λ x. filter p (f x)) xs
@@ -128,7 +128,7 @@ module _ {X Y : Type 0} (p : Y → Bool) (f : X → List Y) where
   filter-flat_map (x ∷ xs) = filter-append p (f x) (flat_map f xs) ∙ ap (λ l. filter p (f x) ++ l) (filter-flat_map xs)
 
 module _ {X Y : Type 0} (q : X → Bool) (f : X → List Y) (empty : (x : X) → q x ≡ false → f x ≡ []) where
-  -- Elements that give nothing may be left out.
+  -- Elements with an empty result can be left out.
   flat_map-filter : (xs : List X) → flat_map f (filter q xs) ≡ flat_map f xs
   flat_map-filter [] = refl
   flat_map-filter (x ∷ xs) = by (q x) refl (flat_map-filter xs)
@@ -142,7 +142,7 @@ module _ (atoms : List (Atom FieldPlace)) where
   abbrev pub fits : List Row → Bool
   fits c = none_fails atoms (map Some c)
 
-  -- what fits of a combination with each row behind it
+  -- the extensions of a combination by a row that fit
   abbrev pub fitting_behind : List Row → List Row → List (List Row)
   fitting_behind next outer = filter fits (map (λ row. outer ++ row ∷ []) next)
 
@@ -177,13 +177,13 @@ module _ {X Y : Type 0} (same : Y → Y → Bool) (told : (a b : Y) → same a b
       sum_by-append (λ z. cond (same y z) 1 0) (f x) (flat_map f xs)
       ∙ (ap (λ n. count y (f x) + n) (counted y xs) ∙ sym (sum_by-cons (λ x. count y (f x)) x xs))
 
-  -- What is made of the elements of one bag is what is made of those of another that is the same.
+  -- Permuted lists have permuted results.
   IsPermutation-flat_map : (xs ys : List X) → IsPermutation xs ys → IsPermutation (flat_map f xs) (flat_map f ys)
   IsPermutation-flat_map xs ys moved =
       IsPermutation-from_counts same told itself (flat_map f xs) (flat_map f ys)
       (λ y. counted y xs ∙ (sym (sum_by-IsPermutation (λ (x : X). count y (f x)) xs ys moved) ∙ sym (counted y ys)))
 
--- Two combinations are one.
+-- Two combinations are equal.
 abbrev same_combination : List Row → List Row → Bool
 same_combination [] [] = true
 same_combination (x ∷ xs) (y ∷ ys) = same_row x y && same_combination xs ys
@@ -202,7 +202,7 @@ same_itself : (xs : List Row) → same_combination xs xs ≡ true
 same_itself [] = refl
 same_itself (x ∷ xs) = λ i. is_eq (tied_itself row_cmp_total x i) && same_itself xs i
 
--- A join of the fitting combinations of some tables with the rows of a further one gives those of them all.
+-- Joining the fitting combinations of some tables with the rows of a further table gives the fitting combinations of them all.
 pub joined_fitting : (atoms : List (Atom FieldPlace)) (lists outers : List (List (List Value))) (next : List (List Value))
     → IsPermutation outers (fitting atoms lists) → IsPermutation (joined atoms outers next) (fitting atoms (lists ++ next ∷ []))
 joined_fitting atoms lists outers next same =

@@ -1,4 +1,4 @@
--- Prefixes stand along a column as the values do.
+-- Prefixes along a column have the order of the values.
 use Rattle.std.proofs.Common.{◌≡◌, ◌≢◌, ℕ, ◌+◌, ◌<◌, ◌≤◌, List, Option, None, Some, inl, inr, get_or, length, map, refl, sym, ap, ◌∙◌, subst, arith}
 use Rattle.std.proofs.Math.Nat.{min-le_left}
 use Rattle.std.specs.Prelude.{MatchOption, min, pos, slice_get}
@@ -29,7 +29,7 @@ use Rattle.mm_join.specs.declared.entries.Entry.{Entry}
 
 -- ---- values
 
--- Prefixes rise with the values.
+-- A value that is not greater has a prefix that is not greater.
 prefixes_rise : (v w : Value) (o : Ordering) → value_cmp v w ≡ o → o ≢ Greater → order_prefix v ≤ order_prefix w
 prefixes_rise v w Less is not = prefixes_keep v w is
 prefixes_rise v w Equal is not = let same : order_prefix v ≡ order_prefix w = ap order_prefix (value_cmp_exact v w is) in omega arith
@@ -38,7 +38,7 @@ prefixes_rise v w Greater is not = absurd (not refl)
 -- ---- along a walk
 
 module _ (column key : ℕ) (slots : Slots) where
-  -- the prefix of what the row has in the column
+  -- the prefix of the row's value in the column
   abbrev prefix_of : RowRef → ℕ
   prefix_of at = order_prefix (value_in column (row_at slots at))
 
@@ -55,7 +55,7 @@ module _ (column key : ℕ) (slots : Slots) where
       (λ e. then_less (column_cmp column (row_at slots a) (row_at slots b)) (column_cmp key (row_at slots a) (row_at slots b))
       (nat_cmp a.slot b.slot) less (by_column ∙ e))
 
--- The entries of a walk rise.
+-- The prefixes along a walk are in ascending order.
 pub walk_rises : (column : ℕ) (stored : StoredRows) (walk : List RowRef) → IsWalk column stored walk
     → AreRising (map (entry_of column (slot_at stored.places)) walk)
 walk_rises column stored walk is_walk =
@@ -78,9 +78,9 @@ walk_rises column stored walk is_walk =
     ] in
     omega (arith, one, other, rises))
 
--- ---- what a prefix is of
+-- ---- the value of a prefix
 
--- What a row has in a column whose prefix is known is the value that reads there.
+-- A column whose prefix is known has a value, and the prefix is that of the value.
 read_from : (row : List Value) (column : ℕ) (prefix : ℕ) (o : Option Value) → slice_get row column ≡ o → option_map order_prefix o ≡ Some prefix
     → order_prefix (value_in column row) ≡ prefix
 read_from row column prefix None is has = cc
@@ -97,7 +97,7 @@ pub unwrapped : (o : Option Value) (prefix : ℕ) → option_map order_prefix o 
 unwrapped None prefix is = cc
 unwrapped (Some v) prefix is = cc
 
--- A prefix that was returned counts as one read.
+-- A returned prefix counts as one read.
 pub one_read : (most : ℕ) (prefix : Option ℕ) (before after : ℕ) → MatchOption prefix (after ≡ before) (λ p. after ≡ min (before + 1) most) → after ≤ before + 1
 one_read most None before after counted = omega (arith, counted)
 one_read most (Some p) before after counted = omega (arith, counted, min-le_left (before + 1) most)

@@ -1,4 +1,4 @@
--- How far a join has come.
+-- The state of a join after some combinations of the outer list.
 use Rattle.std.proofs.Common.{◌≡◌, ℕ, zero, suc, ◌+◌, ◌<◌, ◌≤◌, List, [], ◌∷◌, ◌++◌, Some, None, get_or, drop, length, map, take, refl, sym, ap, ◌∙◌, subst}
 use Rattle.std.proofs.Common.{arith, length-append}
 use Rattle.std.specs.List.{All, filter, flat_map, slice_get, sum_by}
@@ -29,17 +29,17 @@ use Rattle.mm_join.proofs.JoinSteps.{Row, fits, fitting_behind, joined_each}
 use Rattle.mm_join.specs.Joined.{joined}
 use Rattle.mm_join.specs.AccessMethods.{AreCandidates}
 
--- ---- an element that is there
+-- ---- an element of a list
 
 module _ {X : Type 0} (xs : List X) (i : ℕ) (x : X) (there : slice_get xs i ≡ Some x) where
   got : get_or xs i x ≡ x
   got = let is : Some (get_or xs i x) ≡ Some x = sym (slice_get-get_or xs i x (slice_get_within xs i x there)) ∙ there in cc
 
-  -- What holds of all holds of it, ..
+  -- A property of all elements holds for this one.
   pub holds_there : (P : X → Type 0) → All P xs → P x
   holds_there P all = subst P got (All-get_or P xs i x (slice_get_within xs i x there) all)
 
-  -- .. and it stands behind those before it.
+  -- The element follows those before it.
   taken : take (i + 1) xs ≡ take i xs ++ x ∷ []
   taken = take_more xs i x (slice_get_within xs i x there) ∙ ap (λ y. take i xs ++ y ∷ []) got
 
@@ -55,7 +55,7 @@ live_length store [] (r ∷ refs) live = absurd live
 live_length store (t ∷ tables) [] live = absurd live
 live_length store (t ∷ tables) (r ∷ refs) live = ap suc (live_length store tables refs live.1)
 
--- The table behind those of the outer list.
+-- The table after those of the outer list.
 last_is : (front : List ℕ) (x : ℕ) → get_or (front ++ x ∷ []) (length front) 0 ≡ x
 last_is [] x = refl
 last_is (y ∷ ys) x = last_is ys x
@@ -63,16 +63,16 @@ last_is (y ∷ ys) x = last_is ys x
 pub next_table : (places outers tables : List ℕ) (table : ℕ) → places ≡ outers → tables ≡ outers ++ table ∷ [] → get_or tables (length places) 0 ≡ table
 next_table places outers tables table same is = (λ i. get_or (is i) (length (same i)) 0) ∙ last_is outers table
 
--- There is one table more than a combination of the outer list has references.
+-- There is one more table than a combination of the outer list has references.
 pub one_wider : (store : Tables) (outers tables : List ℕ) (front : List RowRef) (table : ℕ) → AreLive store outers front → tables ≡ outers ++ table ∷ []
     → length front + 1 ≡ length tables
 one_wider store outers tables front table live is =
     omega (arith, live_length store outers front live, ap length is, length-append outers (table ∷ []))
 
--- ---- one reference more
+-- ---- one more reference
 
 module _ (store : Tables) (table : ℕ) (at : RowRef) where
-  -- Its row is put behind the others, ..
+  -- Its row is appended to the others.
   rows_behind : (tables : List ℕ) (front : List RowRef) → AreLive store tables front
       → rows_of_combo store (tables ++ table ∷ []) (front ++ at ∷ []) ≡ rows_of_combo store tables front ++ row_of store table at ∷ []
   rows_behind [] [] live = refl
@@ -80,7 +80,7 @@ module _ (store : Tables) (table : ℕ) (at : RowRef) where
   rows_behind (t ∷ tables) [] live = absurd live
   rows_behind (t ∷ tables) (r ∷ refs) live = ap (λ l. row_of store t r ∷ l) (rows_behind tables refs live.1)
 
-  -- .. and it is live where they are.
+  -- The longer combination is live.
   live_behind : (tables : List ℕ) (front : List RowRef) → AreLive store tables front
       → (stored : StoredRows) → IsAt store table stored → IsLive stored.places at → AreLive store (tables ++ table ∷ []) (front ++ at ∷ [])
   live_behind [] [] live stored here is = ((stored, here, is), tt)
@@ -120,7 +120,7 @@ module _ (store : Tables) (tables : List ℕ) (table : ℕ) (atoms : List (Atom 
         ∙ (ap (filter (fits atoms)) (sym (map-map (λ (row : Row). outer ++ row ∷ []) (row_of store table) refs))
         ∙ ap (λ rows. filter (fits atoms) (map (λ (row : Row). outer ++ row ∷ []) rows)) all))
 
-    -- The matches of candidates that cover what fits have the rows that fit.
+    -- The matches of candidates that include all that fit have the rows that fit.
     found_fit : (candidates : List RowRef) → Covers store table atoms (map Some outer) candidates
         → IsPermutation (map rows_of (found front candidates)) (fitting_behind atoms next outer)
     found_fit candidates covers =
@@ -130,7 +130,7 @@ module _ (store : Tables) (tables : List ℕ) (table : ℕ) (atoms : List (Atom 
         (IsPermutation-map (λ at. outer ++ row_of store table at ∷ []) (matching store table atoms (map Some outer) candidates)
         (matching store table atoms (map Some outer) covers.0) covers.2))
 
-    -- They are live where the candidates are.
+    -- The matches are live if the candidates are.
     found_live : (stored : StoredRows) → IsAt store table stored → (candidates : List RowRef) → All (IsLive stored.places) candidates
         → All (AreLive store (tables ++ table ∷ [])) (found front candidates)
     found_live stored here candidates all =
@@ -142,7 +142,7 @@ module _ (store : Tables) (tables : List ℕ) (table : ℕ) (atoms : List (Atom 
 
 -- ---- one combination after another
 
--- Of so many combinations of the outer list all that fits was found, and nothing else.
+-- Exactly the fitting combinations that extend the first ones of the outer list were found.
 pub record Progress (store : Tables) (tables : List ℕ) (table : ℕ) (atoms : List (Atom FieldPlace)) (fronts : List (List RowRef)) (i : ℕ)
     (combos : List (List RowRef)) : Type 0 where
   pub rows : IsPermutation (map (rows_of_combo store (tables ++ table ∷ [])) combos)
@@ -183,7 +183,7 @@ module _ (store : Tables) (tables : List ℕ) (table : ℕ) (atoms : List (Atom 
             (found_live store tables table atoms front front_live stored here candidates live);
       }
 
-  -- With the candidates of the next combination a join is a combination further.
+  -- After the candidates of the next combination, the join has processed one combination more.
   pub candidates_step : (i : ℕ) (combos : List (List RowRef)) (front : List RowRef) (rows : Partial) (candidates : List RowRef) (most : ℕ)
       → table < length store.tables → All (AreLive store tables) fronts → slice_get fronts i ≡ Some front
       → rows ≡ map Some (rows_of_combo store tables front) → AreCandidates store table atoms (rows_of_combo store tables front) most candidates
@@ -194,7 +194,7 @@ module _ (store : Tables) (tables : List ℕ) (table : ℕ) (atoms : List (Atom 
       subst (λ r. Progress store tables table atoms fronts (i + 1) (combos ++ matches store table atoms r front candidates)) (sym chosen)
       (progress_next i combos front candidates stored all there here (are.live stored here) are.cover so_far)
 
-  -- Where nothing fits behind it, it is a combination further with nothing added.
+  -- If nothing fits with the combination, the join has processed it without adding any.
   pub none_step : (i : ℕ) (combos : List (List RowRef)) (front : List RowRef) (most : ℕ) → table < length store.tables
       → All (AreLive store tables) fronts → slice_get fronts i ≡ Some front
       → AreCandidates store table atoms (rows_of_combo store tables front) most []
@@ -203,7 +203,7 @@ module _ (store : Tables) (tables : List ℕ) (table : ℕ) (atoms : List (Atom 
       subst (Progress store tables table atoms fronts (i + 1)) (append-nil combos)
       (candidates_step i combos front (map Some (rows_of_combo store tables front)) [] most within all there refl are so_far)
 
-  -- No more was found than there is, ..
+  -- No more combinations were found than the join has.
   pub progress_few : (i : ℕ) (combos : List (List RowRef)) → Progress store tables table atoms fronts i combos
       → length combos ≤ length (joined atoms outers (rows_at store.tables table))
   progress_few i combos so_far =
@@ -219,7 +219,7 @@ module _ (store : Tables) (tables : List ℕ) (table : ℕ) (atoms : List (Atom 
         length-append (behind_each (take i outers)) (behind_each (drop i outers)),
       )
 
-  -- .. and in the end all was.
+  -- At the end all were found.
   pub progress_done : (i : ℕ) (combos : List (List RowRef)) → length fronts ≤ i → Progress store tables table atoms fronts i combos
       → IsPermutation (map (rows_of_combo store (tables ++ table ∷ [])) combos) (joined atoms outers (rows_at store.tables table))
   progress_done i combos past so_far =
@@ -228,15 +228,15 @@ module _ (store : Tables) (tables : List ℕ) (table : ℕ) (atoms : List (Atom 
       ∙ sym (joined_each atoms outers (rows_at store.tables table)))
       so_far.rows
 
--- ---- the end
+-- ---- the result
 
 module _ (store : Tables) (outer : Combos) (descriptor : List ℕ) (atoms : List (Atom FieldPlace)) (table t : ℕ) (same : t ≡ table)
     (is : descriptor ≡ outer.tables ++ table ∷ []) where
-  -- what the join gives
+  -- the result of the join
   abbrev whole : List (List Row)
   whole = joined atoms (combo_rows store outer) (rows_at store.tables table)
 
-  -- What is past the cap on the way is past it in the end.
+  -- If the combinations so far exceed the cap, all combinations do.
   pub due_on_way : (cap i : ℕ) (tried : List (List RowRef)) (refusal : Refusal) → Progress store outer.tables t atoms outer.combos i tried
       → first_refusal (cap_conditions cap tried) ≡ Some refusal → first_refusal (cap_conditions cap whole) ≡ Some refusal
   due_on_way cap i tried refusal so_far due =
@@ -268,7 +268,7 @@ module _ (store : Tables) (outer : Combos) (descriptor : List ℕ) (atoms : List
     pub live_end : All (AreLive store list.tables) list.combos
     live_end = subst (λ ts. All (AreLive store ts) list.combos) own_tables so_far.live
 
--- ---- what each combination costs
+-- ---- the rows read for each combination
 
 module _ (cost : List Row → ℕ) (store : Tables) (outer : Combos) (i : ℕ) (front : List RowRef) (at : slice_get outer.combos i ≡ Some front) where
   mapped : slice_get (combo_rows store outer) i ≡ Some (rows_of_combo store outer.tables front)
@@ -280,12 +280,12 @@ module _ (cost : List Row → ℕ) (store : Tables) (outer : Combos) (i : ℕ) (
   rows_there : get_or (combo_rows store outer) i [] ≡ rows_of_combo store outer.tables front
   rows_there = get_or_from_slice_get (combo_rows store outer) i (rows_of_combo store outer.tables front) [] mapped
 
-  -- The sum so far, with the cost of the next combination, ..
+  -- The sum so far, plus the cost of the next combination.
   pub one_more : sum_by cost (take (i + 1) (combo_rows store outer))
       ≡ sum_by cost (take i (combo_rows store outer)) + cost (rows_of_combo store outer.tables front)
   one_more = sum_by_more cost (combo_rows store outer) i [] within ∙ ap (λ r. sum_by cost (take i (combo_rows store outer)) + cost r) rows_there
 
-  -- .. which is within the whole sum.
+  -- This is at most the whole sum.
   pub one_more_within : sum_by cost (take i (combo_rows store outer)) + cost (rows_of_combo store outer.tables front) ≤ sum_by cost (combo_rows store outer)
   one_more_within =
       subst (λ (r : List Row). sum_by cost (take i (combo_rows store outer)) + cost r ≤ sum_by cost (combo_rows store outer)) rows_there

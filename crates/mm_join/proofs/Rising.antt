@@ -1,4 +1,4 @@
--- Entries whose prefixes do not fall.
+-- Entries with ascending prefixes.
 use Rattle.std.proofs.Common.{◌≡◌, ℕ, ◌+◌, ◌-◌, ◌<◌, ◌≤◌, Bool, false, List, [], ◌++◌, inl, inr, get_or, drop, length, take, sym, ap, ◌∙◌, arith, length-drop}
 use Rattle.std.specs.Prelude.{◌==◌}
 use Rattle.std.specs.List.{All, filter}
@@ -9,10 +9,10 @@ use Rattle.mm_order.proofs.Filtered.{filter-none}
 use Rattle.mm_join.specs.Entries.{AreRising}
 use Rattle.mm_join.specs.declared.entries.Entry.{Entry}
 
--- ---- before an entry, and from it on
+-- ---- before an entry, and from an entry on
 
 module _ (entries : List Entry) (rising : AreRising entries) (prefix : ℕ) (n : ℕ) (d : Entry) (within : n < length entries) where
-  -- Up to an entry that is less all are, ..
+  -- All entries up to one that is less are less.
   pub less_up_to : (get_or entries n d).prefix < prefix → All (λ entry. entry.prefix < prefix) (take (n + 1) entries)
   less_up_to less k e inside =
       let below : k < n + 1 = omega (arith, inside, length-take-le (n + 1) entries (omega (arith, within))) in
@@ -24,7 +24,7 @@ module _ (entries : List Entry) (rising : AreRising entries) (prefix : ℕ) (n :
         ap (λ (x : Entry). x.prefix) (get_or_default entries n e d within),
       )
 
-  -- .. and from one on that is not none is.
+  -- No entry from one on that is not less is less.
   pub not_less_from : prefix ≤ (get_or entries n d).prefix → All (λ entry. prefix ≤ entry.prefix) (drop n entries)
   not_less_from not k e inside =
       let there : n + k < length entries = omega (arith, inside, length-drop n entries) in
@@ -47,7 +47,7 @@ module _ (entries : List Entry) (rising : AreRising entries) (prefix : ℕ) (n :
         ap (λ (x : Entry). x.prefix) (get_or_default entries n e d within),
       )
 
--- ---- the run of a prefix
+-- ---- the entries with a prefix
 
 module _ (prefix : ℕ) where
   -- the entry has the prefix
@@ -68,14 +68,14 @@ module _ (prefix : ℕ) where
   none_greater entries greater =
       filter-none has entries (λ k d inside. has_not (get_or entries k d) (λ is. omega (arith, is, greater k d inside)))
 
-  -- The run lies behind all entries that are less, ..
+  -- The entries with the prefix are after all that are less.
   pub run_behind : (entries : List Entry) (first : ℕ) → All (λ entry. entry.prefix < prefix) (take first entries)
       → filter has (drop first entries) ≡ filter has entries
   run_behind entries first before =
       ap (λ xs. xs ++ filter has (drop first entries)) (sym (none_less (take first entries) before))
       ∙ (sym (filter-append has (take first entries) (drop first entries)) ∙ ap (filter has) (take-append-drop first entries))
 
-  -- .. and ends before one that is greater.
+  -- They end before an entry that is greater.
   pub run_ends : (entries : List Entry) → AreRising entries → (n : ℕ) (d : Entry) → n < length entries → prefix < (get_or entries n d).prefix
       → filter has (take n entries) ≡ filter has entries
   run_ends entries rising n d within greater =
@@ -84,7 +84,7 @@ module _ (prefix : ℕ) where
       (sym (none_greater (drop n entries) (greater_from entries rising prefix n d within greater)))
       ∙ (sym (filter-append has (take n entries) (drop n entries)) ∙ ap (filter has) (take-append-drop n entries)))
 
-  -- Where the first entry that is not less has another prefix, or there is none, no entry has it.
+  -- If the first entry that is not less has another prefix, or if there is none, no entry has the prefix.
   pub none_at : (entries : List Entry) → AreRising entries → (first : ℕ) (d : Entry) → first < length entries
       → All (λ entry. entry.prefix < prefix) (take first entries) → All (λ entry. prefix ≤ entry.prefix) (drop first entries)
       → has (get_or entries first d) ≡ false → filter has entries ≡ []
@@ -111,6 +111,6 @@ module _ (prefix : ℕ) where
   none_past entries first past before =
       ap (filter has) (sym (take_all first entries past)) ∙ none_less (take first entries) before
 
--- What is left of a list is the rest of it.
+-- The remaining elements of a list, all of them, are its rest.
 pub rest_of : {X : Type 0} (xs : List X) (n : ℕ) → take (length xs - n) (drop n xs) ≡ drop n xs
 rest_of xs n = take_all (length xs - n) (drop n xs) (omega (arith, length-drop n xs))

@@ -1,4 +1,4 @@
--- The row that a foreign key names is the only one with its key.
+-- The row that a foreign key refers to is the only one with its key.
 use Rattle.std.proofs.Common.{◌≡◌, ℕ, zero, suc, ◌<◌, List, [], ◌∷◌, None, Some, get_or, length, map, refl, sym, ap, ◌∙◌, subst, arith}
 use Rattle.std.specs.Prelude.{pos, slice_get}
 use Rattle.std.specs.List.{Contains}
@@ -33,11 +33,11 @@ use Rattle.mm_join.proofs.JoinKeys.{shifted_by_0}
 use Rattle.mm_join.proofs.Found.{finds_matches}
 use Rattle.mm_join.specs.Equated.{HaveMatches, IsPartner, plain_key, sought}
 
--- ---- the row of a key
+-- ---- the row with a key
 
 module _ (stored : StoredRows) (always : IsTable stored) (value : Value) (at : RowRef) (live : HasRow (slot_at stored.places) at)
     (own : slice_get (row_at (slot_at stored.places) at) stored.key ≡ Some value) where
-  -- The reference alone is all the matches of its key.
+  -- The matches of its key are this reference alone.
   one_of_key : AreMatches stored.key (slot_at stored.places) value stored.refs (at ∷ [])
   one_of_key =
       let place : RowRef → Ordering = place_by stored.key (slot_at stored.places) value in
@@ -47,7 +47,7 @@ module _ (stored : StoredRows) (always : IsTable stored) (value : Value) (at : R
       ∙ filter_agree (is_between place place) (has_value stored.key (slot_at stored.places) value) (λ other. not_apart (place other)) stored.refs)
       (IsPermutation-refl (at ∷ []))
 
--- ---- the row that a row of a combination refers to
+-- ---- the row that a combination's row refers to
 
 read_at : {X : Type 0} (xs : List X) (i : ℕ) (x d : X) → slice_get xs i ≡ Some x → get_or xs i d ≡ x
 read_at [] i x d is = cc
@@ -55,7 +55,7 @@ read_at (y ∷ ys) zero x d is = cc
 read_at (y ∷ ys) (suc i) x d is = read_at ys i x d is
 
 module _ (store : Tables) where
-  -- Each reference of a combination is live in its table, ..
+  -- Each reference of a combination is live in its table.
   pub live_at : (tables : List ℕ) (front : List RowRef) → AreLive store tables front → (k : ℕ) (d : RowRef) → k < length tables
       → (stored : StoredRows) × IsAt store (get_or tables k 0) stored × IsLive stored.places (get_or front k d)
   live_at [] [] live k d within = absurd (omega (arith, within))
@@ -64,7 +64,7 @@ module _ (store : Tables) where
   live_at (t ∷ tables) (r ∷ refs) live zero d within = live.0
   live_at (t ∷ tables) (r ∷ refs) live (suc k) d within = live_at tables refs live.1 k d (omega (arith, within))
 
-  -- .. and its row stands at its place.
+  -- The row of each reference is at its position.
   pub row_there : (tables : List ℕ) (front : List RowRef) → AreLive store tables front → (k : ℕ) (d : RowRef) → k < length tables
       → get_or (map Some (rows_of_combo store tables front)) k None ≡ Some (row_of store (get_or tables k 0) (get_or front k d))
   row_there [] [] live k d within = absurd (omega (arith, within))
@@ -90,7 +90,7 @@ module _ (store : Tables) where
           ∙ (ap (λ o. unwrap_or (option_map (value_in field.column) o) (Int (pos 0))) (row_there tables front live field.place d within)
           ∙ ap (value_in field.column) (row_here store from stored at source))
 
-      -- The row that is referred to is the only one that has the value as key.
+      -- The referenced row is the only one with the value as its key.
       followed_matches : (stored : StoredRows) → IsAt store from stored → (to : RowRef)
           → RefersTo field.column relation.key (slot_at relation.places) (row_at (slot_at stored.places) source) to
           → AreMatches relation.key (slot_at relation.places) (unwrap_or (value_at partial field) (Int (pos 0))) relation.refs (to ∷ [])
@@ -110,7 +110,7 @@ module _ (store : Tables) where
           ∙ read_at (row_at (slot_at stored.places) source) field.column (value_in relation.key (row_at slots to)) (Int (pos 0)) (refers.same ∙ key) in
           one_of_key relation always (unwrap_or (value_at partial field) (Int (pos 0))) to refers.live (key ∙ ap Some (sym same))
 
-      -- Found along a foreign key that refers to one table alone, it is all that has the value.
+      -- If the column refers to one table only, this row is the only one with the value.
       partner_matches : ((to : ℕ) → Contains store.links (record { from = from; column = field.column; to = to }) → to ≡ table)
           → (stored : StoredRows) → IsAt store from stored → (to : RowRef)
           → (target : StoredRows) × (place : ℕ) × Contains store.links (record { from = from; column = field.column; to = place })
@@ -121,7 +121,7 @@ module _ (store : Tables) where
           followed_matches stored at to
           (subst (λ (s : StoredRows). RefersTo field.column s.key (slot_at s.places) (row_at (slot_at stored.places) source) to) same refers)
 
-      -- So it has all rows of the value that the field's own value asks for.
+      -- So its reference includes all rows with the value that the field requires.
       pub partner_have : ((to : ℕ) → Contains store.links (record { from = from; column = field.column; to = to }) → to ≡ table)
           → (to : RowRef) → IsPartner store from field.column source to
           → HaveMatches relation.key (slot_at relation.places) (sought (plain_key relation.key field) partial) relation.refs (to ∷ [])

@@ -1,4 +1,4 @@
--- How far a loop has come along a walk.
+-- The state of a loop along a walk.
 use Rattle.std.proofs.Common.{◌≡◌, ℕ, ◌+◌, ◌≤◌, List, [], ◌∷◌, ◌++◌, length, sym, ap, ◌∙◌, arith, length-append}
 use Rattle.std.specs.List.Sorted.{IsPermutation}
 use Rattle.std.specs.Option.{option_map_or}
@@ -18,7 +18,7 @@ walk_length store table stored here walk same =
     sym (length_permutation walk stored.refs same)
     ∙ (sym (length-map stored.refs (row_at (slot_at stored.places))) ∙ ap (λ o. length (option_map_or rows_of o [])) (sym here))
 
--- What is done of it, and one more, is within it.
+-- The part of a walk that is done, and one more, is within the walk.
 pub done_within : (walk items done left rest : List RowRef) (at : RowRef) → items ≡ walk → items ≡ done ++ left → left ≡ at ∷ rest
     → length done + 1 ≤ length walk
 done_within walk items done left rest at is split next =

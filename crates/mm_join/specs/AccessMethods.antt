@@ -1,4 +1,4 @@
--- Access methods for the rows of a table that may stand behind a combination.
+-- Access methods for the rows of a table that may match a combination.
 use Rattle.std.specs.Prelude.{◌≡◌, ◌==◌, ℕ, ◌+◌, ◌<◌, ◌≤◌, Bool, List, Some, All, IsPermutation, length, map, slice_index}
 use Rattle.std.specs.List.{count_by}
 use Rattle.std.specs.Ordering.{is_eq}
@@ -28,37 +28,37 @@ use Rattle.mm_join.specs.declared.look_up.Among.TheVariants as among
 use Rattle.mm_join.specs.declared.access_methods.AccessMethod.{AccessMethod}
 use Rattle.mm_join.specs.declared.access_methods.AccessMethod.TheVariants as method
 
--- ---- what a value is looked up in
+-- ---- structures for look-ups by value
 
--- What a hash table over a column keeps of a row: the hash of its value there, and its reference.
+-- The entry of a row in a hash table over a column: the hash of its value there, and its reference.
 abbrev pub hashed_row : ℕ → Slots → RowRef → ℕ × RowRef
 hashed_row column now at = (value_hash (value_in column (row_at now at)), at)
 
--- It goes by the values that all rows have in the column.
+-- The structure finds rows by their values in the column, and contains all rows.
 abbrev pub IsAmong : StoredRows → ℕ → Among → Type 0
 IsAmong stored column (among.Index index) = IsIndexOn stored column index
 IsAmong stored column (among.Built pairs) = IsPermutation pairs.entries (map (hashed_row column (slot_at stored.places)) stored.refs)
 IsAmong stored column (among.Walk cursor) = (walk : List RowRef) × IsPermutation walk stored.refs
     × (cursor ≡ map (entry_of column (slot_at stored.places)) walk)
 
--- It may take a value for the one that is sought.
+-- The structure may return a row with the second value when the first is looked up.
 abbrev pub may_be : Among → Value → Value → Bool
 may_be (among.Index index) value own = is_eq (value_cmp own value)
 may_be (among.Built pairs) value own = value_hash own == value_hash value
 may_be (among.Walk cursor) value own = order_prefix own == order_prefix value
 
--- All rows of the table that have the value in the column are found, and no more rows than may be taken for such.
+-- All rows of the table with the value in the column are found, and no more rows than the structure may return.
 pub record Finds (stored : StoredRows) (column : ℕ) (from : Among) (value : Value) (found : List RowRef) : Type 0 where
   pub matches : HaveMatches column (slot_at stored.places) value stored.refs found
   pub few : length found ≤ count_by (λ row. may_be from value (value_in column row)) (rows_of stored)
 
 -- ---- access methods
 
--- The inner side of a join, where the further table is at a place.
+-- The inner side of a join, where the further table is at a position.
 abbrev pub inner_of : Join → ℕ → Inner
 inner_of join table = record { table = table; atoms = join.atoms; cap = join.cap }
 
--- The access method leads to rows of the further table, where the atoms ask for them.
+-- The access method finds rows of the further table that include all matches.
 abbrev pub IsAccessMethod : Tables → List ℕ → Inner → AccessMethod → Type 0
 IsAccessMethod store outers inner (method.All refs) = (stored : StoredRows) → IsAt store inner.table stored → IsPermutation refs.items stored.refs
 IsAccessMethod store outers inner (method.Followed field) = (stored : StoredRows) → IsAt store inner.table stored
@@ -67,14 +67,14 @@ IsAccessMethod store outers inner (method.Followed field) = (stored : StoredRows
 IsAccessMethod store outers inner (method.Sought look_up) = IsJoin inner.atoms.now outers look_up.key
     × ((stored : StoredRows) → IsAt store inner.table stored → IsAmong stored look_up.key.column look_up.among)
 
--- How many of the rows of the further table it may lead to behind a combination.
+-- The most rows of the further table that the access method finds for a combination.
 abbrev pub found_behind : AccessMethod → List (List Value) → List (List Value) → ℕ
 found_behind (method.All refs) rows combination = count_by (any_row (map Some combination)) rows
 found_behind (method.Followed field) rows combination = 1
 found_behind (method.Sought look_up) rows combination =
     count_by (λ row. may_be look_up.among (sought look_up.key (map Some combination)) (value_in look_up.key.column row)) rows
 
--- What the access method found, or the references of all rows where it leads to all.
+-- The references that the access method found, or those of all rows if it always returns all.
 abbrev pub listed : AccessMethod → List RowRef → List RowRef
 listed (method.All refs) found = refs.items
 listed (method.Followed field) found = found
@@ -92,11 +92,11 @@ with_prefix (method.All refs) reads = reads
 with_prefix (method.Followed field) reads = reads
 with_prefix (method.Sought look_up) reads = and_prefix look_up.among reads
 
--- How many rows a join by the access method may read for a combination: its own, and those that are found.
+-- The most rows that a join by the access method reads for a combination: the combination's own rows, and those that are found.
 abbrev pub reads_along : AccessMethod → List (List Value) → List (List Value) → ℕ
 reads_along method rows combination = with_prefix method (length combination + found_behind method rows combination)
 
--- References of rows of a table, among them those of all that fit behind a combination, and no more than so many.
+-- References of rows of a table that include those of all rows that fit with a combination, at most this many.
 pub record AreCandidates (store : Tables) (table : ℕ) (atoms : List (Atom FieldPlace)) (combination : List (List Value)) (most : ℕ)
     (candidates : List RowRef) : Type 0 where
   pub live : (stored : StoredRows) → IsAt store table stored → All (IsLive stored.places) candidates

@@ -1,4 +1,4 @@
--- The rows of a table along a tree, each with the prefix of its value there.
+-- The rows of a table along a tree, each with the prefix of its value in a column.
 use Rattle.std.specs.Prelude.{ℕ, List}
 use Rattle.std.specs.List.Sorted.{IsNonDecreasingBy}
 use Rattle.mm_query.specs.Atoms.{value_in}
@@ -7,7 +7,7 @@ use Rattle.mm_value.specs.Prefix.{order_prefix}
 use Rattle.mm_value.specs.declared.row_ref.RowRef.{RowRef}
 use Rattle.mm_join.specs.declared.entries.Entry.{Entry}
 
--- The prefixes do not fall.
+-- The prefixes are in ascending order, perhaps with equal ones.
 abbrev pub AreRising : List Entry → Type 0
 AreRising entries = IsNonDecreasingBy (λ entry. entry.prefix) entries
 

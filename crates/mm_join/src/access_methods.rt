@@ -1,4 +1,4 @@
-//! Access methods for the rows of the inner table that may stand behind a combination.
+//! Access methods for the rows of the inner table that may match a combination.
 ghost use Rattle.std.specs.Prelude.{◌≤◌, ◌≡◌, ℕ, ◌<◌, true, [], Contains, OnOk, Some, length, map, slice_index, slice_index_or};
 ghost use Rattle.mm_partition.specs.Views.{viewed};
 ghost use Rattle.mm_query.specs.Queries.{rows_read};
@@ -19,26 +19,26 @@ use mm_store::View;
 use mm_value::RowRef;
 use std::alloc::{AllocError, Global};
 
-/// How the rows of the inner table are found that may stand behind a combination.
+/// The way in which a join finds the rows of the inner table that may match a combination.
 #[derive(Drop)]
 pub(crate) enum AccessMethod {
-    /// All rows may: these are their references.
+    /// All rows may match: their references.
     All(Vec<RowRef>),
-    /// The row that the row of a field refers to by its column.
+    /// The row that the combination's row refers to by this foreign key.
     Followed(FieldPlace),
-    /// Those that a look-up finds.
+    /// The rows that a look-up finds.
     Sought(LookUp),
 }
 
 impl AccessMethod {
-    /// By a look-up of the value that a key asks for.
+    /// Returns the access method that looks up the value required by a key.
     pub fn by(among: Among, key: JoinKey) -> AccessMethod
         ensures { result ≡ Sought (record { among = among; key = key }) }
     {
         AccessMethod::Sought(LookUp { among, key })
     }
 
-    /// Whether a prefix tells that no row fits behind a combination.
+    /// Returns `true` only if a prefix shows that no row matches the combination.
     pub fn has_none(&mut self, view: &mut View<'_>, _inner: &Inner<'_>, outer: Outer<'_>) -> bool
         requires there { _inner.now.table < length view.old.store.tables }
         requires live { AreLive view.old.store outer.tables.now outer.refs.now }
@@ -55,8 +55,8 @@ impl AccessMethod {
         }
     }
 
-    /// Puts the references of the rows of the inner table that may stand behind a combination, where `rows` are its rows, in the
-    /// place of those that `found` has; where all may, it is left as it is. No row is read. `AllocError` where memory is refused.
+    /// Replaces the contents of `found` by the references of the rows of the inner table that may match a combination; if all rows may
+    /// match, `found` is unchanged. `rows` has the rows of the combination. Reads no row. Fails with `AllocError` if an allocation fails.
     pub fn find(
         &mut self,
         alloc: Global,
@@ -94,7 +94,7 @@ impl AccessMethod {
         }
     }
 
-    /// The references that were found, or those of all rows where all may stand behind each combination.
+    /// Returns the references in `found`, or those of all rows if all rows may match each combination.
     pub fn candidates<'f>(&'f self, found: &'f [RowRef]) -> &'f [RowRef]
         ensures { result.now ≡ listed self.now found.now }
     {
@@ -105,7 +105,7 @@ impl AccessMethod {
     }
 }
 
-/// The reference of the row to which a row of a combination refers by the column of a field.
+/// Returns the reference of the row that a combination's row refers to by a foreign key.
 fn partner(view: &View<'_>, outer: Outer<'_>, field: FieldPlace) -> RowRef
     requires table { field.place < length outer.tables.now }
     requires reference { field.place < length outer.refs.now }

@@ -1,4 +1,4 @@
-//! The hash table that is built for a join.
+//! The hash table that a join builds.
 ghost use Rattle.std.specs.Prelude.{◌≡◌, ◌+◌, ◌<◌, ◌≤◌, IfOk, IsPermutation, length, map};
 ghost use Rattle.mm_join.specs.AccessMethods.{hashed_row};
 ghost use Rattle.mm_partition.specs.Places.{slot_at};
@@ -10,8 +10,8 @@ use mlhash::HashRefs;
 use mm_store::{IndexRef, View};
 use std::alloc::{AllocError, Global};
 
-/// A hash table of the references of a table's rows, by the hash of the value that each has in a column; a row without that
-/// column counts as one that has 0 there. Each row is read once. `AllocError` where memory is refused.
+/// Returns a hash table of the references of a table's rows, by the hash of each row's value in a column. A row without that column counts
+/// as having 0 there. Reads each row once. Fails with `AllocError` if an allocation fails.
 pub(crate) fn hashed_rows(
     alloc: Global,
     view: &mut View<'_>,

@@ -1,4 +1,4 @@
-//! What a row of a table has in a column.
+//! The value of a row in a column.
 ghost use Rattle.std.specs.Prelude.{◌≡◌, ◌+◌, ◌<◌, ◌≤◌, length};
 ghost use Rattle.mm_partition.specs.Views.{viewed};
 ghost use Rattle.mm_partition.specs.Places.{IsLive, slot_at};
@@ -14,29 +14,29 @@ use mm_partition::RowView;
 use mm_store::View;
 use mm_value::{RowRef, ValueRef, hash64, order_prefix};
 
-/// The value of a row in a column, and 0 past its end.
+/// Returns the value of a row in a column, and 0 past the end of the row.
 pub(crate) fn value_in<'v>(row: RowView<'v>, column: usize) -> ValueRef<'v>
     ensures { value_of result ≡ value_in column (viewed row.entry) }
 {
     row.get(column).unwrap_or(ValueRef::Int(0))
 }
 
-/// The prefix of a row's value in a column; a row without that column counts as one that has 0 there.
+/// Returns the prefix of a row's value in a column. A row without that column counts as having 0 there.
 fn prefix_in(row: RowView<'_>, column: usize) -> u64
     ensures { result ≡ order_prefix (value_in column (viewed row.entry)) }
 {
     order_prefix(&value_in(row, column))
 }
 
-/// The hash of a row's value in a column; a row without that column counts as one that has 0 there.
+/// Returns the hash of a row's value in a column. A row without that column counts as having 0 there.
 pub(crate) fn hash_in(row: RowView<'_>, column: usize) -> u64
     ensures { result ≡ value_hash (value_in column (viewed row.entry)) }
 {
     hash64(&value_in(row, column))
 }
 
-/// The prefix of what the row of a reference of a table has in a column. The row is read only if its prefix is not kept; either way
-/// one read is counted.
+/// Returns the prefix of the value in a column of the row with a reference. Reads the row only if its prefix is not stored; either way it
+/// counts as one read.
 pub(crate) fn prefix_there(view: &mut View<'_>, table: usize, column: usize, at: RowRef) -> u64
     requires there { table < length view.old.store.tables }
     requires live { (stored : StoredRows) → IsAt view.old.store table stored → IsLive stored.places at }

@@ -1,4 +1,4 @@
-//! A place in a walk along a tree, for prefixes that are looked up in ascending order.
+//! Searches for prefixes along a tree.
 ghost use Rattle.std.specs.Prelude.{◌≡◌, ℕ, ◌+◌, ◌==◌, ◌<◌, ◌≤◌, List, [], false, IfOk, IsPermutation, OnOk, filter, length, map};
 ghost use Rattle.mm_join.specs.Entries.{entry_of};
 ghost use Rattle.mm_partition.specs.Places.{slot_at};
@@ -14,13 +14,13 @@ use mm_value::RowRef;
 use std::alloc::{AllocError, Global};
 use std::marker::Model;
 
-/// A place in the walk along a tree of a table, for prefixes that are looked up in ascending order. It is seen as the entries of
-/// that walk: what a look-up finds does not depend on where the last one ended.
+/// A position in the walk along a tree of a table, for prefixes that are looked up in ascending order. The model is the entries of the
+/// walk, since the result of a look-up does not depend on where the last one ended.
 #[derive(Drop)]
 pub(crate) struct Cursor {
     /// All rows, in the order of the tree.
     entries: Vec<Entry>,
-    /// Where the last look-up ended: at the first entry whose prefix is not less than the one that was sought.
+    /// The position where the last search ended: that of the first entry whose prefix was not less than the one searched.
     at: usize,
 }
 
@@ -37,8 +37,8 @@ impl Model for Cursor {
 }
 
 impl Cursor {
-    /// At the front of the walk along a tree of a table, on a column. Each row is read once, or its prefix in its place if the prefixes
-    /// of the column are kept. `AllocError` where memory is refused.
+    /// Returns a cursor at the start of the walk along a tree of a table on a column. Reads each row once, or its prefix instead if the
+    /// prefixes of the column are stored. Fails with `AllocError` if an allocation fails.
     pub fn new(
         alloc: Global,
         view: &mut View<'_>,
@@ -61,8 +61,8 @@ impl Cursor {
         Ok(Cursor { entries, at: 0 })
     }
 
-    /// Whether an entry has this prefix. If the prefix is not less than the last one, the search goes on from there in
-    /// doubling steps. Otherwise it starts at the front.
+    /// Returns `false` only if no entry has this prefix. If the prefix is not less than the previous one, the search continues from where
+    /// the last one ended, in doubling steps. Otherwise it starts at the first entry.
     pub fn has(&mut self, prefix: u64) -> bool
         ensures none { result ≡ false → filter (λ entry. entry.prefix == prefix) self.old ≡ [] }
         ensures same { self.new ≡ self.old }
@@ -76,8 +76,8 @@ impl Cursor {
         entries[first].prefix == prefix
     }
 
-    /// Puts the references of the entries with this prefix, in the order of the walk, in the place of those that `found` has. The
-    /// search is that of `has`. `AllocError` where memory is refused.
+    /// Replaces the contents of `found` by the references of the entries with this prefix, in the order of the walk. Searches like `has`.
+    /// Fails with `AllocError` if an allocation fails.
     pub fn find(&mut self, prefix: u64, found: &mut Vec<RowRef>) -> Result<(), AllocError>
         ensures run { OnOk result (found.new.items ≡ map (λ entry. entry.at) (filter (λ entry. entry.prefix == prefix) self.old)) }
         ensures same { self.new ≡ self.old }

@@ -1,18 +1,18 @@
-//! Searches along entries whose prefixes do not fall.
+//! Searches in entries with ascending prefixes.
 ghost use Rattle.std.specs.Prelude.{◌≡◌, ◌==◌, ◌<◌, ◌≤◌, All, OnOk, drop, filter, length, map, take};
 ghost use Rattle.mm_join.specs.Entries.{AreRising};
 
 use mm_value::RowRef;
 use std::alloc::AllocError;
 
-/// A row of a walk along a tree, and the prefix of its value there.
+/// A row of a walk along a tree, with the prefix of its value in the tree's column.
 #[derive(Clone, Copy)]
 pub(crate) struct Entry {
     pub prefix: u64,
     pub at: RowRef,
 }
 
-/// Where the search for a prefix begins: where the last one ended, if all entries before that are less, or else at the front.
+/// Returns where the search for a prefix begins: where the last one ended, if all entries before that position are less, and otherwise 0.
 fn start(entries: &[Entry], prefix: u64, last: usize) -> usize
     requires rising { AreRising entries.now }
     requires bound { last ≤ length entries.now }
@@ -25,8 +25,8 @@ fn start(entries: &[Entry], prefix: u64, last: usize) -> usize
     last
 }
 
-/// How many entries are less, where the first `start` are. As long as all that are met are less, each step is as long as the way
-/// so far (Bentley and Yao, Information Processing Letters 1976).
+/// Returns the number of entries that are less than a prefix. The first `start` entries must be less. As long as all entries compared so
+/// far are less, each step is as long as the distance covered (Bentley and Yao, Information Processing Letters 1976).
 fn skip_less(entries: &[Entry], prefix: u64, start: usize) -> usize
     requires rising { AreRising entries.now }
     requires bound { start ≤ length entries.now }
@@ -39,7 +39,7 @@ fn skip_less(entries: &[Entry], prefix: u64, start: usize) -> usize
     let mut high = entries.len();
     let mut step: usize = 0;
     while low < high {
-        // One that is not less bounds what is left, whose half is then the shorter step.
+        // Once an entry is not less, it bounds the rest, and half of the rest becomes the shorter step.
         let middle = low + step.min((high - low) / 2);
         if entries[middle].prefix < prefix {
             low = middle + 1;
@@ -51,7 +51,7 @@ fn skip_less(entries: &[Entry], prefix: u64, start: usize) -> usize
     low
 }
 
-/// How many entries are less than a prefix, where the last search ended at `last`.
+/// Returns the number of entries that are less than a prefix, where the last search ended at `last`.
 pub(crate) fn first_of(entries: &[Entry], prefix: u64, last: usize) -> usize
     requires rising { AreRising entries.now }
     requires bound { last ≤ length entries.now }
@@ -63,8 +63,8 @@ pub(crate) fn first_of(entries: &[Entry], prefix: u64, last: usize) -> usize
     skip_less(entries, prefix, start)
 }
 
-/// Puts the references of the first ones of these entries, those with a prefix, in the place of those that `found` has.
-/// `AllocError` where memory is refused.
+/// Replaces the contents of `found` by the references of the entries with a prefix. No entry may be less. Fails with `AllocError` if an
+/// allocation fails.
 pub(crate) fn copy_run(
     entries: &[Entry],
     prefix: u64,

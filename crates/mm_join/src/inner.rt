@@ -1,4 +1,4 @@
-//! What all joins do with a combination of the outer list.
+//! The step that all joins share: one combination of the outer list with its candidates.
 ghost use Rattle.std.specs.Prelude.{◌≡◌, ◌+◌, ◌++◌, ◌∷◌, ◌<◌, ◌≤◌, [], Some, All, length, map, OnOk};
 ghost use Rattle.mm_partition.specs.Views.{viewed};
 ghost use Rattle.mm_query.specs.Queries.{rows_read};
@@ -20,25 +20,25 @@ use std::alloc::AllocError;
 /// A combination of the outer list.
 #[derive(Clone, Copy)]
 pub(crate) struct Outer<'f> {
-    /// The places in the store of the tables of the outer list.
+    /// The positions in the store of the tables of the outer list.
     pub tables: &'f [usize],
-    /// A reference for each of them.
+    /// The references, one for each table.
     pub refs: &'f [RowRef],
 }
 
-/// The inner side of a join: the table that is joined to the outer list, and what is asked of the combinations.
+/// The inner side of a join: the table that is joined to the outer list, the atoms, and the cap.
 #[derive(Clone, Copy)]
 pub(crate) struct Inner<'q> {
-    /// The place of the table in the store.
+    /// The position of the table in the store.
     pub table: usize,
     pub atoms: &'q [Atom<FieldPlace>],
-    /// How many combinations may be found.
+    /// The maximum number of combinations.
     pub cap: u64,
 }
 
 impl Inner<'_> {
-    /// Adds the combination of `outer` and a candidate behind it, if it fits, where `rows` are the rows of `outer`. The
-    /// candidate is read. `ResultTooLarge` where one more than `cap` fits; `Memory` where memory is refused.
+    /// Appends the combination of `outer` and a candidate, if it fits. `rows` has the rows of `outer`. Reads the candidate. Fails with
+    /// `ResultTooLarge` if the combination fits and the list has `cap` combinations already, or with `Memory` if an allocation fails.
     fn add_fitting<'s>(
         &self,
         view: &mut View<'s>,
@@ -74,9 +74,8 @@ impl Inner<'_> {
         Ok(())
     }
 
-    /// Adds the combinations of `outer` and each candidate behind it that fit, where `rows` are the rows of `outer`.
-    /// Each candidate is read at most once. `ResultTooLarge` where more than `cap` fit; `Memory` where memory is
-    /// refused.
+    /// Appends the combinations of `outer` and each candidate that fit. `rows` has the rows of `outer`. Reads each candidate at most once.
+    /// Fails with `ResultTooLarge` if the list would have more than `cap` combinations, or with `Memory` if an allocation fails.
     pub fn add_all<'s>(
         &self,
         view: &mut View<'s>,
@@ -106,7 +105,7 @@ impl Inner<'_> {
     }
 }
 
-/// Puts the rows of a combination in the place of those that `rows` has. Each is read once. `AllocError` where memory is refused.
+/// Replaces the contents of `rows` by the rows of a combination. Reads each of them once. Fails with `AllocError` if an allocation fails.
 pub(crate) fn choose<'s>(
     view: &mut View<'s>,
     outer: Outer<'_>,

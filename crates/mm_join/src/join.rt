@@ -25,22 +25,22 @@ use mm_value::{Refusal, RowRef};
 use std::alloc::{AllocError, Global};
 use ttree::Iter;
 
-/// A join of an outer list with the rows of a further table: it gives the combinations of both of which no atom is false, in no
-/// promised order. Each call answers `ResultTooLarge` where more than `cap` fit; `Memory` may come in its place and in that of
-/// success.
+/// A join of an outer list with the rows of a further table. Each method returns the combinations of both for which no atom is false, in no
+/// particular order. It fails with `ResultTooLarge` if there are more than `cap`. If an allocation fails, the result may be `Memory`
+/// instead.
 #[derive(Clone, Copy)]
 pub struct Join<'j, 'a> {
-    /// The combinations of the rows of the tables before it.
+    /// The combinations of rows of the tables before the further one.
     pub outer: &'j TempList<'a>,
-    /// What the result refers to: the tables of the outer list, and behind them the further one.
+    /// The descriptor of the result: the tables of the outer list, and then the further one.
     pub descriptor: Descriptor<'a>,
     pub atoms: &'j [Atom<FieldPlace>],
-    /// How many combinations may be found.
+    /// The maximum number of combinations in the result.
     pub cap: u64,
 }
 
 impl<'j, 'a> Join<'j, 'a> {
-    /// The join by a look at each pair (the nested loops join of Lehman and Carey, SIGMOD 1986).
+    /// Joins by comparing each pair (the nested loops join of Lehman and Carey, SIGMOD 1986).
     pub fn nested_loops(&self, alloc: Global, view: &mut View<'_>) -> Result<TempList<'a>, Refusal>
         requires next { (table : ℕ) × CanJoin view.old.store self.now table }
         ensures joins { (table : ℕ) → IsNext view.old.store self.now.outer.now.tables self.now.descriptor.tables.now table
@@ -53,9 +53,9 @@ impl<'j, 'a> Join<'j, 'a> {
         self.along(alloc, view, &mut AccessMethod::All(all))
     }
 
-    /// The join along a foreign key, where one of the atoms says that the key of the further table equals a field of the outer
-    /// list, which refers to it: each combination is joined with the row that it refers to, by the reference that the store keeps,
-    /// without a search (the precomputed join of Lehman and Carey, SIGMOD 1986).
+    /// Joins along a foreign key: each combination with the row that it refers to (the precomputed join of Lehman and Carey, SIGMOD 1986).
+    /// Follows the reference that the store keeps, without a search. `field` must be a foreign key to the further table, and the atoms must
+    /// imply that the further table's key equals it.
     pub fn precomputed(
         &self,
         alloc: Global,
@@ -77,8 +77,8 @@ impl<'j, 'a> Join<'j, 'a> {
         self.along(alloc, view, &mut AccessMethod::Followed(field))
     }
 
-    /// The join by a look-up in an index of the further table for each combination (the hash join over an index that is there and
-    /// the tree join of Lehman and Carey, SIGMOD 1986), where the atoms say that the index's column has the value of a key.
+    /// Joins by a look-up in an index of the further table for each combination. This is the hash join over an existing index, or the tree
+    /// join (Lehman and Carey, SIGMOD 1986). The atoms must imply that the index's column has the key's value.
     pub fn look_up(
         &self,
         alloc: Global,
@@ -99,10 +99,9 @@ impl<'j, 'a> Join<'j, 'a> {
         self.along(alloc, view, &mut AccessMethod::by(Among::Index(index), key))
     }
 
-    /// The join by one walk along a tree of the further table, beside the outer list (the tree merge join of Lehman and Carey,
-    /// SIGMOD 1986), where the atoms say that the tree's column has the value of a key. An outer list in the order of the key's
-    /// field is gone along once beside the tree; in another order the result is the same, but the walk begins anew where a value
-    /// comes behind a greater one.
+    /// Joins by a walk along a tree of the further table (the tree merge join of Lehman and Carey, SIGMOD 1986). The atoms must imply that
+    /// the tree's column has the key's value. An outer list in the order of the key's field passes the walk once. For another order the
+    /// result is the same, but the walk starts again whenever a value follows a greater one.
     pub fn tree_merge(
         &self,
         alloc: Global,
@@ -125,8 +124,8 @@ impl<'j, 'a> Join<'j, 'a> {
         self.along(alloc, view, &mut AccessMethod::by(Among::Walk(cursor), key))
     }
 
-    /// The join by a hash table that is built over a column of the further table, in which each combination is looked up (the hash
-    /// join of Lehman and Carey, SIGMOD 1986), where the atoms say that the column has the value of a key.
+    /// Joins by building a hash table over a column of the further table, and looking up each combination in it (the hash join of Lehman
+    /// and Carey, SIGMOD 1986). The atoms must imply that this column has the key's value.
     pub fn built_hash(
         &self,
         alloc: Global,
@@ -147,7 +146,7 @@ impl<'j, 'a> Join<'j, 'a> {
         self.along(alloc, view, &mut AccessMethod::by(Among::Built(pairs), key))
     }
 
-    /// The inner side: the table that comes behind those of the outer list.
+    /// Returns the inner side: the table that follows those of the outer list.
     fn inner(&self) -> Inner<'j>
         requires { (table : ℕ) × (self.now.descriptor.tables.now ≡ self.now.outer.now.tables ++ table ∷ []) }
         ensures { (table : ℕ) → self.now.descriptor.tables.now ≡ self.now.outer.now.tables ++ table ∷ [] → result ≡ inner_of self.now table }
@@ -159,8 +158,7 @@ impl<'j, 'a> Join<'j, 'a> {
         }
     }
 
-    /// The join in which an access method leads to the rows of the further table that may stand behind each
-    /// combination.
+    /// Joins by an access method, which finds the rows of the further table that may match each combination.
     fn along(
         &self,
         alloc: Global,
@@ -196,7 +194,7 @@ impl<'j, 'a> Join<'j, 'a> {
     }
 }
 
-/// These references, in their order. `AllocError` where memory is refused.
+/// Returns a copy of these references, in order. Fails with `AllocError` if an allocation fails.
 fn copy_refs(alloc: Global, refs: Iter<'_>) -> Result<Vec<RowRef>, AllocError>
     ensures { IfOk result (λ copied. copied.items ≡ refs.entry) }
 {

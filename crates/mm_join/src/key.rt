@@ -7,17 +7,17 @@ ghost use Rattle.mm_query.specs.declared.atom.Atom.{Atom as AnyAtom};
 
 use mm_query::{Atom, Comparison, FieldPlace, Operand};
 
-/// What a join equality adds to a whole number. A text stays.
+/// The number that a join equality adds to an integer. A text is unchanged.
 #[derive(Clone, Copy, Debug, PartialEq, Eq)]
 pub enum Shift {
     /// The number.
     Plus(i64),
-    /// The opposite of the number.
+    /// The negated number.
     Minus(i64),
 }
 
 impl Shift {
-    /// Whether each value stays.
+    /// Returns whether the shift is by 0.
     pub(crate) fn adds_nothing(self) -> bool
         ensures { IsTrue result ↔ added self ≡ pos 0 }
     {
@@ -28,19 +28,19 @@ impl Shift {
     }
 }
 
-/// A join equality of a further table: the value in one of its columns has to be that of a field of the outer list, shifted.
+/// A join equality of a further table: one of its columns must equal a field of the outer list, plus a shift.
 #[derive(Clone, Copy, Debug, PartialEq, Eq)]
 pub struct JoinKey {
-    /// The column of the further table, counted from 0.
+    /// The column of the further table, from 0.
     pub column: usize,
     /// The field of the outer list.
     pub field: FieldPlace,
-    /// What is added to the field's value.
+    /// The shift that is added to the field's value.
     pub shift: Shift,
 }
 
-/// What an atom asks of a column of the table at a place of FROM, counted from 0, if it is a join equality of that table: `=`
-/// between one of its columns and one of an earlier table, on either side, with or without a shift.
+/// Returns the key of an atom for the table at a position of FROM, from 0, or `None` if the atom is not a join equality of that table. A
+/// join equality is `=` between a column of the table and a column of an earlier table, in either order, with or without a shift.
 pub fn join_key(atom: &Atom<FieldPlace>, place: usize) -> Option<JoinKey>
     ensures is { result ≡ key_of place atom.now }
     ensures key { IfSome result (λ key. (atoms : List (AnyAtom FieldPlace)) (outers : List ℕ) → Contains atoms atom.now → length outers ≡ place
@@ -58,8 +58,8 @@ pub fn join_key(atom: &Atom<FieldPlace>, place: usize) -> Option<JoinKey>
     }
 }
 
-/// What it asks of a column of the table at a place that one field equals another one with a number added, if one of them is of that
-/// table and the other one of an earlier table.
+/// Returns the key of the equality `left = right + by` for the table at a position. Returns `None` unless one field belongs to that table
+/// and the other to an earlier one.
 fn key_between(left: FieldPlace, right: FieldPlace, by: i64, place: usize) -> Option<JoinKey>
     ensures is { result ≡ key_between place left right by }
     ensures key { IfSome result (λ key.

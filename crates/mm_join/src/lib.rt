@@ -1,4 +1,4 @@
-//! Joins: each combination of a temporary list with the rows of a further table that fit it.
+//! Joins: each combination of a temporary list, with the rows of a further table that fit it.
 #![tactic(auto)]
 
 mod access_methods;

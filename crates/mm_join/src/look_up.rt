@@ -1,4 +1,4 @@
-//! Look-ups of the value that a key asks for.
+//! Look-ups of the value that a key requires.
 ghost use Rattle.std.specs.Prelude.{◌+◌, ◌≤◌, ◌≡◌, ℕ, ◌+ℤ◌, ◌<◌, true, [], FitsSigned, IfSome, None, OnOk, Some, length, map, pos};
 ghost use Rattle.std.specs.Int.{w64};
 ghost use Rattle.std.specs.Option.{option_map, unwrap_or};
@@ -25,25 +25,25 @@ use mm_store::{IndexRef, View};
 use mm_value::{RowRef, ValueRef, hash64, order_prefix};
 use std::alloc::{AllocError, Global};
 
-/// What the rows of a table are found in by the value that they have in a column.
+/// The structure that finds the rows of a table by their value in a column.
 #[derive(Drop)]
 pub(crate) enum Among {
     /// An index of the table.
     Index(IndexRef),
     /// A hash table of the references of all rows, by the hash of the value.
     Built(HashRefs),
-    /// A walk along a tree, where prefixes come in ascending order.
+    /// A walk along a tree, for prefixes in ascending order.
     Walk(Cursor),
 }
 
-/// A look-up of the value that a key asks for.
+/// A look-up of the value that a key requires.
 #[derive(Drop)]
 pub(crate) struct LookUp {
     pub among: Among,
     pub key: JoinKey,
 }
 
-/// The value of a field in the rows of a combination, and 0 where its place has no row or the row ends before it.
+/// Returns the value of a field in the rows of a combination, and 0 if there is no such row or the row ends before the field.
 fn field_value<'v>(rows: &[Option<RowView<'v>>], field: FieldPlace) -> ValueRef<'v>
     ensures { value_of result ≡ unwrap_or (value_at (rows_read viewed rows.now) field) (Int (pos 0)) }
 {
@@ -53,7 +53,7 @@ fn field_value<'v>(rows: &[Option<RowView<'v>>], field: FieldPlace) -> ValueRef<
     }
 }
 
-/// A number with a shift added, if that is a number of 64 bits.
+/// Returns a number plus a shift, or `None` if the sum does not fit 64 bits.
 fn shifted_number(number: i64, shift: Shift) -> Option<i64>
     ensures sum { IfSome result (λ sum. sum ≡ number +ℤ added shift) }
     ensures within { IfSome result (λ sum. FitsSigned w64 sum) }
@@ -65,8 +65,8 @@ fn shifted_number(number: i64, shift: Shift) -> Option<i64>
     }
 }
 
-/// The prefix of the value of a field in the row of a combination, which counts as one read. None if it is not kept, or if there
-/// is no such field.
+/// Returns the prefix of the value of a field in the row of a combination, or `None` if it is not stored or there is no such field. Counts
+/// as one read.
 fn prefix_of_field(view: &mut View<'_>, outer: Outer<'_>, field: FieldPlace) -> Option<u64>
     requires { AreLive view.old.store outer.tables.now outer.refs.now }
     ensures prefix { IfSome result (λ prefix.
@@ -85,8 +85,8 @@ fn prefix_of_field(view: &mut View<'_>, outer: Outer<'_>, field: FieldPlace) -> 
 }
 
 impl LookUp {
-    /// Puts the references of rows of a table, among them all that have this value in the key's column, in no promised order, in the
-    /// place of those that `found` has. No row is read. `AllocError` where memory is refused.
+    /// Replaces the contents of `found` by references of rows of a table, among them all that have this value in the key's column, in no
+    /// particular order. Reads no row. Fails with `AllocError` if an allocation fails.
     fn find_value(
         &mut self,
         alloc: Global,
@@ -109,8 +109,8 @@ impl LookUp {
         }
     }
 
-    /// Puts the references of rows of a table, among them all that have this number with the key's shift added in its column, in no
-    /// promised order, in the place of those that `found` has. No row is read. `AllocError` where memory is refused.
+    /// Replaces the contents of `found` by references of rows of a table, in no particular order. They include all rows that have this
+    /// number plus the key's shift in the key's column. Reads no row. Fails with `AllocError` if an allocation fails.
     fn find_number(
         &mut self,
         alloc: Global,
@@ -135,8 +135,8 @@ impl LookUp {
         }
     }
 
-    /// Puts the references of rows of a table, among them all that have in the key's column the value that it asks for behind these
-    /// rows, in no promised order, in the place of those that `found` has. No row is read. `AllocError` where memory is refused.
+    /// Replaces the contents of `found` by references of rows of a table, among them all that have the value that the key requires after
+    /// these rows, in no particular order. Reads no row. Fails with `AllocError` if an allocation fails.
     pub fn find_partners(
         &mut self,
         alloc: Global,
@@ -158,8 +158,8 @@ impl LookUp {
         }
     }
 
-    /// Whether a prefix tells that no row has, in the key's column, the value that it asks for behind a combination. Along a walk it
-    /// mostly does, if the key asks for a field's own value.
+    /// Returns `true` only if a prefix shows that no row has the value that the key requires for a combination. Along a walk a prefix
+    /// usually decides this if the key has no shift.
     pub fn has_none(&mut self, view: &mut View<'_>, outer: Outer<'_>) -> bool
         requires live { AreLive view.old.store outer.tables.now outer.refs.now }
         ensures none { result ≡ true → (stored : StoredRows) → IsAmong stored self.old.key.column self.old.among

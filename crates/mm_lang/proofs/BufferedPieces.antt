@@ -19,38 +19,38 @@ module _ {W : Type 0} {contents : W → Option (List ℕ)} where
   buffered_none v before unfailed none =
       record { done = []; written = Writes-nil v unfailed; kept = sym (ap (λ l. before ++ l) none ∙ append-nil before) }
 
-  -- a piece that has room behind what is buffered
+  -- a piece that fits into the buffer
   pub buffered_behind : {T E : Type 0} {old : Watched W} {before after text : List ℕ} (v : T) → has_failed old ≡ false → after ≡ before ++ text
       → WritesBuffered {T = T} {E = E} contents old before old after (Ok v) text
   buffered_behind v unfailed is = record { done = []; written = Writes-nil v unfailed; kept = is }
 
-  -- a piece in place of what was buffered
+  -- a piece that replaces the buffered bytes
   pub buffered_anew : {S D T E : Type 0} {old new : Watched W} {before after text : List ℕ} {u : S} (v : T)
       → Writes {T = S} {E = D} contents old new (Ok u) before → after ≡ text
       → WritesBuffered {T = T} {E = E} contents old before new after (Ok v) text
   buffered_anew {before} v p is =
       record { done = before; written = record { written = p.written; failed = p.failed }; kept = ap (λ l. before ++ l) is }
 
-  -- a piece that is written behind what was buffered
+  -- a piece that is written after the buffered bytes
   pub buffered_past : {S D T E : Type 0} {old mid new : Watched W} {before after text : List ℕ} {v : S} {result : Result T E}
       → Writes {T = S} {E = D} contents old mid (Ok v) before → Writes contents mid new result text → after ≡ []
       → WritesBuffered contents old before new after result text
   buffered_past {before} {after} {text} {result} p q none =
       record { done = before ++ text; written = Writes-then refl p q; kept = buffered_written result (before ++ text) after none }
 
-  -- an error in what was buffered
+  -- an error while the buffered bytes are written
   pub buffered_unwritten : {S D T E : Type 0} {old new : Watched W} {before after text : List ℕ} {d : D} {r : E} {result : Result T E}
       → result ≡ Err r → Writes {T = S} {E = D} contents old new (Err d) before → WritesBuffered contents old before new after result text
   buffered_unwritten {before} {text} is p = record { done = before ++ text; written = Writes-stops text refl is p; kept = rw is refl }
 
-  -- the same piece, however it is said
+  -- an equal piece
   pub buffered_same : {S D T E : Type 0} {old new : Watched W} {before after xs text : List ℕ} {u : S} {v : T} → xs ≡ text
       → WritesBuffered {T = S} {E = D} contents old before new after (Ok u) xs
       → WritesBuffered {T = T} {E = E} contents old before new after (Ok v) text
   buffered_same {before} is p =
       record { done = p.done; written = record { written = p.written.written; failed = p.written.failed }; kept = p.kept ∙ ap (λ l. before ++ l) is }
 
-  -- a first piece, and then a second
+  -- two pieces, one after the other
   pub buffered_then : {S D T E : Type 0} {old mid new : Watched W} {before between after : List ℕ} {v : S} {result : Result T E} {xs ys text : List ℕ}
       → text ≡ xs ++ ys → WritesBuffered {T = S} {E = D} contents old before mid between (Ok v) xs
       → WritesBuffered contents mid between new after result ys → WritesBuffered contents old before new after result text
@@ -67,7 +67,7 @@ module _ {W : Type 0} {contents : W → Option (List ℕ)} where
         kept = buffered_front p.done between q.done ys (before ++ xs) p.kept q.kept ∙ append_assoc before xs ys ∙ ap (λ l. before ++ l) (sym e);
       }
 
-  -- an error in a first piece is an error in it and a second, however it is passed on
+  -- an error in the first piece is an error in both
   pub buffered_stops : {S D T E : Type 0} {old new : Watched W} {before between after : List ℕ} {d : D} {r : E} {result : Result T E} {xs text : List ℕ}
       (ys : List ℕ) → text ≡ xs ++ ys → result ≡ Err r → WritesBuffered {T = S} {E = D} contents old before new between (Err d) xs
       → WritesBuffered contents old before new after result text
@@ -78,12 +78,12 @@ module _ {W : Type 0} {contents : W → Option (List ℕ)} where
         kept = rw is (ap (λ l. l ++ ys) p.kept ∙ append_assoc before xs ys ∙ ap (λ l. before ++ l) (sym e));
       }
 
--- what is so unless the call did its work
+-- a property that holds unless the call succeeds
 pub unless_ok : {T E P : Type 0} (r : Result T E) → false ≡ is_ok r → OnErr r P → P
 unless_ok (Ok v) failed h = let both : false ≡ true = failed in cc
 unless_ok (Err e) failed h = h
 
--- a line in its pieces
+-- a line as its pieces
 pub line_pieces : (row : List Value) → row_text row ++ 10 ∷ [] ≡ (40 ∷ values_text row) ++ 41 ∷ 10 ∷ []
 line_pieces row = ap (λ l. 40 ∷ l) (append_assoc (values_text row) (41 ∷ []) (10 ∷ []))
 
@@ -97,7 +97,7 @@ pub first_value : (row : List Value) (v : Value) → slice_get row 0 ≡ Some v 
 first_value [] v is = cc
 first_value (x ∷ xs) v is = let same : x ≡ v = cc in ap value_text same
 
--- i values, of which there is at least one, and the next one
+-- i values, at least one, and the next one
 pub value_more : (row : List Value) (i : ℕ) (v : Value) → 1 ≤ i → slice_get row i ≡ Some v
     → values_text (take (i + 1) row) ≡ values_text (take i row) ++ (44 ∷ 32 ∷ value_text v)
 value_more row i v some is = let one : i + 1 ≡ suc i = omega arith in ap (λ n. values_text (take n row)) one ∙ behind row i some is

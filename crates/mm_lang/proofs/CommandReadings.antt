@@ -39,7 +39,7 @@ command_took phrase old new c none t = record {
   shorter = t.shorter;
 }
 
--- A keyword that is a command by itself was read: nothing behind it belongs to the command.
+-- A keyword that is a whole command was read: the command has no more tokens.
 pub whole_given : (c : Command) → literals_of c ≡ [] → (reader : Reader) → Gives (say c) literals_of reader reader c
 whole_given c none reader = command_took (say c) reader reader c none (took_say c reader)
 

@@ -1,4 +1,4 @@
--- A whole line as a command, and lines by what they hold.
+-- A whole line as a command, and lines by their content.
 use Rattle.std.proofs.Common.{◌≡◌, ◌≢◌, ◌<◌, ◌≤◌, inl, inr, ⊎_elim, ℕ, Bool, true, false, cond, ltb, List, [], ◌∷◌, Option, Some, None, Result, Ok, Err, length}
 use Rattle.std.proofs.Common.{refl, sym, ap, subst, ◌∙◌}
 use Rattle.std.specs.Option.{option_and_then, option_or}
@@ -27,7 +27,7 @@ use Rattle.mm_lang.specs.steps.Parts.{Front, said_same}
 use Rattle.mm_lang.proofs.Readings.{took}
 use Rattle.mm_lang.proofs.SpelledCommands.{command_read}
 
--- the lines that take no memory, and the others
+-- the lines that allocate nothing, and the others
 
 pub reads_long : (line : List ℕ) → 4096 < length line → reading line ≡ Err LineTooLong
 unfolding reading
@@ -48,7 +48,7 @@ reads_command : (line : List ℕ) → length line ≤ 4096 → is_nothing line �
     → reading line ≡ read_as (command_of (tokens line))
 reads_command line short some plain = reads_tokens line short some ∙ ap read_as (cond-false (has_hole (tokens line)) _ _ plain)
 
--- a literal past its limit makes no line too long
+-- a literal past its limit does not make a line too long
 literal_takes : (command : Command) (v : Value) (others : Option Refusal) → reading_takes_memory (unless command others) ≡ true
     → reading_takes_memory (unless command (option_or (literal_fault v) others)) ≡ true
 literal_takes command v others takes = by_limit (is_within_limit v)
@@ -66,7 +66,7 @@ limits_take : (command : Command) (literals : List Value) → command_takes_memo
 limits_take command [] takes = takes
 limits_take command (v ∷ vs) takes = literal_takes command v (first_fault vs) (limits_take command vs takes)
 
--- what tokens read as takes memory, unless it begins or ends a transaction
+-- the reading of tokens allocates, unless it begins or ends a transaction
 tokens_take : (ts : List Token) (read : Option Command) → command_of ts ≡ read
     → ((c : Command) → read ≡ Some c → is_done_without_memory c ≡ false) → reading_takes_memory (read_as read) ≡ true
 tokens_take ts None is free = refl
@@ -85,7 +85,7 @@ tokens_take ts (Some Rollback) is free = absurd (false≢true (sym (free Rollbac
 tokens_take ts (Some (Savepoint name)) is free = limits_take (Savepoint name) (literals_of (Savepoint name)) refl
 tokens_take ts (Some (RollbackTo name)) is free = absurd (false≢true (sym (free (RollbackTo name) refl)))
 
--- Any other line takes memory, unless it begins or ends a transaction, ..
+-- Any other line allocates, unless it begins or ends a transaction, ..
 pub takes : (line : List ℕ) → length line ≤ 4096 → is_nothing line ≡ false
     → ((c : Command) → reading line ≡ Ok c → is_done_without_memory c ≡ false) → takes_memory line ≡ true
 takes line short some free =
@@ -101,7 +101,7 @@ takes line short some free =
     by plain (RollbackTo name) is = free (RollbackTo name) (reads_command line short some plain ∙ ap read_as is)
     by plain _ is = refl
 
--- .. and such a line takes none.
+-- .. and such a line allocates nothing.
 pub control_takes_none : (line : List ℕ) (c : Command) → reading line ≡ Ok c → is_done_without_memory c ≡ true → takes_memory line ≡ false
 control_takes_none line c is control = ap reading_takes_memory is ∙ by c control
   where
@@ -112,7 +112,7 @@ control_takes_none line c is control = ap reading_takes_memory is ∙ by c contr
     by (RollbackTo name) control = refl
     by _ control = absurd (false≢true control)
 
--- Where the first word neither begins nor ends a transaction, what the tokens read as takes memory.
+-- If the first word neither begins nor ends a transaction, the reading of the tokens allocates.
 behind_takes : (ts us : List Token) (k : Keyword) → one_word keyword_named ts ≡ Some (k, us) → is_control_keyword k ≡ false
     → reading_takes_memory (read_as (command_of ts)) ≡ true
 behind_takes ts us k first more = tokens_take ts (command_of ts) refl by
@@ -130,7 +130,7 @@ behind_takes ts us k first more = tokens_take ts (command_of ts) refl by
     by (RollbackTo name) is = begins keyword.Rollback (word keyword.To ∷ Word name ∷ []) refl (command_read ts (RollbackTo name) is).1
     by _ is = refl
 
--- a command, and nothing behind it
+-- a command, and no tokens after it
 
 abbrev command_phrase : Phrase Command
 command_phrase = one_word keyword_named >>= command_behind

@@ -1,4 +1,4 @@
--- A phrase that is exact for a spelling reads just what is spelled so; and so do lists and parentheses of it.
+-- A phrase that is exact for a spelling reads exactly what the spelling allows, and so do lists of it and the phrase in parentheses.
 use Rattle.std.proofs.Common.{◌≡◌, ◌<◌, ⊎_elim, ℕ, Bool, true, false, zero, suc, List, [], ◌∷◌, ◌++◌, Option, Some, None, length, refl, sym, ap, ◌∙◌, subst}
 use Rattle.std.proofs.Common.{arith, append_assoc, length-append}
 use Rattle.std.specs.Option.{option_map, option_and_then, option_or}
@@ -13,13 +13,12 @@ use Rattle.mm_lang.specs.steps.Parts.{Front, said_same, then_parts, one_parts, i
 use Rattle.mm_lang.proofs.Lists.{onto}
 use Rattle.mm_lang.proofs.SpelledWords.{symbol_read, has_keyword_read}
 
--- What the phrase reads is spelled by the tokens in front of those that are left, and each spelling of a thing is read where
--- tokens follow that do not go on with it.
+-- The tokens that the phrase reads are a spelling of its value, and each spelling is read if no following token continues it.
 pub record IsExact {A : Type 0} (phrase : Phrase A) (Spells : List Token → A → Type 0) (Ends : List Token → Type 0) : Type 0 where
   pub sound : (ts : List Token) (x : A) (us : List Token) → phrase ts ≡ Some (x, us) → (front : List Token) × Spells front x × (ts ≡ front ++ us)
   pub complete : (front : List Token) (x : A) (us : List Token) → Spells front x → Ends us → phrase (front ++ us) ≡ Some (x, us)
 
--- The phrase is this single token, and nothing is kept of it.
+-- The phrase is this single token, without a value.
 pub record IsToken (phrase : Phrase (Unit {0})) (token : Token) : Type 0 where
   pub sound : (ts us : List Token) → phrase ts ≡ Some (tt, us) → ts ≡ token ∷ us
   pub complete : (us : List Token) → phrase (token ∷ us) ≡ Some (tt, us)
@@ -38,7 +37,7 @@ one_exact {A} says Says to from = record {
       ap (λ l. one says (l ++ us)) h.2 ∙ ap (option_map pair) (from h.0 x h.1);
 }
 
--- one more in front of a list
+-- an item before a list
 pub SpellsList-cons : {A : Type 0} (separator : Token) (Spells : List Token → A → Type 0) (first others : List Token) (x : A) (xs : List A)
     → Spells first x → SpellsList separator Spells others xs → SpellsList separator Spells (first ++ separator ∷ others) (x ∷ xs)
 SpellsList-cons separator Spells first others x [] h k = absurd k
@@ -49,7 +48,7 @@ module _ {A : Type 0} (separator : Phrase (Unit {0})) (token : Token) (item : Ph
   abbrev IsFront : List Token → List A → List Token → Type 0
   IsFront ts xs us = (front : List Token) × SpellsList token Spells front xs × (ts ≡ front ++ us)
 
-  -- the items behind the first
+  -- the items after the first
   behind_sound : (n : ℕ) (first : List Token) (x : A) (ms : List Token) (ys : List A) (us : List Token) → Spells first x
       → ((ts : List Token) (xs : List A) (us : List Token) → at_most n separator item ts ≡ Some (xs, us) → IsFront ts xs us)
       → (o : Option (Front (Unit {0}))) → separator ms ≡ o → behind_item o (at_most n separator item) ms ≡ Some (ys, us) → IsFront (first ++ ms) (x ∷ ys) us
@@ -120,7 +119,7 @@ parentheses_exact {A} phrase Spells Ends exact ends = record {
       ∙ ap (option_and_then (λ (r : Front A). (the_symbol Close >>= (λ c. say r.0)) r.1)) (exact.complete h.0 x (Mark Close ∷ us) h.1 (ends us));
 }
 
--- Of a clause, where its keyword is read as itself.
+-- A clause whose keyword is read as itself.
 module _ {A : Type 0} (wanted : Keyword) (separator : Phrase (Unit {0})) (token : Token) (item : Phrase A) (Spells : List Token → A → Type 0)
     (Ends : List Token → Type 0) (exact : IsExact (list_of separator item) (SpellsList token Spells) Ends)
     (here : (us : List Token) → the_keyword wanted (word wanted ∷ us) ≡ Some (tt, us)) where
@@ -140,7 +139,7 @@ module _ {A : Type 0} (wanted : Keyword) (separator : Phrase (Unit {0})) (token 
       ([], subst (SpellsClause wanted token Spells []) s.0 refl, not_there.1 ∙ s.1))
       (has_keyword_read wanted ts p.0 p.1 p.2)
 
-  -- a clause, by its keyword in front
+  -- a clause, given the result of reading its keyword
   by_keyword : List Token → Option (Front (Unit {0})) → Option (Front (List A))
   by_keyword ts found =
       option_and_then (λ (r : Front Bool). clause_behind separator item r.0 r.1)

@@ -1,4 +1,4 @@
--- The first token of some bytes, by what stands in front.
+-- The first token of some bytes, by its first byte.
 use Rattle.std.proofs.Common.{⊎_elim, ◌≡◌, ◌≢◌, ◌<◌, ◌≤◌, ℕ, suc, ◌+◌, ◌-◌, true, false, eqb, List, [], ◌∷◌, length, get_or, take, drop, Bor, refl, sym, ap}
 use Rattle.std.proofs.Common.{◌∙◌, arith, length-drop, one-add}
 use Rattle.std.specs.List.{prefix_len}
@@ -14,7 +14,7 @@ use Rattle.mm_lang.specs.Tokens.{onto_equal, onto_symbol}
 use Rattle.mm_lang.specs.steps.Splitting.{Splits, begins_blank}
 use Rattle.mm_lang.proofs.Lexing.{tokens_none, tokens_quote, tokens_word, tokens_symbol, tokens_equal, run_yes, run_no}
 
--- a comparison with an equals sign at once behind it, and one without
+-- a comparison directly followed by an equals sign, or not
 pub splits_joined : (alone joined : Symbol) (rest : List ℕ) → 1 ≤ length rest → get_or rest 0 0 ≡ 61
     → Splits (onto_equal alone joined (begins_equal rest) (tokens rest)) (length rest + 1) (shown.Mark joined) (drop 1 rest)
 splits_joined alone joined [] some equal = absurd (omega arith)
@@ -26,7 +26,7 @@ splits_joined alone joined (b ∷ bs) some equal = record {
   shorter = omega arith;
 }
 
--- a minus with a word at once behind it, and one without
+-- a minus directly followed by a word, or not
 word_in_range : (bytes : List ℕ) → 0 < length bytes → 1 + prefix_len is_word_byte (drop 1 bytes) ≤ length bytes
 word_in_range bytes some =
     let behind = length-drop 1 bytes in
@@ -61,7 +61,7 @@ minus_word (b ∷ bs) some =
     (λ other. absurd (some (run_no is_word_byte b bs other)))
     (cases_Bool (is_word_byte b))
 
--- the front of the bytes that a minus and a run of n bytes make up, and what is behind it
+-- a minus and a run of n bytes, and the bytes after them
 pub splits_minus : (bytes : List ℕ) (n : ℕ) (rest : List ℕ) → 0 < length bytes
     → n ≡ prefix_len is_word_byte (take (length bytes - 1) (drop 1 bytes)) → n ≡ 0 → rest ≡ drop (1 + n) bytes
     → Splits (onto_minus (begins_word (drop 1 bytes)) (tokens (drop 1 bytes))) (length bytes) (shown.Mark Minus) rest
@@ -109,7 +109,7 @@ splits_word (b ∷ bs) front rest n word is some front_is back =
       shorter = omega (arith, ap length back, length-drop n (b ∷ bs));
     }
 
--- a symbol, or a byte that can't be read
+-- a symbol, or an unreadable byte
 pub splits_symbol : (bytes : List ℕ) (token : Shown) (rest : List ℕ) → 0 < length bytes → begins_blank bytes ≡ false → get_or bytes 0 0 ≢ 39
     → is_word_byte (get_or bytes 0 0) ≡ false
     → Splits (onto_symbol (get_or bytes 0 0) (drop 1 bytes) (tokens (drop 1 bytes))) (length bytes) token rest → Splits (tokens bytes) (length bytes) token rest

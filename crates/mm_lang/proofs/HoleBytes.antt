@@ -1,4 +1,4 @@
--- Where no byte is a question mark, no token is a hole.
+-- Without a question mark among the bytes, no token is a hole.
 use Rattle.std.proofs.Common.{◌≡◌, ℕ, Bool, true, false, ◌||◌, cond, eqb, List, [], ◌∷◌, refl, sym, ap}
 use Rattle.std.specs.List.{list_any}
 use Rattle.std.proofs.lemmas.Bool.{cond-false, false≢true}

@@ -9,7 +9,7 @@ use Rattle.mm_lang.specs.Words.{is_word, keyword_named}
 use Rattle.mm_lang.specs.steps.Letters.{begins_keyword, begins_with}
 use Rattle.mm_lang.proofs.SpelledWords.{is_word-Decides}
 
--- What is found among the elements at which another test holds is found among all, if the other test holds where the first does.
+-- The first element that passes a test is also the first among the elements that pass a weaker test.
 find_among : {X : Type 0} (p q : X → Bool) → ((x : X) → p x ≡ true → q x ≡ true) → (xs : List X) → find p (filter q xs) ≡ find p xs
 find_among p q implied [] = refl
 find_among {X} p q implied (x ∷ xs) = by (p x) refl (q x) refl (find_among p q implied xs)
@@ -30,7 +30,7 @@ pub named_among : (w : List ℕ) → eqb (length w) 0 ≡ false → find (λ k. 
 named_among [] some = absurd (false≢true (sym some))
 named_among (b ∷ bs) some = find_among (λ k. is_word k (b ∷ bs)) (begins_keyword b) (first_letter b bs) KEYWORDS
 
--- No keyword is written as no bytes.
+-- No keyword is empty.
 pub named_none : (w : List ℕ) → eqb (length w) 0 ≡ true → None ≡ keyword_named w
 named_none [] none = refl
 named_none (b ∷ bs) none = absurd (omega (arith, eqb-true (length (b ∷ bs)) 0 none))

@@ -1,4 +1,4 @@
--- The tokens of bytes by what stands in front.
+-- The tokens of bytes, by the first byte.
 use Rattle.std.proofs.Common.{◌≡◌, ◌≢◌, ℕ, Bool, true, false, ⊎_elim, suc, one-add, eqb, List, [], ◌∷◌, ◌++◌, get_or, take, drop, refl, sym, ap, ◌∙◌}
 use Rattle.std.specs.List.{prefix_len}
 use Rattle.std.proofs.lemmas.Bool.{cases_Bool, false≢true, cond-true, cond-false, or_from, ne_eqb}
@@ -7,7 +7,7 @@ use Rattle.mm_lang.specs.Tokens.{Token, Word, Quoted, Mark, Unreadable, Inside, 
 use Rattle.mm_lang.specs.Tokens.{onto_symbol}
 use Rattle.mm_lang.specs.steps.Splitting.{begins_blank}
 
--- nothing
+-- no bytes
 pub tokens_none : tokens [] ≡ []
 unfolding lexed
 tokens_none = refl
@@ -17,7 +17,7 @@ pub tokens_blank : (b : ℕ) (bs : List ℕ) → is_blank b ≡ true → tokens 
 unfolding lexed
 tokens_blank b bs blank = cond-true (is_blank b) _ _ blank
 
--- the front that passes a test, one byte on
+-- the run at the front, one byte longer
 pub run_yes : (p : ℕ → Bool) (b : ℕ) (bs : List ℕ) → p b ≡ true → prefix_len p (b ∷ bs) ≡ suc (prefix_len p bs)
 run_yes p b bs passes = cond-true (p b) _ _ passes ∙ one-add (prefix_len p bs)
 
@@ -72,7 +72,7 @@ tokens_word b (c ∷ cs) word =
     ∙ ap (λ n. Word (b ∷ take n (c ∷ cs)) ∷ tokens (drop n (c ∷ cs))) (sym (run_no is_word_byte c cs ends)))
     (cases_Bool (is_word_byte c))
 
--- a symbol, or a byte that can't be read
+-- a symbol, or an unreadable byte
 pub tokens_symbol : (b : ℕ) (bs : List ℕ) → is_blank b ≡ false → b ≢ 39 → is_word_byte b ≡ false → tokens (b ∷ bs) ≡ onto_symbol b bs (tokens bs)
 unfolding lexed
 tokens_symbol b bs visible unquoted symbol =
@@ -83,9 +83,9 @@ pub tokens_equal : (bs : List ℕ) → tokens (61 ∷ bs) ≡ Mark Equal ∷ tok
 unfolding lexed
 tokens_equal bs = refl
 
--- A text, behind its opening quote.
+-- A text, after its opening quote.
 
--- bytes join a text that is read to its end
+-- bytes prepended to a text that is read to its end
 pub onto_texts : List ℕ → List Token → List Token
 onto_texts [] ts = ts
 onto_texts (b ∷ bs) ts = onto_text b (onto_texts bs ts)

@@ -1,4 +1,4 @@
--- The text of what is listed of a catalog in the parts in which it is written.
+-- The text of a listing as the parts in which it is written.
 use Rattle.std.proofs.Common.{◌≡◌, ◌≢◌, ◌<◌, ◌≤◌, ℕ, ◌+◌, List, [], ◌∷◌, ◌++◌, Option, Result, codes, decimal, length, get_or, take, drop, sym, ap, subst}
 use Rattle.std.proofs.Common.{◌∙◌, append-nil, append_assoc, take-append-drop, arith}
 use Rattle.std.specs.List.{flat_map}
@@ -15,14 +15,14 @@ use Rattle.mm_lang.specs.ReplyText.{column_text, columns_text, index_line, listi
 use Rattle.mm_lang.specs.Spelling.{kind_word, type_word}
 use Rattle.mm_lang.specs.Words.{keyword_text}
 
--- ---- what is written is a text that is equal
+-- ---- equal texts are written alike
 
 module _ {W : Type 0} {contents : W → Option (List ℕ)} where
   pub Writes-as : {T E : Type 0} {old new : Watched W} {result : Result T E} {written text : List ℕ} → text ≡ written
       → Writes contents old new result written → Writes contents old new result text
   Writes-as {old} {new} {result} is w = subst (Writes contents old new result) (sym is) w
 
--- ---- texts that stand one after another
+-- ---- texts one after another
 
 module _ {X : Type 0} (text : X → List ℕ) where
   -- the texts of i items, that of the next one, and those of the rest
@@ -40,7 +40,7 @@ module _ {X : Type 0} (text : X → List ℕ) where
 
 -- ---- columns
 
--- a column in the parts in which it is written
+-- a column as the parts in which it is written
 pub column_parts : (column : Column) (name type : List ℕ) → name ≡ column.name → type ≡ keyword_text (type_word column.col_type)
     → column_text column ≡ name ++ 32 ∷ type ++ role_text column.role
 column_parts column name type named typed = λ i. sym named i ++ 32 ∷ sym typed i ++ role_text column.role
@@ -53,7 +53,7 @@ columns_text-cons : (c : Column) (cs : List Column) → columns_text (c ∷ cs) 
 columns_text-cons c [] = sym (append-nil (column_text c))
 columns_text-cons c (d ∷ ds) = ap (λ l. column_text c ++ 44 ∷ 32 ∷ l) (columns_text-cons d ds)
 
--- the first column, the i columns after it, the next one, and the rest of them
+-- the first column, the i columns after it, the next one, and the remaining ones
 pub columns_text_at : (columns : List Column) (first : Column) (others : List Column) (i : ℕ) (c : Column) → columns ≡ first ∷ others → i < length others
     → c ≡ get_or others i c
     → columns_text columns
@@ -76,7 +76,7 @@ columns_text_all columns first others i e end =
 regrouped : (a b c d e f g h : List ℕ) → a ++ b ++ c ++ d ++ e ++ f ++ g ++ h ++ 10 ∷ [] ≡ (((a ++ b) ++ (c ++ d)) ++ ((e ++ f) ++ (g ++ h))) ++ 10 ∷ []
 regrouped a b c d e f g h = simp append_assoc
 
--- an index in the parts in which its line is written
+-- an index as the parts in which its line is written
 pub index_parts : (index : IndexDef) (name table column kind : List ℕ) → name ≡ index.name → table ≡ index.table → column ≡ index.column
     → kind ≡ keyword_text (kind_word index.kind)
     → index_line index ≡ (((codes "INDEX " ++ name) ++ (codes " ON " ++ table)) ++ ((codes " (" ++ column) ++ (codes ") " ++ kind))) ++ 10 ∷ []
@@ -86,13 +86,13 @@ index_parts index name table column kind named on by is =
 
 -- ---- tables, and all
 
--- what is listed of a catalog in the parts in which it is written
+-- a listing as the parts in which it is written
 pub listing_parts : (listing : Listing) (tables : List ListedTable) (standing : List ListedQuery) → tables ≡ listing.tables → standing ≡ listing.standing
     → listing_text listing ≡ (flat_map table_lines tables ++ flat_map query_line standing) ++ (codes "tables " ++ decimal (length tables) ++ 10 ∷ [])
 listing_parts listing tables standing are watched =
     λ i. flat_map table_lines (sym are i) ++ flat_map query_line (sym watched i) ++ (codes "tables " ++ decimal (length (sym are i)) ++ 10 ∷ [])
 
--- ---- no text begins like that of a refusal
+-- ---- no text begins like a refusal
 
 differ : (a b : ℕ) → a ≡ b → a ≢ b → ⊥
 differ a b e ne = ne e

@@ -1,4 +1,4 @@
--- Lists: what follows their first item, and the items that were read of one.
+-- Lists: what follows their first item, and the items read so far.
 use Rattle.std.proofs.Common.{◌≡◌, ◌≤◌, ◌<◌, inl, inr, ℕ, zero, suc, true, false, List, [], ◌∷◌, ◌++◌, Option, Some, None, length, refl, sym, ap, ◌∙◌, subst}
 use Rattle.std.proofs.Common.{arith, append_assoc, append-nil}
 use Rattle.std.specs.List.{flat_map}
@@ -42,7 +42,7 @@ module _ {A : Type 0} (separator : Phrase (Unit {0})) (item : Phrase A) where
       ∙ ap (λ (o : Option (Front (Unit {0}))). option_and_then (onto x) (behind_item o (at_most (length ts) separator item) us)) last
 
   module _ (shorter : (ts : List Token) (us : List Token) → separator ts ≡ Some (tt, us) → length us < length ts) (never_longer : NeverLonger item) where
-    -- the number does not matter where it is large enough
+    -- a larger bound on the number of items changes nothing, if both are large enough
     at_most_same : (n m : ℕ) (ts : List Token) → length ts < n → length ts < m → at_most n separator item ts ≡ at_most m separator item ts
     unfolding at_most
     at_most_same zero m ts p q = absurd (omega arith)
@@ -68,7 +68,7 @@ separator_shorter : (separator : Separator) (ts us : List Token) → the_separat
 separator_shorter Comma ts us e = let p = one_parts _ ts tt us e in omega (arith, ap length p.1)
 separator_shorter And ts us e = let p = one_parts _ ts tt us e in omega (arith, ap length p.1)
 
--- Some items of a list were read, with a reader that began elsewhere.
+-- Some items of a list were read since an earlier reader.
 pub record Gathered {A : Type 0} (literals : A → List Value) (old now : Reader) (said before after : List A) : Type 0 where
   pub items : List A
   pub joined : after ≡ before ++ items
@@ -76,11 +76,11 @@ pub record Gathered {A : Type 0} (literals : A → List Value) (old now : Reader
   pub same : first_fault (flat_map literals said) ≡ None → items ≡ said
   pub shorter : length now.rest ≤ length old.rest
 
--- they stand in front of the others
+-- they precede the others
 abbrev pub in_front : {A : Type 0} → List A → Front (List A) → Front (List A)
 in_front said r = (said ++ r.0, r.1)
 
--- The list goes on behind them.
+-- The rest of the list follows them.
 pub record InItems {A : Type 0} (separator : Separator) (item : Phrase A) (literals : A → List Value) (old now : Reader) (before after : List A) : Type 0 where
   pub said : List A
   pub so_far : Gathered literals old now said before after

@@ -1,4 +1,4 @@
--- The literals of a command stand in its tokens, in their order.
+-- The literals of a command are among its tokens, in order.
 use Rattle.std.proofs.Common.{◌≡◌, inl, inr, ⊎_elim, ℕ, Bool, true, false, cond, List, [], ◌∷◌, ◌++◌, Some, None, pos, refl, sym}
 use Rattle.std.proofs.Common.{ap, ◌∙◌, append_assoc, append-nil}
 use Rattle.std.specs.List.{flat_map, list_all, cons_option}
@@ -47,7 +47,7 @@ use Rattle.mm_lang.proofs.TupleValues.{all_literals}
 abbrev among : List Token → List Value
 among ts = literals_among ts
 
--- In front of any tokens, what spells a thing has its literals.
+-- A spelling followed by any tokens contributes exactly the value's literals.
 abbrev HasLiterals : {A : Type 0} → (List Token → A → Type 0) → (A → List Value) → Type 0
 HasLiterals {A} Spells literals = (ts : List Token) (x : A) (us : List Token) → Spells ts x → among (ts ++ us) ≡ literals x ++ among us
 
@@ -259,7 +259,7 @@ spelled_literals ts (command.RollbackTo n) h = sym (ap among h.1 ∙ behind_name
 pub read_literals : (ts : List Token) (c : Command) → command_of ts ≡ Some c → literals_of c ≡ among ts
 read_literals ts c e = spelled_literals ts c (command_read ts c e)
 
--- the first literal past its limit is the one that is refused
+-- the first literal past its limit is refused
 pub first_past : (front behind : List Value) (v : Value) → list_all is_within_limit front ≡ true → is_within_limit v ≡ false
     → first_fault (front ++ v ∷ behind) ≡ Some (past_limit v)
 first_past [] behind v within past = ap (λ b. option_or (cond b None (Some (past_limit v))) (first_fault behind)) past

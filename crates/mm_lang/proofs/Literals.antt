@@ -1,4 +1,4 @@
--- What a token is as a literal, and what reading its bytes as one gives.
+-- The literal that a token denotes, and the result of reading its bytes.
 use Rattle.std.proofs.Common.{◌≡◌, ◌<◌, ◌⊎◌, inl, inr, ⊎_elim, ℕ, Bool, true, false, cond, List, [], ◌∷◌, ◌++◌, Option, Some, None, Result, Ok, Err, length}
 use Rattle.std.proofs.Common.{Bor, MatchResult, refl, sym, ap, ◌∙◌, subst, arith}
 use Rattle.std.specs.Prelude.{pos, ℤ, IsErrOf, FitsSigned, ◌↔◌}
@@ -61,7 +61,7 @@ spelled_answers bytes r v reads spells =
     (λ past. answers_err (Some v) r (past_limit v) (past_answers bytes r v reads spells past) (ap (unless v) (past_some v past)))
     (cases_Bool (is_within_limit v))
 
--- bytes that spell none
+-- bytes that spell no value
 pub none_answers : (bytes : List ℕ) (r : Result Value Refusal) → Reads bytes r → ((v : Value) → Spells bytes v → ⊥)
     → AnswersOrMemory (checked literal_fault None) r
 none_answers bytes r reads none = answers_err None r Syntax (reads.syntax none) refl
@@ -69,7 +69,7 @@ none_answers bytes r reads none = answers_err None r Syntax (reads.syntax none) 
 no_numeral : (word : List ℕ) → is_numeral word ≡ false → IsNumeral word → ⊥
 no_numeral word bad h = false≢true (sym bad ∙ h)
 
--- a word begins with no minus and no quote
+-- a word begins with neither a minus nor a quote
 word_front : (word : List ℕ) (b : ℕ) (bs : List ℕ) → begins_word word ≡ true → word ≡ b ∷ bs → is_word_byte b ≡ false → ⊥
 word_front word b bs begins is other = false≢true (sym other ∙ ap begins_word (sym is) ∙ begins)
 
@@ -121,7 +121,7 @@ pub reads_from : {bytes : List ℕ} {r : Result Value Refusal}
     → (IsErrOf r TextTooLong ↔ ((text : List ℕ) × SpellsText bytes text × (64 < length text))) → Reads bytes r
 reads_from found syntax range too_long = record { found = found; syntax = syntax.1; range = range.1; too_long = too_long.1 }
 
--- a token that has bytes of its own
+-- a token with bytes
 pub token_answers : (token : Shown) (bytes : Bor (List ℕ)) (r : Result Value Refusal)
     → (token ≡ shown.Word bytes) ⊎ ((token ≡ shown.Signed bytes) ⊎ (token ≡ shown.Quoted bytes)) → Reads bytes.now r
     → (t : Token) → Shows token t → AnswersOrMemory (checked literal_fault (literal_of t)) r
@@ -132,7 +132,7 @@ token_answers token bytes r (inr (inr is)) reads t shows = quoted_answers bytes.
 front : List ℕ → Value → Front Value
 front rest v = (v, tokens rest)
 
--- A literal past its limit is noted, and other refusals end the reading.
+-- A literal past its limit is recorded, and other refusals end the reading.
 
 limit_of_past : (v : Value) → is_limit (past_limit v) ≡ true
 limit_of_past (Int z) = refl

@@ -1,4 +1,4 @@
--- Numbers, shifts, operands, tests and assignments, read by their parts.
+-- Numbers, shifts, operands, tests and assignments, read part by part.
 use Rattle.std.proofs.Common.{◌≡◌, ◌≤◌, inl, inr, ⊎_elim, ℕ, Bool, true, false, cond, List, [], ◌∷◌, Option, Some, None, Result, Ok, Err, length, refl, subst}
 use Rattle.std.proofs.Common.{sym, ap, ◌∙◌, arith}
 use Rattle.std.specs.Prelude.{ℤ, FitsSigned}
@@ -42,7 +42,7 @@ module _ (is_negative : Bool) (word : List ℕ) (old : Reader) where
   numbered_is : IsNumeral word → numbered is_negative word (tokens old.rest) ≡ Some (Some number, tokens old.rest)
   numbered_is numeral = cond-true (is_numeral word) _ _ numeral
 
-  -- A number within its limit is given, ..
+  -- A number within its limit is returned, ..
   pub number_within : (z : ℤ) → IsNumeral word → z ≡ signed_value is_negative word → FitsSigned w64 z
       → Gives (numbered is_negative word) shift_literals old old (Some z)
   number_within z numeral is fits =
@@ -55,7 +55,7 @@ module _ (is_negative : Bool) (word : List ℕ) (old : Reader) where
         shorter = omega arith;
       }
 
-  -- .. and one past its limit is noted.
+  -- .. and one past its limit is recorded.
   pub number_past : (fault : Option Refusal) (placeholder : ℤ) → IsNumeral word → ¬ FitsSigned w64 (signed_value is_negative word)
       → fault ≡ option_or old.fault (Some NumberOutOfRange)
       → Gives (numbered is_negative word) shift_literals old (record old { fault = fault }) (Some placeholder)
@@ -74,7 +74,7 @@ module _ (is_negative : Bool) (word : List ℕ) (old : Reader) where
 some-none : {A : Type 0} {x : A} → Some x ≡ None → ⊥
 some-none e = cc
 
--- ---- what stands behind a sign
+-- ---- after a sign
 
 hole_front : (ts us : List Token) → the_hole ts ≡ Some (tt, us) → ts ≡ Hole ∷ us
 hole_front [] us e = let answer : Front (Unit {0}) = (tt, us) in absurd (none-some answer e)
@@ -89,7 +89,7 @@ pub unit_fits : (is_negative : Bool) → FitsSigned w64 (unit_shift is_negative)
 unit_fits true = within_int (unit_shift true) refl
 unit_fits false = within_int (unit_shift false) refl
 
--- A hole is a 1, ..
+-- A hole is 1, ..
 pub hole_given : (is_negative : Bool) (old new : Reader) (z : ℤ) → Skips the_hole old new true → z ≡ unit_shift is_negative
     → Gives (behind_sign is_negative) shift_literals old new (Some z)
 hole_given is_negative old new z h is =
@@ -112,7 +112,7 @@ same_reading p q literals old new (Ok x) same g = record { said = g.said; read =
 same_reading p q literals old new (Err e) same (inl none) = inl (none.0, same ∙ none.1)
 same_reading p q literals old new (Err e) same (inr memory) = inr memory
 
--- .. and where none stands digits are read.
+-- .. and without a hole digits are read.
 pub digits_read : (is_negative : Bool) (old mid new : Reader) (r : Result (Option ℤ) Refusal) → Skips the_hole old mid false
     → ReadsPhrase (digits is_negative) shift_literals mid new r → ReadsPhrase (behind_sign is_negative) shift_literals old new r
 digits_read is_negative old mid new r none h =
@@ -121,13 +121,13 @@ digits_read is_negative old mid new r none h =
 
 -- ---- shifts
 
--- The tokens of a shift go on with this phrase, ..
+-- The shift continues with this phrase, ..
 pub record GoesOnWith (old mid : Reader) (number : Phrase (Option ℤ)) : Type 0 where
   pub is : shift (tokens old.rest) ≡ number (tokens mid.rest)
   pub fault : mid.fault ≡ old.fault
   pub shorter : length mid.rest ≤ length old.rest
 
--- .. which it does behind a plus, ..
+-- .. after a plus, ..
 pub plus_goes_on : (old mid : Reader) → Skips (the_symbol symbol.Plus) old mid true → GoesOnWith old mid (behind_sign false)
 unfolding shift
 plus_goes_on old mid h =
@@ -135,7 +135,7 @@ plus_goes_on old mid h =
     record { is = ap shift (symbol_read symbol.Plus (tokens old.rest) (tokens mid.rest) t.is); fault = t.fault; shorter = t.shorter }
 
 module _ (old now mid : Reader) (same : ◌≡◌ {A = Reader} now old) where
-  -- .. behind a minus ..
+  -- .. after a minus, ..
   pub minus_goes_on : Skips (the_symbol symbol.Minus) now mid true → GoesOnWith old mid (behind_sign true)
   unfolding shift
   minus_goes_on h =
@@ -148,7 +148,7 @@ module _ (old now mid : Reader) (same : ◌≡◌ {A = Reader} now old) where
         shorter = omega (arith, t.shorter, ap (λ (r : Reader). length r.rest) same);
       }
 
-  -- .. and with a word that a minus stands directly before.
+  -- .. or in a word with a minus.
   pub signed_goes_on : (word : List ℕ) → Follows now.rest (Signed word) mid.rest → mid.fault ≡ now.fault → GoesOnWith old mid (numbered true word)
   unfolding shift
   signed_goes_on word f faults = record {
@@ -157,7 +157,7 @@ module _ (old now mid : Reader) (same : ◌≡◌ {A = Reader} now old) where
     shorter = omega (arith, f.shorter, ap (λ (r : Reader). length r.rest) same);
   }
 
--- What reading that phrase gives is what reading the shift gives.
+-- The result of that phrase is the result of the shift.
 pub shift_reads : (old mid new : Reader) (number : Phrase (Option ℤ)) (r : Result (Option ℤ) Refusal) → GoesOnWith old mid number
     → ReadsPhrase number shift_literals mid new r → ReadsPhrase shift shift_literals old new r
 shift_reads old mid new number (Ok x) on g = record {
@@ -177,7 +177,7 @@ no_sign (Mark symbol.Minus ∷ ts) plus minus signed = absurd (some-none minus)
 no_sign (Signed word ∷ ts) plus minus signed = absurd signed
 no_sign ts plus minus signed = refl
 
--- Where no sign stands there is no shift.
+-- Without a sign there is no shift.
 pub shift_none : (old now new : Reader) → Skips (the_symbol symbol.Plus) old now false → Skips (the_symbol symbol.Minus) now new false
     → BeginsNotSigned (tokens new.rest) → Gives shift shift_literals old new None
 shift_none old now new plus minus signed =
@@ -201,7 +201,7 @@ literals_shifted f None = refl
 literals_shifted f (Some z) = refl
 
 module _ {F : Type 0} (column : Phrase F) (old : Reader) where
-  -- an operand, by the literal in front of it
+  -- an operand, given the result of reading a literal
   by_literal : Option (Front Value) → Option (Front (Operand F))
   by_literal found =
       option_and_then (λ (r : Front (Option Value)). operand_behind column r.0 r.1)
@@ -223,7 +223,7 @@ module _ {F : Type 0} (column : Phrase F) (old : Reader) where
   behind_column f = shift >>= (λ by. say (with_shift f by))
 
   module _ (mid : Reader) (none : one literal_of (tokens old.rest) ≡ None) (is : ◌≡◌ {A = Reader} mid old) where
-    -- Where no literal stands a column does, and a shift behind it.
+    -- Without a literal, a column and its shift are read.
     operand_goes_on : (new : Reader) (r : Result (Operand F) Refusal) → ReadsPhrase (operand_behind column None) operand_literals mid new r
         → ReadsPhrase (operand_on column) operand_literals old new r
     unfolding operand_on by_literal

@@ -9,7 +9,7 @@ unfolding pieces_of
 pieces-line [] rest h = refl
 pieces-line (b ∷ bs) rest h = rw h.0 (ap (λ (p : Pieces). with_byte b p.ended p.rest) (pieces-line bs rest h.1))
 
--- what has no line feed is all rest
+-- bytes without a line feed are the rest
 pieces-rest : (rest : List ℕ) → HasNoFeed rest → pieces_of rest ≡ record { ended = []; rest = rest }
 unfolding pieces_of
 pieces-rest [] h = refl

@@ -1,4 +1,4 @@
--- What a line with holes reads as, by its cases.
+-- The reading of a line with holes, by cases.
 use Rattle.std.proofs.Common.{◌≡◌, ◌≢◌, ◌<◌, ◌≤◌, inl, inr, ℕ, Bool, true, false, not, ◌&&◌, cond, ltb, List, [], ◌∷◌, Option, Some, None, Ok, Err, length}
 use Rattle.std.proofs.Common.{refl, sym, ap, ◌∙◌, arith}
 use Rattle.std.specs.List.{cons_option}
@@ -42,7 +42,7 @@ no_holes line nothing = sym (cond-true (is_nothing line) _ _ nothing)
 pub some_holes : (line : List ℕ) → is_nothing line ≡ false → holes_among (tokens line) ≡ holes_of line
 some_holes line some = sym (cond-false (is_nothing line) _ _ some)
 
--- A change of the catalog begins with a keyword of one, and no other command does.
+-- A change of the catalog begins with its keyword, and no other command does.
 definition_begins : (ts : List Token) (c : Command) → command_of ts ≡ Some c → begins_definition ts ≡ not (may_have_holes c)
 definition_begins ts c e = by c (command_read ts c e)
   where
@@ -69,11 +69,11 @@ definition_begins ts c e = by c (command_read ts c e)
     by (command.Savepoint n) h = ap begins_definition h.1
     by (command.RollbackTo n) h = ap begins_definition h.1
 
--- the command that was read, unless holes may not stand in it
+-- the command that was read, unless it has a hole and may not
 unless_holed : List Token → Option Command → Option Command
 unless_holed ts read = option_and_then (λ c. cond (has_hole ts && not (may_have_holes c)) None (Some c)) read
 
--- Where none is in a change of the catalog, the tokens read as their command, ..
+-- Without a hole in a change of the catalog, the tokens read as their command, ..
 holes_stand : (ts : List Token) → (has_hole ts && begins_definition ts) ≡ false → template_command ts ≡ command_of ts
 unfolding unless_holed
 holes_stand ts stand = by (command_of ts) refl
@@ -82,7 +82,7 @@ holes_stand ts stand = by (command_of ts) refl
     by None is = refl
     by (Some c) is = cond-false (has_hole ts && not (may_have_holes c)) _ _ (ap (λ b. has_hole ts && b) (sym (definition_begins ts c is)) ∙ stand)
 
--- .. and else as none.
+-- .. and otherwise as none.
 holes_refused : (ts : List Token) → (has_hole ts && begins_definition ts) ≡ true → template_command ts ≡ None
 unfolding unless_holed
 holes_refused ts refused = by (command_of ts) refl
@@ -113,7 +113,7 @@ read_some (Some d) c e = by (first_fault (literals_of d)) e
     by None e = cc
     by (Some refusal) e = absurd (cc)
 
--- A change of the catalog was read only where no token is a hole.
+-- A change of the catalog was read, so no token is a hole.
 kept_definition : (holed : Bool) (c : Command) (d : Definition) → cond (holed && not (may_have_holes c)) None (Some c) ≡ Some (command.Define d)
     → holed ≡ false
 kept_definition false c d e = refl
@@ -139,7 +139,7 @@ pub definitions_unholed : (line : List ℕ) (d : Definition) → template_of lin
 unfolding template_of
 definitions_unholed line d e = unholed_line (ltb 4096 (length line)) (is_nothing line) (tokens line) d e
 
--- Any other command was read, holes or not.
+-- Any other command was read, with or without holes.
 kept_other : (holed : Bool) (c : Command) → ((d : Definition) → c ≢ command.Define d) → cond (holed && not (may_have_holes c)) None (Some c) ≡ Some c
 kept_other false c other = refl
 kept_other true (command.Define d) other = absurd (other d refl)
@@ -162,7 +162,7 @@ unfolding template_of reading
 plain_template line free =
     ap (λ c. cond (ltb 4096 (length line)) (Err LineTooLong) (cond (is_nothing line) (Ok command.Nothing) (read_as c))) (plain (tokens line) free)
 
--- ---- as many holes as literals
+-- ---- one flag for each literal
 
 flag_of_number : (is_number : Bool) (v w : Value) (flags : List Bool) (literals : List Value) → length flags ≡ length literals
     → length (cons_option (option_map (λ (x : Value). false) (cond is_number (Some v) None)) flags)

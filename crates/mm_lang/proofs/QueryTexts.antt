@@ -1,4 +1,4 @@
--- The text of a query in the parts in which it is written.
+-- The text of a query as the parts in which it is written.
 use Rattle.std.proofs.Common.{◌≡◌, ◌<◌, ◌≤◌, ◌==◌, ◌+◌, ◌-◌, ℕ, zero, suc, false, List, [], ◌∷◌, ◌++◌, Some, ℤ, pos, ◌≤ℤ◌, ◌<ℤ◌, codes}
 use Rattle.std.proofs.Common.{decimal, get_or, length, map, slice_get, take, drop}
 use Rattle.std.proofs.Common.{refl, sym, ap, ◌∙◌, append_assoc, append-nil, arith}
@@ -31,7 +31,7 @@ module _ {X : Type 0} (text : X → List ℕ) where
   separated-cons x [] = sym (append-nil (text x))
   separated-cons x (y ∷ ys) = ap (λ l. text x ++ 44 ∷ l) (separated-cons y ys)
 
-  -- The first item, the i items after it, the next one, and the rest of them.
+  -- The first item, the i items after it, the next one, and the remaining ones.
   pub separated_at : (items : List X) (first : X) (others : List X) (i : ℕ) (x : X) → items ≡ first ∷ others → i < length others → x ≡ get_or others i x
       → separated (codes ",") text items
       ≡ text first ++ (flat_map next_item (take i others) ++ (next_item x ++ flat_map next_item (drop (i + 1) others)))
@@ -54,7 +54,7 @@ separated-map separator text f (x ∷ y ∷ xs) = ap (λ l. text (f x) ++ (separ
 
 -- ---- shifts
 
--- A plus stands before a number that has no minus.
+-- A number without a minus has a plus.
 pub with_sign : (z : ℤ) → pos 0 ≤ℤ z → shift_text z ≡ 43 ∷ signed_decimal z
 with_sign (pos n) e = refl
 with_sign (negsuc n) e = absurd (omega (arith, ints, e))
@@ -86,7 +86,7 @@ module _ {F : Type 0} where
   last_at (x ∷ y ∷ xs) test zero long is = absurd (omega (arith, long))
   last_at (x ∷ y ∷ xs) test (suc i) long is = last_at (y ∷ xs) test i (omega (arith, long)) is
 
-  -- What separates tests from a word after them is what separates the last one.
+  -- The separator after tests is the separator after the last one.
   pub last_space : (tests : List (Atom F)) (test : Atom F) → slice_get tests (length tests - 1) ≡ Some test → space_after_tests tests ≡ space_after test.right
   last_space [] test is = cc
   last_space (x ∷ xs) test is =
@@ -125,7 +125,7 @@ module _ (name : FieldPlace → FieldName) where
       ap (λ l. test_text (named_test x) ++ (space ++ (codes "AND " ++ l))) more
       ∙ regrouped (test_text (named_test x)) space (codes "AND ") so_far (next_test before test)
 
-  -- i tests, of which there is at least one, and the next one.
+  -- i tests, at least one, and the next one.
   pub test_more : (tests : List (Atom FieldPlace)) (i : ℕ) (before test : Atom FieldPlace) → 1 ≤ i → slice_get tests (i - 1) ≡ Some before
       → slice_get tests i ≡ Some test → tests_text (map named_test (take (i + 1) tests)) ≡ tests_text (map named_test (take i tests)) ++ next_test before test
   test_more tests i before test some is_before is =
@@ -175,7 +175,7 @@ order_mapped f tests [] = refl
 order_mapped f tests (p ∷ ps) = ap (λ l. l ++ (codes "ORDER " ++ separated (codes ",") decimal (p ∷ ps))) (spaces_mapped f tests)
 
 module _ (schema : Schema) (from : List FromItem) (tests : List (Atom FieldPlace)) (columns : List ℕ) where
-  -- What is written after the tables of a query, ..
+  -- The text after the tables of a query, ..
   abbrev pub after_tables : List ℕ
   after_tables = where_text (map (mapped_atom (named_field schema from)) tests) ++ order_text tests (map (λ column. column + 1) columns)
 
@@ -183,7 +183,7 @@ module _ (schema : Schema) (from : List FromItem) (tests : List (Atom FieldPlace
   abbrev pub after_fields : List ℕ
   after_fields = codes " FROM " ++ (separated (codes ",") from_text from ++ after_tables)
 
--- A query in the parts in which it is written.
+-- A query as the parts in which it is written.
 pub query_parts : (schema : Schema) (query : BoundQuery) (distinct : List ℕ) (fields : List FieldPlace) (from : List FromItem)
     (tests : List (Atom FieldPlace)) (columns : List ℕ)
     → distinct ≡ distinct_text query.distinct → fields ≡ query.fields → from ≡ query.from → tests ≡ query.atoms → columns ≡ query.order

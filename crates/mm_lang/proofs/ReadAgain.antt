@@ -1,4 +1,4 @@
--- What is listed of tables and indexes reads as the commands that make them.
+-- Listed tables and indexes read as the commands that create them.
 use Rattle.std.proofs.Common.{◌≡◌, ℕ, Bool, true, false, ◌||◌, eqb, List, [], ◌∷◌, ◌++◌, Some, codes, nat_le, ◌&&◌, refl, sym, ap, ◌∙◌, append_assoc, arith}
 use Rattle.std.specs.Prelude.{IfSome}
 use Rattle.std.specs.List.{AllByRecursion, list_all}
@@ -31,7 +31,7 @@ use Rattle.mm_lang.proofs.SpelledCommands.{command_spelled}
 
 -- ---- words
 
--- Bytes of a word, and behind them none: the word is a token.
+-- A run of bytes of a word, followed by no such byte, is a token.
 word_front : (w rest : List ℕ) → begins_word w ≡ true → list_all is_word_byte w ≡ true → begins_word rest ≡ false
     → tokens (w ++ rest) ≡ Word w ∷ tokens rest
 word_front [] rest begins all ends = absurd (false≢true begins)
@@ -42,7 +42,7 @@ word_front (b ∷ c ∷ cs) rest begins all ends =
     word_step b (c ∷ cs ++ rest) begins ∙ ap (λ joins. onto_word b joins (tokens (c ∷ cs ++ rest))) next
     ∙ ap (onto_word b true) (word_front (c ∷ cs) rest next behind ends)
 
--- A byte of a name is one of a word, ..
+-- A byte of a name is a byte of a word, ..
 byte_of_word : (b : ℕ) → is_name_byte b ≡ true → is_word_byte b ≡ true
 byte_of_word b is = by (is_lower b) (nat_le 65 b && nat_le b 90) (nat_le 48 b && nat_le b 57) (eqb b 95) is
   where
@@ -113,7 +113,7 @@ role_tokens role.Key = word keyword.Key ∷ []
 role_tokens role.Plain = []
 role_tokens (role.Reference table on_delete) = word keyword.Ref ∷ Word table ∷ on_delete_tokens on_delete
 
--- the tables that a column refers to are names
+-- the name of a column and that of its target are names
 abbrev IsNamed : Column → Type 0
 IsNamed c = IsName c.name × IfSome (target_of c) IsName
 

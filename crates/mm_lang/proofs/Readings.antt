@@ -1,4 +1,4 @@
--- Phrases put together, read one after the other.
+-- Combined phrases, read one after the other.
 use Rattle.std.proofs.Common.{◌≡◌, ◌≤◌, inl, inr, ℕ, Bool, true, false, List, [], ◌∷◌, ◌++◌, Option, Some, None, Result, Ok, Err, length, refl, subst, sym}
 use Rattle.std.proofs.Common.{ap, ◌∙◌, arith}
 use Rattle.std.specs.List.{flat_map}
@@ -66,7 +66,7 @@ took_then {A} next a b = record {
 pub took_say : {A : Type 0} (x : A) (reader : Reader) → Took (say x) reader reader x
 took_say x reader = record { is = refl; fault = refl; shorter = omega arith }
 
--- Where a step fails the whole does.
+-- If a step fails, the whole fails.
 module _ {A B : Type 0} (first : Phrase A) (next : A → Phrase B) (old : Reader) where
   pub fails_first : (e : Refusal) → Fails first old e → Fails (first >>= next) old e
   fails_first e (inl h) = inl (h.0, ap (option_and_then (λ (r : Front A). next r.0 r.1)) h.1)
@@ -77,7 +77,7 @@ module _ {A B : Type 0} (first : Phrase A) (next : A → Phrase B) (old : Reader
   fails_next mid x e is (inl h) = inl (h.0, ap (option_and_then (λ (r : Front A). next r.0 r.1)) is ∙ h.1)
   fails_next mid x e is (inr h) = inr h
 
--- A phrase stands behind one without literals.
+-- A phrase follows one without literals.
 pub reads_behind : {A B : Type 0} (first : Phrase A) (next : A → Phrase B) (literals : B → List Value) (old mid new : Reader) (x : A) (r : Result B Refusal)
     → Took first old mid x → ReadsPhrase (next x) literals mid new r → ReadsPhrase (first >>= next) literals old new r
 reads_behind {A} first next literals old mid new x (Ok y) t g = record {
@@ -89,7 +89,7 @@ reads_behind {A} first next literals old mid new x (Ok y) t g = record {
 }
 reads_behind first next literals old mid new x (Err e) t h = fails_next first next old mid x e t.is h
 
--- A thing was made of what was read.
+-- A value was made of the value that was read.
 pub given_made : {A B : Type 0} (phrase : Phrase A) (make : A → B) (literals : A → List Value) (all : B → List Value)
     → ((x : A) → all (make x) ≡ literals x) → {old new : Reader} {x : A} → Gives phrase literals old new x
     → Gives (phrase >>= (λ y. say (make y))) all old new (make x)
@@ -101,7 +101,7 @@ given_made {A} phrase make literals all same {old = old} {new = new} g = record 
   shorter = g.shorter;
 }
 
--- A thing was made of two phrases, one behind the other.
+-- A value was made of two phrases, one after the other.
 pub given_both : {A B C : Type 0} (first : Phrase A) (second : Phrase B) (make : A → B → C) (a : A → List Value) (b : B → List Value) (all : C → List Value)
     → ((x : A) (y : B) → all (make x y) ≡ a x ++ b y) → (old mid new : Reader) (x : A) (y : B) → Gives first a old mid x → Gives second b mid new y
     → Gives (first >>= (λ u. second >>= (λ v. say (make u v)))) all old new (make x y)
@@ -122,7 +122,7 @@ given_both {A} {B} first second make a b all same old mid new x y g h =
       shorter = omega (arith, g.shorter, h.shorter);
     }
 
--- The items of a list with none in front are the list.
+-- The items of a list with none before them are the list.
 pub listed : {A : Type 0} {phrase : Phrase (List A)} {literals : List A → List Value} {old new : Reader} {before after : List A} → before ≡ []
     → GivesItems phrase literals old new before after → Gives phrase literals old new after
 listed {before = before} none items =
@@ -148,7 +148,7 @@ took_list {old = old} {new = new} g = record {
   shorter = g.shorter;
 }
 
--- Whether a keyword stands there was read.
+-- Whether a keyword is next was read.
 pub keyword_stands : (k : Keyword) (old new : Reader) (b : Bool) → Skips (the_keyword k) old new b → Took (has_keyword k) old new b
 keyword_stands k old new true h =
     let t = took h.0 in
@@ -166,7 +166,7 @@ keyword_stands k old new false h = record {
   shorter = omega (arith, ap (λ (r : Reader). length r.rest) h.1);
 }
 
--- Items behind a keyword: none where it does not stand there, ..
+-- Items after a keyword: none without the keyword, ..
 pub clause_none : {A : Type 0} (wanted : Keyword) (separator : Phrase (Unit {0})) (item : Phrase A) (literals : A → List Value) (old new : Reader)
     → Skips (the_keyword wanted) old new false → (xs : List A) → xs ≡ [] → Gives (clause wanted separator item) (flat_map literals) old new xs
 unfolding clause
@@ -175,7 +175,7 @@ clause_none wanted separator item literals old new skips xs none =
     (reads_behind (has_keyword wanted) (clause_behind separator item) (flat_map literals) old new new false (Ok []) (keyword_stands wanted old new false skips)
     (record { said = []; read = refl; fault = sym (or_none new.fault); same = λ fits. refl; shorter = omega arith }))
 
--- .. and else those of a list.
+-- .. and otherwise those of a list.
 pub clause_reads : {A : Type 0} (wanted : Keyword) (separator : Phrase (Unit {0})) (item : Phrase A) (literals : A → List Value) (old mid new : Reader)
     (r : Result (List A) Refusal) → Skips (the_keyword wanted) old mid true → ReadsPhrase (list_of separator item) (flat_map literals) mid new r
     → ReadsPhrase (clause wanted separator item) (flat_map literals) old new r
@@ -223,14 +223,14 @@ module _ (old mid new : Reader) (key : Skips (the_keyword keyword.Key) old mid f
       took_then role_behind (keyword_stands keyword.Key old mid false key)
       (took_then reference (keyword_stands keyword.Ref mid new false h) (took_say Plain new))
 
-  -- .. or REF and what stands behind it.
+  -- .. or REF and the reference after it.
   pub role_reference : (behind : Reader) (r : Result Role Refusal) → Skips (the_keyword keyword.Ref) mid behind true
       → ReadsPhrase (reference true) no_literals behind new r → ReadsPhrase role no_literals old new r
   role_reference behind r h reads =
       reads_behind (has_keyword keyword.Key) role_behind no_literals old mid new false r (keyword_stands keyword.Key old mid false key)
       (reads_behind (has_keyword keyword.Ref) reference no_literals mid behind new true r (keyword_stands keyword.Ref mid behind true h) reads)
 
--- Behind REF stands the name of a table, and behind it CASCADE or nothing.
+-- After REF: the name of a table, and then CASCADE or nothing.
 
 pub reference_no_name : (old : Reader) (e : Refusal) → Fails name old e → Fails (reference true) old e
 reference_no_name old e h = fails_first name reference_to old e h

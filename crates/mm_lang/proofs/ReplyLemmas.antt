@@ -1,4 +1,4 @@
--- The texts of replies in the parts in which they are written.
+-- The texts of replies as the parts in which they are written.
 use Rattle.std.proofs.Common.{◌≡◌, ℕ, ◌+◌, ◌<◌, ◌≤◌, List, [], ◌∷◌, ◌++◌, length, get_or, take, drop, codes, decimal, sym, ap, append-nil, append_assoc}
 use Rattle.std.proofs.Common.{take-append-drop, ◌∙◌}
 use Rattle.std.specs.List.{flat_map}
@@ -12,7 +12,7 @@ use Rattle.mm_query.specs.declared.reply.Reply.TheVariants.{Refused}
 use Rattle.mm_lang.specs.ReplyText.{counted_lines, reply_text, rows_text}
 
 module _ {X : Type 0} (text : X → List ℕ) (label : List ℕ) where
-  -- the line of an item, and the line behind the items
+  -- the line of an item, and the line after the items
   abbrev pub item_line : X → List ℕ
   item_line item = text item ++ 10 ∷ []
 
@@ -32,7 +32,7 @@ module _ {X : Type 0} (text : X → List ℕ) (label : List ℕ) where
       ∙ flat_map-append item_line (take i items) (item ∷ [])
       ∙ ap (λ l. flat_map item_line (take i items) ++ l) (append-nil (item_line item))
 
-  -- what stands behind the first lines
+  -- the text after the first lines
   abbrev pub lines_behind_first : ℕ → List X → List ℕ
   lines_behind_first i items = flat_map item_line (drop i items) ++ number_line (length items)
 
@@ -47,7 +47,7 @@ module _ {X : Type 0} (text : X → List ℕ) (label : List ℕ) where
       → counted_lines text label items ≡ flat_map item_line (take i items) ++ number_line (length items)
   counted_all items i h = counted_split items ∙ ap (λ l. flat_map item_line l ++ number_line (length items)) (sym (take_all i items h))
 
--- the line of a row, and the line behind the rows
+-- the line of a row, and the line after the rows
 abbrev pub row_line : List Value → List ℕ
 row_line row = row_text row ++ 10 ∷ []
 
@@ -62,7 +62,7 @@ pub row_lines_more : (rows : List (List Value)) (i : ℕ) (row : List Value) →
     → flat_map row_line (take (i + 1) rows) ≡ flat_map row_line (take i rows) ++ row_line row
 row_lines_more rows i row lt at = item_lines_more row_text (codes "rows ") rows i row lt at
 
--- what stands behind the first lines
+-- the text after the first lines
 abbrev pub text_behind : ℕ → List (List Value) → List ℕ
 text_behind i rows = flat_map row_line (drop i rows) ++ count_line (length rows)
 

@@ -1,4 +1,4 @@
--- Queries and their parts, read one after the other, and the commands that have one.
+-- Queries and their parts, read one after the other, and the commands that contain one.
 use Rattle.std.proofs.Common.{◌≡◌, ℕ, Bool, true, false, cond, List, Option, Some, None, Result, Ok, pos, refl, sym, ap, ◌∙◌}
 use Rattle.std.specs.Prelude.{FitsSigned}
 use Rattle.std.specs.Int.{w64}
@@ -98,7 +98,7 @@ module _ (old mid : Reader) (word : List ℕ) (g : Gives (one word_of) no_litera
       word_says (λ w. cond (is_numeral w) (Some (digits_value 10 w)) None) (tokens old.rest) word (tokens mid.rest) t.is
       ∙ ap (λ b. option_map pair (cond b (Some (digits_value 10 word)) None)) numeral
 
-  -- A number within its limit is given, ..
+  -- A number within its limit is returned, ..
   pub position_within : (n : ℕ) → n ≡ digits_value 10 word → FitsSigned w64 (pos (digits_value 10 word)) → Gives position position_literals old mid n
   position_within n is fits =
       let t = took g in
@@ -113,7 +113,7 @@ module _ (old mid : Reader) (word : List ℕ) (g : Gives (one word_of) no_litera
         shorter = t.shorter;
       }
 
-  -- .. and one past its limit is noted.
+  -- .. and one past its limit is recorded.
   pub position_past : (fault : Option Refusal) (placeholder : ℕ) → ¬ FitsSigned w64 (pos (digits_value 10 word))
       → fault ≡ option_or mid.fault (Some NumberOutOfRange) → Gives position position_literals old (record mid { fault = fault }) placeholder
   position_past fault placeholder past noted =
@@ -155,7 +155,7 @@ after_fields distinct fields = the_keyword keyword.From >> after_from distinct f
 pub after_distinct : Bool → Phrase Query
 after_distinct distinct = comma_list field >>= after_fields distinct
 
--- Where each part stands, what is read behind it decides.
+-- After each part that is read, the rest decides the result.
 module _ (old mid new : Reader) (r : Result Query Refusal) (distinct : Bool) where
   pub query_distinct : Skips (the_keyword keyword.Distinct) old mid distinct → ReadsPhrase (after_distinct distinct) query_literals mid new r
       → ReadsPhrase query query_literals old new r
@@ -180,7 +180,7 @@ module _ (old mid new : Reader) (r : Result Query Refusal) (distinct : Bool) whe
     unfolding after_from
     query_tables from g h = reads_behind (comma_list from_item) (after_tables distinct fields) query_literals old mid new from r (took_list g) h
 
--- Where a part does not stand, nothing does.
+-- If a part is missing, the query fails.
 module _ (old : Reader) (e : Refusal) (distinct : Bool) where
   pub query_no_fields : Fails (comma_list field) old e → Fails (after_distinct distinct) old e
   unfolding after_distinct

@@ -1,4 +1,4 @@
--- Shifts, operands, tests and assignments: what is read is spelled so, and what is spelled is read.
+-- Shifts, operands, tests and assignments: the tokens that are read spell the value, and each spelling is read.
 use Rattle.std.proofs.Common.{◌≡◌, ◌⊎◌, inl, inr, ⊎_elim, ℕ, Bool, true, false, cond, List, [], ◌∷◌, ◌++◌, Option, Some, None, refl, sym, ap, subst, ◌∙◌}
 use Rattle.std.proofs.Common.{append-nil, append_assoc}
 use Rattle.std.specs.Prelude.{ℤ}
@@ -127,11 +127,11 @@ unit_spelled front z us (inr minus) = ap (λ l. shift (l ++ us)) minus.0 ∙ ap 
 shift_spelled : (front : List Token) (z : ℤ) (us : List Token) → SpellsShift front z → shift (front ++ us) ≡ Some (Some z, us)
 shift_spelled front z us h = ⊎_elim (digits_spelled front z us) (unit_spelled front z us) h
 
--- no sign stands in front
+-- the tokens do not begin with a sign
 abbrev pub NoSign : List Token → Type 0
 NoSign us = shift us ≡ Some (None, us)
 
--- no shift stands in front, and no test behind AND or WHERE
+-- the tokens begin neither with a shift nor with AND or WHERE
 abbrev pub NoTest : List Token → Type 0
 NoTest us = (NoSign us × (the_separator And us ≡ None)) × (the_keyword keyword.Where us ≡ None)
 
@@ -147,7 +147,7 @@ maybe_parts {A} phrase ts o us e =
     (λ not_there. inr (not_there.1, not_there.2))
     (optional_parts None (phrase >>= (λ x. say (Some x))) ts o us e)
 
--- The phrase of a column is exact for how columns are spelled, and none is a literal.
+-- The phrase of a column is exact for how columns are spelled, and no column is a literal.
 pub record IsColumn {F : Type 0} (column : Phrase F) (Spells : List Token → F → Type 0) : Type 0 where
   pub exact : IsExact column Spells Always
   pub no_literal : (front : List Token) (f : F) (us : List Token) → Spells front f → one literal_of (front ++ us) ≡ None
@@ -274,7 +274,7 @@ module _ {F : Type 0} (column : Phrase F) (Spells : List Token → F → Type 0)
       (λ not_there. column_read ts o us (ap (operand_behind column None) not_there.1 ∙ (ap (λ f. operand_behind column f p.1) not_there.0 ∙ p.3)))
       (maybe_parts (one literal_of) ts p.0 p.1 p.2)
 
-  -- an operand, by the literal in front of it
+  -- an operand, given the result of reading a literal
   by_literal : List Token → Option (Front Value) → Option (Front (Operand F))
   by_literal ts found =
       option_and_then (λ (r : Front (Option Value)). operand_behind column r.0 r.1)
@@ -394,7 +394,7 @@ assignments_exact =
     list_exact (the_symbol symbol.Comma) (Mark symbol.Comma) assignment SpellsAssignment NoSign comma
     (record { sound = assignment_read; complete = assignment_spelled }) (λ us. refl)
 
--- A WHERE ends the assignments in front of it.
+-- A WHERE ends the assignments before it.
 where_ends : (front : List Token) (asked : List (Atom (List ℕ))) → SpellsTestsOn SpellsName front asked → NoSign front × (the_symbol symbol.Comma front ≡ None)
 unfolding shift
 where_ends front [] h = subst (λ l. NoSign l × (the_symbol symbol.Comma l ≡ None)) (sym h) (refl, refl)

@@ -1,4 +1,4 @@
--- Commands: what is read is spelled so, and what is spelled is read.
+-- Commands: the tokens that are read spell the value, and each spelling is read.
 use Rattle.std.proofs.Common.{◌≡◌, ◌⊎◌, inl, inr, ⊎_elim, ℕ, Bool, true, false, eqb, List, [], ◌∷◌, ◌++◌, Option, Some, None, refl, sym, ap, subst, ◌∙◌}
 use Rattle.std.proofs.Common.{append-nil}
 use Rattle.std.specs.Option.{option_and_then, option_or}
@@ -117,11 +117,11 @@ role_read ts r us e =
     let p = then_parts (has_keyword keyword.Key) role_behind ts r us e in
     role_behind_read p.0 p.1 r us p.3 ts (has_keyword_read keyword.Key ts p.0 p.1 p.2)
 
--- no role stands in front, and no CASCADE that would go on with one
+-- the tokens begin with no role, and with no CASCADE that would continue one
 abbrev NoRole : List Token → Type 0
 NoRole us = (role us ≡ Some (Plain, us)) × (the_keyword keyword.Cascade us ≡ None)
 
--- CASCADE or nothing behind the name of a table, by the keyword in front
+-- CASCADE or nothing after the name of a table, given the result of reading the keyword
 by_cascade : List ℕ → List Token → Option (Front (Unit {0})) → Option (Front Role)
 by_cascade target ts found =
     option_and_then (λ (r : Front Bool). say (Reference target (on_delete_of r.0)) r.1)
@@ -210,7 +210,7 @@ insert_spelled t tuples inner named h =
     ∙ ap (option_and_then (λ (r : Front (List (List Value))). say_insert t r.0 r.1))
     (ap (comma_list tuple) (sym (append-nil inner)) ∙ tuples_exact.complete inner tuples [] h (tt, refl))
 
--- a name alone behind what makes a command of it
+-- a single name after the keywords of a command
 
 module _ (make : List ℕ → Command) where
   say_made : List ℕ → Phrase Command

@@ -1,4 +1,4 @@
--- Queries, SELECT, EXPLAIN and WATCH: what is read is spelled so, and what is spelled is read.
+-- Queries, SELECT, EXPLAIN and WATCH: the tokens that are read spell the value, and each spelling is read.
 use Rattle.std.proofs.Common.{◌≡◌, ⊎_elim, ℕ, Bool, true, false, cond, List, [], ◌∷◌, ◌++◌, Option, Some, None, refl, sym, ap, subst, ◌∙◌, append-nil}
 use Rattle.std.proofs.Common.{append_assoc}
 use Rattle.std.specs.Option.{option_and_then, option_or}
@@ -40,7 +40,7 @@ unfolding says_position
 position_spelled (Word w) n h = ap (λ b. cond b (Some (digits_value 10 w)) None) h.0 ∙ ap Some (sym h.1)
 position_spelled _ n h = absurd h
 
--- no position goes on
+-- no position follows
 abbrev NoPosition : List Token → Type 0
 NoPosition us = (Always us × (the_symbol symbol.Comma us ≡ None)) × (the_keyword keyword.Order us ≡ None)
 
@@ -89,9 +89,9 @@ tables_exact =
     list_exact (the_symbol symbol.Comma) (Mark symbol.Comma) from_item SpellsFromItem Always comma
     (record { sound = item_read; complete = λ front i us h _. item_spelled front i us h }) (λ us. tt)
 
--- ---- what ends the parts
+-- ---- the ends of the parts
 
--- An ORDER ends the tests and the tables in front of it, ..
+-- An ORDER ends the tests and the tables before it, ..
 abbrev EndsTests : List Token → Type 0
 EndsTests us = NoTest us × (the_symbol symbol.Comma us ≡ None)
 
@@ -100,13 +100,13 @@ unfolding shift
 order_ends front [] h = subst EndsTests (sym h) (((refl, refl), refl), refl)
 order_ends front (n ∷ others) h = subst EndsTests (sym h.2) (((refl, refl), refl), refl)
 
--- .. a WHERE the tables ..
+-- .. a WHERE ends the tables, ..
 where_ends : (front us : List Token) (asked : List (Atom FieldName)) → SpellsTestsOn SpellsField front asked → the_symbol symbol.Comma us ≡ None
     → the_symbol symbol.Comma (front ++ us) ≡ None
 where_ends front us [] h end = ap (λ l. the_symbol symbol.Comma (l ++ us)) h ∙ end
 where_ends front us (a ∷ others) h end = ap (λ l. the_symbol symbol.Comma (l ++ us)) h.2
 
--- .. and fields begin with no DISTINCT.
+-- .. and fields do not begin with DISTINCT.
 fields_begin : (front us : List Token) (fields : List FieldName) → SpellsList (Mark symbol.Comma) SpellsField front fields
     → the_keyword keyword.Distinct (front ++ us) ≡ None
 fields_begin front us [] h = absurd h
@@ -224,7 +224,7 @@ query_spelled ts q h =
 
 -- ---- SELECT, EXPLAIN and WATCH
 
--- a query alone behind what makes a command of it
+-- a query after the keywords of a command
 module _ (make : Query → Command) where
   say_made : Query → Phrase Command
   say_made q = say (make q)

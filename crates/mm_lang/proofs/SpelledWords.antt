@@ -1,4 +1,4 @@
--- Symbols, keywords, names and literals: what a single token is read as, and what the grammar says.
+-- Symbols, keywords, names and literals: how a single token is read, and what the grammar says.
 use Rattle.std.proofs.Common.{◌≡◌, ◌≤◌, ◌⊎◌, inl, inr, ⊎_elim, ℕ, Bool, true, false, cond, List, [], ◌∷◌, Some, None, Decides, leb, ltb, length, pos, neg_ℤ}
 use Rattle.std.proofs.Common.{refl, sym, ap, subst, ◌∙◌, arith}
 use Rattle.std.specs.Char.{is_ascii_digit}
@@ -53,7 +53,7 @@ keyword_read k ts us e =
     let q = tested (is_word k p.0) (Some tt) tt p.2 in
     p.1 ∙ ap (λ w. Word w ∷ us) ((is_word-Decides k p.0).0 q.0)
 
--- A keyword that is no name stands at none.
+-- A keyword that is not a name is not read at a name.
 pub name_no_keyword : (k : Keyword) → is_name (keyword_text k) ≡ false → (n : List ℕ) (us : List Token) → IsName n → the_keyword k (Word n ∷ us) ≡ None
 name_no_keyword k upper n us named =
     ⊎_elim
@@ -61,7 +61,7 @@ name_no_keyword k upper n us named =
     (λ other. let pair : Unit {0} → Front (Unit {0}) = λ x. (x, us) in ap (λ b. option_map pair (cond b (Some tt) None)) other)
     (cases_Bool (is_word k n))
 
--- Whether a keyword stands there, as it was read.
+-- Whether a keyword is next, as it was read.
 pub has_keyword_read : (k : Keyword) (ts : List Token) (b : Bool) (us : List Token) → has_keyword k ts ≡ Some (b, us)
     → ((b ≡ true) × (ts ≡ word k ∷ us)) ⊎ ((b ≡ false) × (ts ≡ us))
 has_keyword_read k ts b us e =
@@ -80,7 +80,7 @@ find_passes p (y ∷ ys) x e = by (p y) refl e (λ f. find_passes p ys x f)
     by true is e rest = ap p (sym (same_Some y x e)) ∙ is
     by false is e rest = rest e
 
--- the word that a keyword was named by
+-- the word of a keyword
 pub named_read : (w : List ℕ) (k : Keyword) → keyword_named w ≡ Some k → Word w ≡ word k
 named_read w k e = ap Word ((is_word-Decides k w).0 (find_passes (λ k. is_word k w) KEYWORDS k e))
 
@@ -113,7 +113,7 @@ literal_spelled (Quoted text) (Text said) h = ap (λ t. Some (Text t)) (sym h)
 literal_spelled Hole (Int z) h = ap (λ n. Some (Int n)) (sym h)
 literal_spelled _ _ h = absurd h
 
--- a name is no numeral
+-- a name is not a numeral
 pub name_no_numeral : (name : List ℕ) → IsName name → is_numeral name ≡ true → ⊥
 name_no_numeral [] named numeral = let p = and_parts (is_name_text []) (leb 0 32) named in absurd (cc (p.0))
 name_no_numeral (b ∷ bs) named numeral =

@@ -1,4 +1,4 @@
--- No text of a plan begins like that of a refusal.
+-- No text of a plan begins like a refusal.
 use Rattle.std.proofs.Common.{◌≡◌, ◌≢◌, ℕ, true, false, List, [], ◌∷◌, ◌++◌, codes, get_or, length, refl, sym, ap, ◌∙◌, append_assoc, arith}
 use Rattle.std.specs.Char.{is_ascii_digit}
 use Rattle.std.specs.List.{All, flat_map}
@@ -16,7 +16,7 @@ differ a b e ne = ne e
 no_digit : (a b : ℕ) → is_ascii_digit a ≡ false → is_ascii_digit b ≡ true → a ≡ b → ⊥
 no_digit a b letter digit e = false≢true (sym letter ∙ (ap is_ascii_digit e ∙ digit))
 
--- Behind an alias stand a space and a letter.
+-- A space and a letter follow an alias.
 access_method_begins : (step : PlanLine) → (b : ℕ) × (tail : List ℕ) × (access_method_text step ≡ 32 ∷ b ∷ tail) × (is_ascii_digit b ≡ false)
 access_method_begins (line.Scan alias) = (115, codes "can", refl, refl)
 access_method_begins (line.Hash alias index) = (104, codes "ash " ++ index, refl, refl)
@@ -29,7 +29,7 @@ access_method_begins (line.HashJoin alias index) = (104, _, refl, refl)
 access_method_begins (line.BuiltHash alias column) = (98, _, refl, refl)
 access_method_begins (line.NestedLoops alias) = (110, _, refl, refl)
 
--- The sixth byte of a name is no space.
+-- The sixth byte of a name is not a space.
 no_space : (a b c d e f : ℕ) (others : List ℕ) → IsName (a ∷ b ∷ c ∷ d ∷ e ∷ f ∷ others) → f ≡ 32 → ⊥
 no_space a b c d e f others named is =
     let text = (and_parts (is_name_text (a ∷ b ∷ c ∷ d ∷ e ∷ f ∷ others)) _ named).0 in
@@ -52,7 +52,7 @@ alias_ends (_ ∷ _ ∷ _ ∷ _ ∷ _ ∷ []) b tail digit rest named letter is 
 alias_ends (a0 ∷ a1 ∷ a2 ∷ a3 ∷ a4 ∷ a5 ∷ others) b tail digit rest named letter is e =
     no_space a0 a1 a2 a3 a4 a5 others named (ap (λ l. get_or l 5 0) e)
 
--- What stands before and behind the access method of a line.
+-- The text before and after the access method of a line.
 line_begins : (alias way more rest : List ℕ) (b : ℕ) (tail : List ℕ) → way ≡ 32 ∷ b ∷ tail
     → (((alias ++ way) ++ 10 ∷ []) ++ more) ++ rest ≡ alias ++ 32 ∷ b ∷ (tail ++ 10 ∷ (more ++ rest))
 line_begins alias way more rest b tail e =

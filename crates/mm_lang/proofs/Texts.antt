@@ -46,7 +46,7 @@ pub piece_fault : (rest : List ℕ) → (1 ≤ length rest → get_or rest 0 0 �
 piece_fault [] fault = text_none
 piece_fault (b ∷ bs) fault = ap (λ x. lexed Inside (x ∷ bs)) (fault (omega arith)) ∙ text_line_feed bs
 
--- The bytes up to `end` are an opening quote and what spells some bytes of the text.
+-- The bytes up to `end` are an opening quote and the spelling of some bytes of the text.
 pub record Within (bytes : List ℕ) (end : ℕ) : Type 0 where
   pub said : List ℕ
   pub positive : 0 < end

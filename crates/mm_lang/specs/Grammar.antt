@@ -1,4 +1,4 @@
--- What tokens read as, from left to right.
+-- The parser as a definition: how tokens are read, from left to right.
 use Rattle.std.specs.Prelude.{ℕ, ◌==◌, Bool, true, false, if◌then◌else◌, List, ◌∷◌, Option, Some, None, ℤ, pos, negsuc}
 use Rattle.std.specs.Option.{option_and_then}
 use Rattle.std.specs.Str.Parse.{digits_value}
@@ -45,7 +45,7 @@ use Rattle.mm_lang.specs.Words.{keyword_named}
 abbrev pub name : Phrase (List ℕ)
 name = one_word (λ word. if is_name word then Some word else None)
 
--- The literal that a token is, of any size. A hole is a 0 until a value is given.
+-- The literal that a token denotes, of any size. A hole is 0 until a value is given.
 abbrev pub literal_of : Token → Option Value
 literal_of (Word word) = if is_numeral word then Some (value.Int (pos (digits_value 10 word))) else None
 literal_of (Signed word) = if is_numeral word then Some (value.Int (neg_ℤ (pos (digits_value 10 word)))) else None
@@ -54,31 +54,31 @@ literal_of (Mark mark) = None
 literal_of Hole = Some (value.Int (pos 0))
 literal_of Unreadable = None
 
--- The type that a keyword names.
+-- The type that a keyword denotes.
 abbrev pub type_named : Keyword → Option ColType
 type_named keyword.Int = Some type.Int
 type_named keyword.Text = Some type.Text
 type_named _ = None
 
--- The type that a word names.
+-- The type that a word denotes.
 abbrev pub col_type : Phrase ColType
 col_type = one_word (λ word. option_and_then type_named (keyword_named word))
 
--- The kind of index that a keyword names.
+-- The kind of index that a keyword denotes.
 abbrev pub kind_named : Keyword → Option IndexKind
 kind_named keyword.Tree = Some kind.Tree
 kind_named keyword.Hash = Some kind.Hash
 kind_named _ = None
 
--- The kind of index that a word names.
+-- The kind of index that a word denotes.
 abbrev pub index_kind : Phrase IndexKind
 index_kind = one_word (λ word. option_and_then kind_named (keyword_named word))
 
--- x, .. : one or more, a comma between each two
+-- x, .. : one or more, separated by commas
 abbrev pub comma_list : {A : Type 0} → Phrase A → Phrase (List A)
 comma_list item = list_of (the_symbol symbol.Comma) item
 
--- The comparison that a symbol writes.
+-- The comparison that a symbol denotes.
 abbrev pub comparison_of : Symbol → Option Comparison
 comparison_of symbol.Equal = Some compared.Equal
 comparison_of symbol.Less = Some compared.Less
@@ -91,11 +91,11 @@ comparison_of _ = None
 abbrev pub comparison : Phrase Comparison
 comparison = one (λ t. option_and_then comparison_of (mark_of t))
 
--- The number of a word of digits that was read, of any size, with a minus or without.
+-- The value of a word of digits that was read, of any size, negated after a minus.
 abbrev pub numbered : Bool → List ℕ → Phrase (Option ℤ)
 numbered is_negative word = only_if (is_numeral word) (say (Some (signed_value is_negative word)))
 
--- Digits as a number of any size, with a minus or without.
+-- Digits as a number of any size, negated after a minus.
 abbrev pub digits : Bool → Phrase (Option ℤ)
 digits is_negative = one word_of >>= numbered is_negative
 
@@ -104,24 +104,24 @@ abbrev pub unit_shift : Bool → ℤ
 unit_shift true = negsuc 0
 unit_shift false = pos 1
 
--- What stands behind a sign: digits, or a hole, which is a 1 until a value is given.
+-- After a sign: digits, or a hole, which is 1 until a value is given.
 abbrev pub behind_sign : Bool → Phrase (Option ℤ)
 behind_sign is_negative (Hole ∷ ts) = Some (Some (unit_shift is_negative), ts)
 behind_sign is_negative ts = digits is_negative ts
 
--- [+ digits | - digits]: the minus may stand directly before its digits or not. A hole may stand in place of digits.
+-- [+ digits | - digits]: blanks may separate the minus from its digits. A hole may replace the digits.
 unfoldable pub shift : Phrase (Option ℤ)
 shift (Mark symbol.Plus ∷ ts) = behind_sign false ts
 shift (Mark symbol.Minus ∷ ts) = behind_sign true ts
 shift (Signed word ∷ ts) = numbered true word ts
 shift ts = Some (None, ts)
 
--- A column, or a column with a shift.
+-- A column, with a shift if there is one.
 abbrev pub with_shift : {F : Type 0} → F → Option ℤ → Operand F
 with_shift column None = kind_of.Column column
 with_shift column (Some by) = kind_of.Shifted column by
 
--- Nothing more, where a literal stands in front, and else a column and [shift].
+-- After a literal: nothing. Otherwise: a column and [shift].
 abbrev pub operand_behind : {F : Type 0} → Phrase F → Option Value → Phrase (Operand F)
 operand_behind column (Some value) = say (kind_of.Literal value)
 operand_behind column None = do
@@ -129,7 +129,7 @@ operand_behind column None = do
   by ← shift
   say (with_shift its_name by)
 
--- literal | column [shift], where columns are named by a phrase
+-- literal | column [shift], given the phrase of a column
 unfoldable pub operand_on : {F : Type 0} → Phrase F → Phrase (Operand F)
 operand_on column = maybe (one literal_of) >>= operand_behind column
 
@@ -176,21 +176,21 @@ position = one_word (λ word. if is_numeral word then Some (digits_value 10 word
 abbrev pub order : Phrase (List ℕ)
 order = clause keyword.Order (the_symbol symbol.Comma) position
 
--- What becomes of the rows that refer to a row that is deleted, by whether CASCADE stands behind the table's name.
+-- The rule for deleting referenced rows: Cascade if CASCADE follows the table's name.
 abbrev pub on_delete_of : Bool → OnDelete
 on_delete_of true = Cascade
 on_delete_of false = Restrict
 
--- [CASCADE], behind REF and the name of a table
+-- [CASCADE], after REF and the name of a table
 abbrev pub reference_to : List ℕ → Phrase Role
 reference_to table = has_keyword keyword.Cascade >>= (λ there. say (Reference table (on_delete_of there)))
 
--- name [CASCADE], where REF stands in front, and else nothing
+-- name [CASCADE] after REF, and otherwise nothing
 abbrev pub reference : Bool → Phrase Role
 reference true = name >>= reference_to
 reference false = say Plain
 
--- nothing, where KEY stands in front, and else [REF name [CASCADE]]
+-- nothing after KEY, and otherwise [REF name [CASCADE]]
 abbrev pub role_behind : Bool → Phrase Role
 role_behind true = say Key
 role_behind false = has_keyword keyword.Ref >>= reference
@@ -211,14 +211,14 @@ column = do
 unfoldable pub tuple : Phrase (List Value)
 tuple = in_parentheses (comma_list (one literal_of))
 
--- TABLE, and behind it: name ( coldef, .. ) with exactly one KEY
+-- TABLE, followed by: name ( coldef, .. ) with exactly one KEY
 unfoldable pub table : Phrase Command
 table = do
   name ← name
   columns ← in_parentheses (comma_list column)
   only_if (key_count columns == 1) (say (command.Define (define.Table (record { name = name; columns = columns }))))
 
--- DROP TABLE or DROP INDEX, and behind it: name
+-- DROP TABLE or DROP INDEX, followed by: name
 abbrev pub dropped : Keyword → Phrase Command
 dropped keyword.Table = do
   name ← name
@@ -228,11 +228,11 @@ dropped keyword.Index = do
   say (command.Define (define.DropIndex name))
 dropped _ = never
 
--- DROP, and behind it: TABLE name | INDEX name
+-- DROP, followed by: TABLE name | INDEX name
 unfoldable pub drop : Phrase Command
 drop = one_word keyword_named >>= dropped
 
--- INDEX, and behind it: name ON name ( name ) kind
+-- INDEX, followed by: name ON name ( name ) kind
 unfoldable pub index : Phrase Command
 index = do
   index_name ← name
@@ -242,19 +242,19 @@ index = do
   kind ← index_kind
   say (command.Define (define.Index (record { name = index_name; table = table; column = column; kind = kind })))
 
--- INSERT, and behind it: name tuple, ..
+-- INSERT, followed by: name tuple, ..
 unfoldable pub insert : Phrase Command
 insert = do
   table ← name
   tuples ← comma_list tuple
   say (command.Change (change.Insert table tuples))
 
--- The rows of an index's table in its order, or of a table in key order.
+-- SCAN INDEX of an index, or SCAN of a table.
 abbrev pub scan_of : Bool → List ℕ → Command
 scan_of true index = command.ScanIndex index
 scan_of false table = command.Scan table
 
--- UPDATE, and behind it: name SET assign, .. [WHERE test AND test ..]
+-- UPDATE, followed by: name SET assign, .. [WHERE test AND test ..]
 unfoldable pub update : Phrase Command
 update = do
   table ← name
@@ -263,14 +263,14 @@ update = do
   asked ← tests_on name
   say (command.Change (change.Update table assignments asked))
 
--- DELETE, and behind it: name [WHERE test AND test ..]
+-- DELETE, followed by: name [WHERE test AND test ..]
 unfoldable pub delete : Phrase Command
 delete = do
   table ← name
   asked ← tests_on name
   say (command.Change (change.Delete table asked))
 
--- SCAN, and behind it: name | INDEX name
+-- SCAN, followed by: name | INDEX name
 unfoldable pub scan : Phrase Command
 scan = do
   by_index ← has_keyword keyword.Index
@@ -288,25 +288,25 @@ query = do
   positions ← order
   say (record { distinct = distinct; fields = fields; from = from; atoms = asked; order = positions })
 
--- SELECT, and behind it: query
+-- SELECT, followed by: query
 unfoldable pub select : Phrase Command
 select = do
   asked ← query
   say (command.Select asked)
 
--- SHOW, and behind it: name
+-- SHOW, followed by: name
 unfoldable pub show : Phrase Command
 show = do
   name ← name
   say (command.Show name)
 
--- UNWATCH, and behind it: name
+-- UNWATCH, followed by: name
 unfoldable pub unwatch : Phrase Command
 unwatch = do
   name ← name
   say (command.Define (define.Unwatch name))
 
--- WATCH, and behind it: name SELECT query
+-- WATCH, followed by: name SELECT query
 unfoldable pub watch : Phrase Command
 watch = do
   its_name ← name
@@ -314,31 +314,31 @@ watch = do
   asked ← query
   say (command.Define (define.Watch (record { name = its_name; query = asked })))
 
--- EXPLAIN, and behind it: SELECT query
+-- EXPLAIN, followed by: SELECT query
 unfoldable pub explain : Phrase Command
 explain = do
   the_keyword keyword.Select
   asked ← query
   say (command.Explain asked)
 
--- SAVEPOINT, and behind it: name
+-- SAVEPOINT, followed by: name
 unfoldable pub savepoint : Phrase Command
 savepoint = do
   name ← name
   say (command.Savepoint name)
 
--- ROLLBACK, and behind it, where TO stands there: name
+-- ROLLBACK TO, followed by: name; or ROLLBACK
 abbrev pub rolled_back : Bool → Phrase Command
 rolled_back true = name >>= (λ name. say (command.RollbackTo name))
 rolled_back false = say command.Rollback
 
--- ROLLBACK, and behind it: nothing, or TO name
+-- ROLLBACK, followed by: nothing, or TO name
 unfoldable pub rollback : Phrase Command
 rollback = do
   to ← has_keyword keyword.To
   rolled_back to
 
--- what stands behind the keyword that a command begins with
+-- the rest of a command after its first keyword
 abbrev pub command_behind : Keyword → Phrase Command
 command_behind keyword.Begin = say command.Begin
 command_behind keyword.Commit = say command.Commit
@@ -359,6 +359,6 @@ command_behind keyword.Update = update
 command_behind keyword.Watch = watch
 command_behind _ = never
 
--- The command that tokens read as, its numbers and texts of any size, with a number in place of each hole.
+-- The command that tokens read as, with numbers and texts of any size, and with a number in place of each hole.
 unfoldable pub command_of : List Token → Option Command
 command_of = whole (one_word keyword_named >>= command_behind)

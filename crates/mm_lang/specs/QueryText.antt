@@ -1,4 +1,4 @@
--- The text of a query, in as few bytes as a line can have for it.
+-- The text of a query, in as few bytes as a line can spell it.
 use Rattle.std.specs.Prelude.{ℕ, ◌+◌, Bool, true, false, List, [], ◌∷◌, ◌++◌, Option, ℤ, codes, map, pos, negsuc, slice_get, suc}
 use Rattle.std.specs.Fmt.{decimal}
 use Rattle.std.specs.Option.{option_and_then, option_map_or}
@@ -18,7 +18,7 @@ use Rattle.mm_query.specs.declared.query.Query.{Query}
 use Rattle.mm_lang.specs.Spelling.{comparison_symbol}
 use Rattle.mm_lang.specs.Words.{symbol_text}
 
--- ---- names for places
+-- ---- names for positions
 
 -- The column of a field, if its table and the column exist.
 abbrev pub column_at : Schema → List FromItem → FieldPlace → Option Column
@@ -32,7 +32,7 @@ named_field schema from field = record {
   column = option_map_or (λ (column : Column). column.name) (column_at schema from field) [];
 }
 
--- A bound query with names in place of the places of its fields; positions are counted from 1.
+-- A bound query with names in place of the positions of its fields; positions of ORDER are counted from 1.
 abbrev pub named_query : Schema → BoundQuery → Query
 named_query schema query = record {
   distinct = query.distinct;
@@ -44,7 +44,7 @@ named_query schema query = record {
 
 -- ---- texts
 
--- The texts of items, in order, with a separator between two.
+-- The texts of items, in order, separated by a separator.
 abbrev pub separated : {X : Type 0} → List ℕ → (X → List ℕ) → List X → List ℕ
 separated separator text [] = []
 separated separator text (x ∷ []) = text x
@@ -54,7 +54,7 @@ separated separator text (x ∷ y ∷ xs) = text x ++ (separator ++ separated se
 abbrev pub field_text : FieldName → List ℕ
 field_text field = field.alias ++ 46 ∷ field.column
 
--- A number that is added to a field: + digits, or - digits for a negative one
+-- The number added to a field: + digits, or - digits for a negative one
 abbrev pub shift_text : ℤ → List ℕ
 shift_text (pos n) = 43 ∷ decimal n
 shift_text (negsuc n) = 45 ∷ decimal (suc n)
@@ -69,14 +69,14 @@ operand_text (operand.Shifted field by) = field_text field ++ shift_text by
 abbrev pub test_text : Atom FieldName → List ℕ
 test_text test = field_text test.left ++ (symbol_text (comparison_symbol test.comparison) ++ operand_text test.right)
 
--- What separates an operand from a word after it: a space, but nothing after the quote that ends a text.
+-- The separator between an operand and a word after it: a space, but nothing after the quote that ends a text.
 abbrev pub space_after : {F : Type 0} → Operand F → List ℕ
 space_after (operand.Literal (value.Int z)) = codes " "
 space_after (operand.Literal (value.Text text)) = []
 space_after (operand.Column field) = codes " "
 space_after (operand.Shifted field by) = codes " "
 
--- Tests, in order, with AND between two.
+-- Tests, in order, separated by AND.
 abbrev pub tests_text : List (Atom FieldName) → List ℕ
 tests_text [] = []
 tests_text (test ∷ []) = test_text test
@@ -87,7 +87,7 @@ abbrev pub where_text : List (Atom FieldName) → List ℕ
 where_text [] = []
 where_text (test ∷ tests) = codes " WHERE " ++ tests_text (test ∷ tests)
 
--- What separates the tests of a query, or its tables if it has no tests, from a word after them.
+-- The separator between the tests of a query, or its tables if it has no tests, and a word after them.
 abbrev pub space_after_tests : {F : Type 0} → List (Atom F) → List ℕ
 space_after_tests [] = codes " "
 space_after_tests (test ∷ []) = space_after test.right

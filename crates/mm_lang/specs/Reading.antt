@@ -1,4 +1,4 @@
--- What a line reads as.
+-- The reading of a line.
 use Rattle.std.specs.Prelude.{◌≡◌, ◌⊎◌, ℕ, ◌==◌, Bool, true, false, ◌||◌, ◌&&◌, if◌then◌else◌, List, [], ◌∷◌, ◌++◌, Option, Some, None, Result, Ok, Err}
 use Rattle.std.specs.Prelude.{length, nat_lt, pos, IsTrue}
 use Rattle.std.specs.List.{cons_option, list_all, flat_map}
@@ -36,7 +36,7 @@ abbrev pub first_fault : List Value → Option Refusal
 first_fault [] = None
 first_fault (v ∷ vs) = option_or (literal_fault v) (first_fault vs)
 
--- the literals of an operand: a shift's number is one
+-- the literals of an operand: the value, or the number of a shift
 abbrev pub operand_literals : {F : Type 0} → Operand F → List Value
 operand_literals (Literal v) = v ∷ []
 operand_literals (Column column) = []
@@ -50,15 +50,15 @@ test_literals test = operand_literals test.right
 abbrev pub assignment_literals : Assignment (List ℕ) → List Value
 assignment_literals assignment = operand_literals assignment.source
 
--- the literals of a position of ORDER: its number is one
+-- the literal of a position of ORDER: its number
 abbrev pub position_literals : ℕ → List Value
 position_literals position = Int (pos position) ∷ []
 
--- the literals of a query, from left to right: the names of its fields and tables are none
+-- the literals of a query, from left to right
 abbrev pub query_literals : Query → List Value
 query_literals query = flat_map test_literals query.atoms ++ flat_map position_literals query.order
 
--- The literals among tokens, from left to right: a minus in front of a word belongs to it, and so does a sign in front of a hole.
+-- The literals among tokens, from left to right. A minus before a word belongs to the literal, and so does a sign before a hole.
 abbrev pub literals_among : List Token → List Value
 literals_among [] = []
 literals_among (Mark Minus ∷ Word word ∷ ts) = cons_option (literal_of (Signed word)) (literals_among ts)
@@ -94,21 +94,21 @@ literals_of Rollback = []
 literals_of (Savepoint name) = []
 literals_of (RollbackTo name) = []
 
--- a thing, unless it has a fault
+-- a value, unless there is a refusal
 abbrev pub unless : {A : Type 0} → A → Option Refusal → Result A Refusal
 unless x None = Ok x
 unless x (Some refusal) = Err refusal
 
--- That nothing is read comes before the fault of what is read.
+-- Syntax if nothing was read, and otherwise the value that was read or its fault.
 abbrev pub checked : {A : Type 0} → (A → Option Refusal) → Option A → Result A Refusal
 checked fault None = Err Syntax
 checked fault (Some x) = unless x (fault x)
 
--- a command, unless a number or a text in it is past its limit
+-- a command, unless one of its literals is past its limit
 abbrev pub read_as : Option Command → Result Command Refusal
 read_as command = checked (λ c. first_fault (literals_of c)) command
 
--- The command that tokens read as of which none is a hole.
+-- The command that tokens read as, if none of them is a hole.
 abbrev pub plain_command : List Token → Option Command
 plain_command ts = if has_hole ts then None else command_of ts
 
@@ -122,13 +122,13 @@ is_comment (a ∷ b ∷ bs) = (a == 45) && (b == 45)
 abbrev pub is_nothing : List ℕ → Bool
 is_nothing line = list_all is_blank line || is_comment line
 
--- What a line reads as, without its line feed and carriage return. No hole may stand in it.
+-- The reading of a line without its line feed and carriage return. A line with a hole is a syntax error.
 unfoldable pub reading : List ℕ → Result Command Refusal
 reading line =
     if nat_lt 4096 (length line) then Err LineTooLong
     else (if is_nothing line then Ok Nothing else read_as (plain_command (tokens line)))
 
--- A command takes memory unless it is Nothing, begins or ends a transaction, or goes back to a savepoint.
+-- The command may fail with Memory: it is not Nothing, begins or ends no transaction, and does not roll back to a savepoint.
 abbrev pub command_takes_memory : Command → Bool
 command_takes_memory Nothing = false
 command_takes_memory (Define definition) = true
@@ -145,17 +145,17 @@ command_takes_memory Rollback = false
 command_takes_memory (Savepoint name) = true
 command_takes_memory (RollbackTo name) = false
 
--- What a line reads as takes memory, unless it is such a command or the line is too long.
+-- The reading may fail with Memory: its command may, or it is a refusal other than LineTooLong.
 abbrev pub reading_takes_memory : Result Command Refusal → Bool
 reading_takes_memory (Ok command) = command_takes_memory command
 reading_takes_memory (Err LineTooLong) = false
 reading_takes_memory (Err refusal) = true
 
--- A line takes memory by what it reads as.
+-- The line may fail with Memory.
 abbrev pub takes_memory : List ℕ → Bool
 takes_memory line = reading_takes_memory (reading line)
 
--- A call answers the reading of a line, or want of memory in its place where the line takes memory.
+-- The result is the reading of the line, or Memory if the line may fail so.
 abbrev pub Reads : List ℕ → Result Command Refusal → Type 0
 Reads line (Ok command) = reading line ≡ Ok command
 Reads line (Err refusal) = (reading line ≡ Err refusal) ⊎ ((refusal ≡ Memory) × IsTrue (takes_memory line))

@@ -36,12 +36,12 @@ counted_lines text label items = flat_map (λ item. text item ++ 10 ∷ []) item
 abbrev pub rows_text : List (List Value) → List ℕ
 rows_text rows = counted_lines row_text (codes "rows ") rows
 
--- the index on the key, or that of a name
+-- #key for the index on the key, or the name of another index
 abbrev pub index_text : IndexId → List ℕ
 index_text id.Key = codes "#key"
 index_text (id.Named name) = name
 
--- how the rows of a table are reached
+-- how the rows of a table are found
 abbrev pub access_method_text : PlanLine → List ℕ
 access_method_text (line.Scan alias) = codes " scan"
 access_method_text (line.Hash alias index) = codes " hash " ++ index
@@ -62,32 +62,32 @@ line_text step = line_alias step ++ access_method_text step
 abbrev pub steps_text : List PlanLine → List ℕ
 steps_text steps = counted_lines line_text (codes "steps ") steps
 
--- what becomes of the rows that refer to a row that is deleted, as TABLE has it, behind a space: CASCADE, or nothing
+-- after a space, the rule for deleting referenced rows as in TABLE: CASCADE, or nothing
 abbrev pub on_delete_text : OnDelete → List ℕ
 on_delete_text Restrict = []
 on_delete_text Cascade = 32 ∷ keyword_text keyword.Cascade
 
--- what a column is for, as TABLE has it, behind a space: KEY, REF name [CASCADE], or nothing
+-- after a space, the role of a column as in TABLE: KEY, REF name [CASCADE], or nothing
 abbrev pub role_text : Role → List ℕ
 role_text role.Key = 32 ∷ keyword_text keyword.Key
 role_text role.Plain = []
 role_text (role.Reference table on_delete) = 32 ∷ keyword_text keyword.Ref ++ 32 ∷ table ++ on_delete_text on_delete
 
--- a column, as TABLE has it
+-- a column as in TABLE
 abbrev pub column_text : Column → List ℕ
 column_text column = column.name ++ 32 ∷ keyword_text (type_word column.col_type) ++ role_text column.role
 
--- columns, a comma and a space between each two
+-- columns, separated by a comma and a space
 abbrev pub columns_text : List Column → List ℕ
 columns_text [] = []
 columns_text (c ∷ []) = column_text c
 columns_text (c ∷ d ∷ cs) = column_text c ++ 44 ∷ 32 ∷ columns_text (d ∷ cs)
 
--- the end of a line that says how many rows there are
+-- the end of a line with the number of rows
 abbrev pub rows_listed : ℕ → List ℕ
 rows_listed n = codes " rows " ++ decimal n ++ 10 ∷ []
 
--- an index as the INDEX that makes it: INDEX name ON name (name) kind
+-- an index as the INDEX that creates it: INDEX name ON name (name) kind
 abbrev pub index_listed : IndexDef → List ℕ
 index_listed index =
     codes "INDEX " ++ index.name ++ codes " ON " ++ index.table ++ codes " (" ++ index.column ++ codes ") " ++ keyword_text (kind_word index.kind)
@@ -96,7 +96,7 @@ index_listed index =
 abbrev pub index_line : IndexDef → List ℕ
 index_line index = index_listed index ++ 10 ∷ []
 
--- a table as the TABLE that makes it: TABLE name (column, ..)
+-- a table as the TABLE that creates it: TABLE name (column, ..)
 abbrev pub table_listed : TableDef → List ℕ
 table_listed definition = codes "TABLE " ++ definition.name ++ (codes " (" ++ columns_text definition.columns ++ codes ")")
 
@@ -112,7 +112,7 @@ table_lines listed = table_line listed ++ flat_map index_line listed.table.index
 abbrev pub query_line : ListedQuery → List ℕ
 query_line listed = codes "WATCH " ++ listed.name ++ rows_listed listed.rows
 
--- the lines of all tables, then those of all standing queries, and then how many tables there are
+-- the lines of all tables, then those of all standing queries, and then the number of tables
 abbrev pub listing_text : Listed → List ℕ
 listing_text listing =
     flat_map table_lines listing.tables ++ flat_map query_line listing.standing ++ (codes "tables " ++ decimal (length listing.tables) ++ 10 ∷ [])
@@ -131,12 +131,12 @@ abbrev pub text_of : Option Reply → List ℕ
 text_of None = []
 text_of (Some reply) = reply_text reply
 
--- The lines of a plan are of tables whose aliases are names; a reply without a plan has none.
+-- The aliases in the lines of a plan are names. Other replies have none.
 abbrev pub HasNames : Reply → Type 0
 HasNames (Steps steps) = All (λ (step : PlanLine). IsName (line_alias step)) steps
 HasNames _ = Unit {0}
 
--- The name of a table, those of its columns and those of the tables that these refer to are names.
+-- The names of a table, of its columns and of the tables that they refer to are names.
 abbrev pub HasTableNames : TableDef → Type 0
 HasTableNames definition = IsName definition.name × All (λ (c : Column). IsName c.name × IfSome (target_of c) IsName) definition.columns
 

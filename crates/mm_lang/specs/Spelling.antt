@@ -39,7 +39,7 @@ use Rattle.mm_lang.specs.Words.{keyword_text}
 abbrev pub word : Keyword → Token
 word keyword = Word (keyword_text keyword)
 
--- A literal: digits, digits directly behind a minus, or a text in quotes; or a hole, which is a 0.
+-- A literal: digits, digits directly after a minus, or a text in quotes; or a hole, which is 0.
 abbrev pub SpellsLiteral : Token → Value → Type 0
 SpellsLiteral (Word digits) (value.Int z) = IsNumeral digits × (z ≡ pos (digits_value 10 digits))
 SpellsLiteral (Signed digits) (value.Int z) = IsNumeral digits × (z ≡ neg_ℤ (pos (digits_value 10 digits)))
@@ -51,14 +51,14 @@ SpellsLiteral token literal = ⊥
 abbrev pub SpellsOne : {A : Type 0} → (Token → A → Type 0) → List Token → A → Type 0
 SpellsOne Spells ts x = (t : Token) × Spells t x × (ts ≡ t ∷ [])
 
--- x, .. : one or more, a separator between each two
+-- x, .. : one or more, separated by a separator
 abbrev pub SpellsList : {A : Type 0} → Token → (List Token → A → Type 0) → List Token → List A → Type 0
 SpellsList separator Spells ts [] = ⊥
 SpellsList separator Spells ts (x ∷ []) = Spells ts x
 SpellsList separator Spells ts (x ∷ y ∷ xs) =
     (first others : List Token) × Spells first x × SpellsList separator Spells others (y ∷ xs) × (ts ≡ first ++ separator ∷ others)
 
--- [KEYWORD x, ..] : nothing, or a keyword and one or more behind it, a separator between each two
+-- [KEYWORD x, ..] : nothing, or a keyword and one or more items after it, separated by a separator
 abbrev pub SpellsClause : {A : Type 0} → Keyword → Token → (List Token → A → Type 0) → List Token → List A → Type 0
 SpellsClause keyword separator Spells ts [] = ts ≡ []
 SpellsClause keyword separator Spells ts (x ∷ xs) = (inner : List Token) × SpellsList separator Spells inner (x ∷ xs) × (ts ≡ word keyword ∷ inner)
@@ -97,13 +97,13 @@ abbrev pub kind_word : IndexKind → Keyword
 kind_word kind.Tree = keyword.Tree
 kind_word kind.Hash = keyword.Hash
 
--- + digits | - digits, where the minus may stand directly before its digits
+-- + digits | - digits, where blanks may separate the minus from its digits
 abbrev pub SpellsDigits : List Token → ℤ → Type 0
 SpellsDigits ts z = (digits : List ℕ) × IsNumeral digits
     × (((ts ≡ Mark Plus ∷ Word digits ∷ []) × (z ≡ pos (digits_value 10 digits)))
     ⊎ (((ts ≡ Mark Minus ∷ Word digits ∷ []) ⊎ (ts ≡ Signed digits ∷ [])) × (z ≡ neg_ℤ (pos (digits_value 10 digits)))))
 
--- + hole | - hole, where the hole is a 1
+-- + hole | - hole, where the hole is 1
 abbrev pub SpellsUnit : List Token → ℤ → Type 0
 SpellsUnit ts z = ((ts ≡ Mark Plus ∷ Hole ∷ []) × (z ≡ pos 1)) ⊎ ((ts ≡ Mark Minus ∷ Hole ∷ []) × (z ≡ neg_ℤ (pos 1)))
 
@@ -119,7 +119,7 @@ SpellsName ts name = IsName name × (ts ≡ Word name ∷ [])
 abbrev pub SpellsField : List Token → FieldName → Type 0
 SpellsField ts field = IsName field.alias × IsName field.column × (ts ≡ Word field.alias ∷ Mark Dot ∷ Word field.column ∷ [])
 
--- literal | column [shift], by how columns are spelled
+-- literal | column [shift], given how columns are spelled
 abbrev pub SpellsOperandOn : {F : Type 0} → (List Token → F → Type 0) → List Token → Operand F → Type 0
 SpellsOperandOn SpellsColumn ts (operand.Literal value) = SpellsOne SpellsLiteral ts value
 SpellsOperandOn SpellsColumn ts (operand.Column column) = SpellsColumn ts column
@@ -134,7 +134,7 @@ comparison_symbol compared.LessOrEqual = AtMost
 comparison_symbol compared.Greater = Greater
 comparison_symbol compared.GreaterOrEqual = AtLeast
 
--- test = column op literal | column op column [shift], by how columns are spelled
+-- test = column op literal | column op column [shift], given how columns are spelled
 abbrev pub SpellsTestOn : {F : Type 0} → (List Token → F → Type 0) → List Token → Atom F → Type 0
 SpellsTestOn SpellsColumn ts test =
     (left right : List Token) × SpellsColumn left test.left × SpellsOperandOn SpellsColumn right test.right
@@ -146,7 +146,7 @@ SpellsAssignment ts assignment =
     (source : List Token) × IsName assignment.column × SpellsOperandOn SpellsName source assignment.source
     × (ts ≡ Word assignment.column ∷ Mark Equal ∷ source)
 
--- [WHERE test AND test ..], by how columns are spelled
+-- [WHERE test AND test ..], given how columns are spelled
 abbrev pub SpellsTestsOn : {F : Type 0} → (List Token → F → Type 0) → List Token → List (Atom F) → Type 0
 SpellsTestsOn SpellsColumn ts tests = SpellsClause keyword.Where (word keyword.And) (SpellsTestOn SpellsColumn) ts tests
 

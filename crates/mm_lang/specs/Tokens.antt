@@ -1,4 +1,4 @@
--- The tokens of a line: longest runs, from left to right.
+-- The tokens of a line: the longest runs, from left to right.
 use Rattle.std.specs.Prelude.{ℕ, ◌==◌, Bool, true, false, ◌||◌, ◌&&◌, if◌then◌else◌, List, [], ◌∷◌, nat_le}
 use Rattle.std.specs.List.{list_any}
 use Rattle.mm_lang.specs.declared.read.token.Symbol.{Symbol}
@@ -7,14 +7,14 @@ use Rattle.mm_lang.specs.declared.read.token.Symbol.TheVariants.{Open, Close, Co
 pub data Token : Type 0 where
   -- letters, digits and _
   Word : (bytes : List ℕ) → Token
-  -- a word directly behind a minus
+  -- a word directly after a minus
   Signed : (bytes : List ℕ) → Token
-  -- what a text between quotes says
+  -- the text that is written between quotes
   Quoted : (bytes : List ℕ) → Token
   Mark : (symbol : Symbol) → Token
-  -- a ?, in whose place a value is given later
+  -- a ?, a parameter
   Hole : Token
-  -- a byte or an unclosed quote that stands in no command
+  -- a byte or an unclosed quote that no command contains
   Unreadable : Token
 
 -- The token is a hole.
@@ -44,27 +44,27 @@ abbrev pub begins_equal : List ℕ → Bool
 begins_equal [] = false
 begins_equal (b ∷ bs) = b == 61
 
--- a byte of a word joins the word that follows it at once
+-- a byte of a word is prepended to the word that directly follows
 abbrev pub onto_word : ℕ → Bool → List Token → List Token
 onto_word b true (Word w ∷ ts) = Word (b ∷ w) ∷ ts
 onto_word b _ ts = Word (b ∷ []) ∷ ts
 
--- a minus joins the word that follows it at once
+-- a minus is joined with the word that directly follows
 abbrev pub onto_minus : Bool → List Token → List Token
 onto_minus true (Word w ∷ ts) = Signed w ∷ ts
 onto_minus _ ts = Mark Minus ∷ ts
 
--- a comparison joins the equals sign that follows it at once
+-- a comparison is joined with the equals sign that directly follows
 abbrev pub onto_equal : Symbol → Symbol → Bool → List Token → List Token
 onto_equal alone joined true (t ∷ ts) = Mark joined ∷ ts
 onto_equal alone joined _ ts = Mark alone ∷ ts
 
--- a byte of a text joins the rest of the text
+-- a byte of a text is prepended to the rest of the text
 abbrev pub onto_text : ℕ → List Token → List Token
 onto_text b (Quoted text ∷ ts) = Quoted (b ∷ text) ∷ ts
 onto_text b ts = ts
 
--- a byte that is no blank, quote or byte of a word, with the bytes behind it and their tokens
+-- the tokens from a byte that is neither a blank, a quote nor a byte of a word, given the bytes after it and their tokens
 abbrev pub onto_symbol : ℕ → List ℕ → List Token → List Token
 onto_symbol b bs ts =
     if b == 40 then Mark Open ∷ ts
@@ -79,12 +79,12 @@ onto_symbol b bs ts =
     else (if b == 63 then Hole ∷ ts
     else Unreadable ∷ [])))))))))
 
--- Where a byte stands: outside a text, or inside one, behind its opening quote.
+-- The position of a byte: outside a text, or inside one, after its opening quote.
 pub data Place : Type 0 where
   Outside : Place
   Inside : Place
 
--- the tokens of bytes that begin at such a place
+-- the tokens of bytes that begin outside or inside a text
 unfoldable pub lexed : Place → List ℕ → List Token
 lexed Outside [] = []
 lexed Outside (b ∷ bs) =

@@ -49,7 +49,7 @@ keyword_text Where = codes "WHERE"
 abbrev pub is_word : Keyword → List ℕ → Bool
 is_word keyword word = pointwise nat_eq word (keyword_text keyword)
 
--- The keyword that the word is.
+-- The keyword with this word.
 abbrev pub keyword_named : List ℕ → Option Keyword
 keyword_named word = find (λ keyword. is_word keyword word) KEYWORDS
 
@@ -66,6 +66,6 @@ symbol_text AtLeast = codes ">="
 symbol_text Plus = codes "+"
 symbol_text Minus = codes "-"
 
--- The two symbols are one.
+-- The two symbols are equal.
 abbrev pub is_symbol : Symbol → Symbol → Bool
 is_symbol symbol other = pointwise nat_eq (symbol_text other) (symbol_text symbol)

@@ -1,4 +1,4 @@
-//! The command language: what a line reads as, and the text of a reply.
+//! The command language: parsing a line, and the text of a reply.
 #![tactic(auto)]
 
 mod grammar;

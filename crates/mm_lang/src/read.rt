@@ -1,4 +1,4 @@
-//! What a line reads as.
+//! Parsing of lines.
 
 pub(crate) mod atoms;
 pub(crate) mod columns;

@@ -1,4 +1,4 @@
--- Only cascaded rows are deleted beside those that a DELETE names.
+-- A DELETE deletes no rows but those that it names and the cascaded ones.
 use Rattle.std.proofs.Common.{◌≡◌, ℕ, Bool, true, false, cond, List, [], ◌∷◌, Option, Some, None, inl, inr, filter, refl, sym, ap, subst, ◌∙◌}
 use Rattle.std.specs.List.{AllByRecursion, filter_map, flat_map, list_any}
 use Rattle.std.proofs.lemmas.Bool.{cases_Bool}
@@ -20,7 +20,7 @@ abbrev pub HoldsOf : (Row → Bool) → Option Row → Type 0
 HoldsOf p None = Unit {0}
 HoldsOf p (Some row) = p row ≡ true
 
--- What holds of all rows that pass another test holds of the removals of these.
+-- What holds of all rows that pass another test holds of the deletions of these.
 pub filter_holds : (p q : Row → Bool) → ((row : Row) → p row ≡ true → q row ≡ true) → (rows : List Row)
     → AllByRecursion (λ (pair : Pair). HoldsOf q pair.0) (removals_of (filter p rows))
 filter_holds p q each [] = tt
@@ -32,7 +32,7 @@ filter_holds p q each (r ∷ rs) = by (p r) refl (filter_holds p q each rs)
     by false fails later = later
 
 module _ (P : List ℕ → Row → Bool) where
-  -- The test of a table holds of all rows that edits of it take away.
+  -- The test of a table holds of all rows that edits delete from it.
   abbrev pub EachHolds : TableEdits → Type 0
   EachHolds e = AllByRecursion (λ (p : Pair). HoldsOf (P e.table) p.0) e.pairs
 
@@ -64,7 +64,7 @@ module _ (P : List ℕ → Row → Bool) where
   pub each_old : (es : List TableEdits) → AllByRecursion EachHolds es → (name : List ℕ) (row : Row) → IsIn row (old_rows name es) → P name row ≡ true
   each_old es each name row here = old_in_pairs name (pairs_of name es) (each_pair name es each) row here
 
-  -- The test is closed: it holds of a row that has in a CASCADE column the key of one of which it holds.
+  -- The test is closed: it holds of each row that has the key of a row of which it holds in a CASCADE column.
   abbrev pub IsClosed : Schema → Type 0
   IsClosed schema = (table : Table) (row : Row) (r : ℕ × List ℕ) (target : Row) → IsIn r (cascading_of table.definition.columns)
       → refers r.0 (key_named r.1 schema) row target ≡ true → P r.1 target ≡ true → P table.definition.name row ≡ true
@@ -84,7 +84,7 @@ module _ (P : List ℕ → Row → Bool) where
     also_holds es name [] each holds = each
     also_holds es name (p ∷ ps) each holds = AllByRecursion-append EachHolds es (record { table = name; pairs = p ∷ ps } ∷ []) each (holds, tt)
 
-    -- What holds of the rows that removals take away, and is closed, holds of all cascaded rows.
+    -- A closed test that holds of the rows that deletions name holds of all cascaded rows.
     pub cascades_hold : (ts : List Table) (rows : Instance) (es : List TableEdits) → AllByRecursion EachHolds es
         → AllByRecursion EachHolds (with_cascades schema ts rows es)
     cascades_hold [] rows es each = each

@@ -1,4 +1,4 @@
--- No row that stays has in a CASCADE column the key of a row that went.
+-- No remaining row has the key of a deleted row in a CASCADE column.
 use Rattle.std.proofs.Common.{◌≡◌, ℕ, ◌+◌, Bool, true, false, cond, ◌||◌, ◌⊎◌, List, [], ◌∷◌, ◌++◌, Option, Some, None, inl, inr, filter, map, refl, sym, ap}
 use Rattle.std.proofs.Common.{subst, ◌∙◌, append_assoc}
 use Rattle.std.specs.List.{AllByRecursion, IsDistinct, filter_map, flat_map, list_any}
@@ -66,7 +66,7 @@ pairs_of-also_own name es (p ∷ ps) =
     ∙ ap (λ qs. pairs_of name es ++ qs) (pairs_of_one name (record { table = name; pairs = p ∷ ps }) true (same_name_refl name))
 
 module _ (schema : Schema) where
-  -- Tables of other names bring no pairs for a name.
+  -- Tables with other names add no pairs for a name.
   old_rows_kept : (name : List ℕ) (ts : List Table) (rows : Instance) (es : List TableEdits) → LackName name ts
       → old_rows name (with_cascades schema ts rows es) ≡ old_rows name es
   old_rows_kept name [] rows es lack = refl
@@ -76,7 +76,7 @@ module _ (schema : Schema) where
       old_rows_kept name ts rs (also es (name_of t) cascaded) lack.1
       ∙ ap (filter_map (λ (p : Pair). p.0)) (pairs_of-also_other name es (name_of t) cascaded (differs_back name (name_of t) lack.0))
 
-  -- What is cascaded depends on what goes of the tables that are referred to alone.
+  -- Which rows are cascaded depends only on the deletions from the tables that are referred to.
   cascaded_kept : (columns : List Column) (row : Row) (es fs : List TableEdits)
       → ((r : ℕ × List ℕ) → IsIn r (cascading_of columns) → old_rows r.1 es ≡ old_rows r.1 fs) → is_cascaded schema es columns row
       ≡ is_cascaded schema fs columns row
@@ -88,7 +88,7 @@ module _ (schema : Schema) where
       by [] each = refl
       by (r ∷ rs) each = λ i. list_any (refers r.0 (key_named r.1 schema) row) (each r (inl refl) i) || by rs (λ q later. each q (inr later)) i
 
--- ---- rows that stay
+-- ---- remaining rows
 
 itself : (key : ℕ) (row : Row) → column_cmp key row row ≡ Equal
 itself key row = by (column_cmp key row row) ((column_cmp_total key).antisymm row row)
@@ -128,7 +128,7 @@ module _ (ts : List Table) (name : List ℕ) where
       by true own found = elim (front_or_behind e.pairs (pairs_of name es) row found) [ inl front ↦ inl (own, front) | inr behind ↦ inr behind ]
       by false other found = inr found
 
-  -- A row that is there once rows went is none of these.
+  -- A remaining row is none of the deleted ones.
   not_old : (e : TableEdits) (rows : Instance) → AreBeside ts rows → AreRemovals e.pairs → same_name e.table name ≡ true → (row : Row)
       → IsIn row (rows_named name ts (changed_instance ts (e ∷ []) rows)) → IsIn row (filter_map (λ (p : Pair). p.0) e.pairs) → ⊥
   not_old e rows beside removals own row here old =
@@ -179,7 +179,7 @@ among_references n (c ∷ cs) r here = by (cascades c) (target_of c) here (among
     by false None here later = later here
     by false (Some name) here later = inr (later here)
 
--- What passes a test is among what the test leaves.
+-- An element of a list that passes a test is in the filtered list.
 passes : (p : Row → Bool) (rows : List Row) (row : Row) → IsIn row rows → p row ≡ true → IsIn row (filter_map (λ (q : Pair). q.0) (removals_of (filter p rows)))
 passes p [] row here is = absurd here
 passes p (r ∷ rs) row here is = by (p r) refl here (passes p rs row)
@@ -191,7 +191,7 @@ passes p (r ∷ rs) row here is = by (p r) refl here (passes p rs row)
     by false fails (inl same) later = absurd (false≢true (sym fails ∙ ap p same ∙ is))
     by false fails (inr rest) later = later rest is
 
--- Each row of these tables that the edits do not take away has in no CASCADE column the key of one that they take away.
+-- Each row of these tables that the edits do not delete has the key of no deleted row in a CASCADE column.
 abbrev Closed : Schema → List TableEdits → List Table → Instance → Type 0
 Closed schema gone [] rows = Unit {0}
 Closed schema gone (t ∷ ts) [] = Unit {0}
@@ -204,7 +204,7 @@ not_true true none = absurd (none refl)
 not_true false none = refl
 
 module _ (schema : Schema) where
-  -- The tables lack all names in front.
+  -- The tables lack all earlier names.
   abbrev LackAll : List (List ℕ) → List Table → Type 0
   LackAll names ts = AllByRecursion (λ n. LackName n ts) names
 
@@ -272,7 +272,7 @@ module _ (schema : Schema) where
       other_name (w ∷ ws) lack v (inl same) = ap (λ (x : Table). same_name (name_of u) (name_of x)) (sym same) ∙ lack.0
       other_name (w ∷ ws) lack v (inr rest) = other_name ws lack.1 v rest
 
-  -- Once removals and their cascades are made, no row that is left is cascaded by what went.
+  -- After deletions and their cascades, the deletions cascade to no remaining row.
   pub none_is_cascaded : (rows : Instance) (es : List TableEdits) → EachRemoves es → AreBeside schema.tables rows → RefersBack [] schema.tables
       → IsDistinct same_name (map name_of schema.tables) → (t : Table) → IsIn t schema.tables
       → let gone = with_cascades schema schema.tables rows es in

@@ -1,4 +1,4 @@
--- Which commands the laws of transactions speak of, and what those of transactions do and are refused.
+-- The commands in the laws of transactions, and the effects and refusals of transaction commands.
 use Rattle.std.proofs.Common.{◌≡◌, ◌≢◌, ◌⊎◌, ◌<◌, ◌||◌, ℕ, Bool, true, false, cond, not, List, [], ◌∷◌, Option, Some, None, inl, inr, is_some, length, nat_lt}
 use Rattle.std.proofs.Common.{refl, sym, ap, ◌∙◌, arith}
 use Rattle.std.specs.List.{Contains, list_any}
@@ -22,7 +22,7 @@ use Rattle.mm_query.specs.declared.command.Definition.{Definition}
 use Rattle.mm_query.specs.declared.command.Definition.TheVariants as define
 use Rattle.mm_laws.proofs.Throughout.{kept_by_step, saved_by_definition}
 
--- ---- which commands
+-- ---- the groups of commands
 
 abbrev three : List Command
 three = Begin ∷ Commit ∷ Rollback ∷ []
@@ -79,7 +79,7 @@ another_leaves name other differ = elim (cases_Bool (same_name name other)) [
 pub same_does_not : (name : List ℕ) → leaves_savepoint name (SetSavepoint name) ≡ false
 same_does_not name = ap not (same_name_refl name)
 
--- ---- where a transaction is open
+-- ---- when a transaction is open
 
 pub open_by_begin : (state : State) → has_transaction (step Begin state).state ≡ true
 open_by_begin state = by state.saved
@@ -102,7 +102,7 @@ closed_by_rollback state = by state.saved
     by None = refl
     by (Some saved) = refl
 
--- what is saved changes, and still is
+-- saved rows that are changed are still saved
 still_saved : (change : Saved → Saved) (saved : Option Saved) → is_some (option_map change saved) ≡ is_some saved
 still_saved change None = refl
 still_saved change (Some saved) = refl
@@ -130,7 +130,7 @@ as_it_was command state free =
     by (RollbackTo name) free =
         still_saved (λ (saved : Saved). record saved { savepoints = back_to name saved.savepoints }) state.saved
 
--- ---- what nothing refuses
+-- ---- commands that nothing refuses
 
 pub may_begin : (state : State) → has_transaction state ≡ false → first_refusal (conditions Begin state) ≡ None
 may_begin state closed = ap (λ b. cond b (Some TransactionOpen) None) closed
@@ -148,7 +148,7 @@ may_divide name state is_open few =
     ap (λ b. cond (not b) (Some NoTransaction) (cond (not (nat_lt (length (savepoints_of state)) max_savepoints)) (Some TooMany) None)) is_open
     ∙ ap (λ b. cond (not b) (Some TooMany) None) room
 
--- a savepoint that is there has its name
+-- an existing savepoint has its name
 named_there : (name : List ℕ) (rows : Instance) (savepoints : List Savepoint) → IsIn (record { name = name; rows = rows }) savepoints
     → list_any (λ (s : Savepoint). same_name name s.name) savepoints ≡ true
 named_there name rows [] here = absurd here
@@ -161,7 +161,7 @@ named_there name rows (s ∷ ss) (inr later) = by (same_name name s.name) (named
     by true there = refl
     by false there = there
 
--- savepoints are there in a transaction alone
+-- savepoints exist only in a transaction
 open_there : (saved : Option Saved) (savepoint : Savepoint) → IsIn savepoint (option_map_or (λ (s : Saved). s.savepoints) saved []) → is_some saved ≡ true
 open_there None savepoint here = absurd here
 open_there (Some saved) savepoint here = refl

@@ -71,7 +71,7 @@ neither : (a b : Bool) → (not a && b) ≡ false → a ≡ false → b ≡ fals
 neither true b none other = cc
 neither false b none other = none
 
--- A table that is dropped is none that another refers to.
+-- No other table refers to a dropped table.
 not_to_dropped : (gone : List ℕ) (state : State) → list_any (is_other_referring_to gone) state.schema.tables ≡ false → (name : List ℕ)
     → same_name gone name ≡ false → (r : ℕ × List ℕ) → IsIn r (references_in state name) → same_name gone r.1 ≡ false
 not_to_dropped gone state unused name other r column =
@@ -97,7 +97,7 @@ found_without_table gone state due found name =
           (found name)
     ]
 
--- Where each table keeps its definition and all rows stay, so do all targets.
+-- If each table keeps its definition and all rows stay, so do all targets.
 found_with_definitions : (change : Table → Table) → ((t : Table) → (change t).definition ≡ t.definition) → (state : State) → AllFindTargets state
     → AllFindTargets (record state { schema = record state.schema { tables = map change state.schema.tables } })
 found_with_definitions change same state found name =
@@ -123,7 +123,7 @@ neither_refused key rows lacks referred behind due = (
 
 -- ---- every step
 
--- what each step keeps of a catalog and rows
+-- the invariant of a catalog and rows at each step
 record IsReferential (schema : Schema) (rows : Instance) : Type 0 where
   kept : IsKept schema rows
   targets : HasTargets schema
@@ -158,7 +158,7 @@ referential_by_definition definition state due is = record {
   found = found_by_definition definition state due is;
 }
 
--- A change adds rows to no other table than its own.
+-- A change inserts rows only into its own table.
 adds_to_own : (mutation : Mutation) (state : State) (name : List ℕ) → same_name (changed_table mutation) name ≡ false
     → AllByRecursion (AddsNone name) (edits mutation state)
 adds_to_own (Insert table tuples) state name other = (inl other, tt)
@@ -194,7 +194,7 @@ reached commands =
 pub reached_with_targets : (commands : List Command) (table : List ℕ) → some_lacks_target table (after_all commands first_state) ≡ false
 reached_with_targets commands = (reached commands).rows.found
 
--- .. and none of those that are saved.
+-- .. and none of the saved rows does.
 pub saved_with_targets : (commands : List Command) (table : List ℕ)
     → IfSome (after_all commands first_state).saved
     (AreSavedRows (λ rows. some_lacks_target table (record (after_all commands first_state) { rows = rows }) ≡ false))

@@ -35,7 +35,7 @@ use Rattle.mm_query.specs.declared.command.Mutation.TheVariants.{Insert, Update,
 use Rattle.mm_laws.proofs.Removals.{AreInKeyOrder-all_removed, cascades_remove, removals_remove}
 use Rattle.mm_laws.proofs.Throughout.{each_held, HoldsThroughout, held_by_all}
 
--- Each command's conditions stand in the one order.
+-- Each command's conditions are in the one order.
 pub ascending : (command : Command) (state : State) → ascend (conditions command state) ≡ true
 ascending Nothing state = refl
 ascending (Define (define.Table definition)) state = refl
@@ -59,7 +59,7 @@ ascending Rollback state = refl
 ascending (SetSavepoint name) state = refl
 ascending (RollbackTo name) state = refl
 
--- what each step keeps of a catalog and rows: no two tables have one name, and the rows of each are in key order
+-- the invariant of a catalog and rows at each step: no two tables have one name, and the rows of each are in key order
 pub record IsKept (schema : Schema) (rows : Instance) : Type 0 where
   pub distinct : HasDistinctNames schema
   pub order : AreInKeyOrder schema.tables rows
@@ -82,7 +82,7 @@ kept_by_drop_table name state kept = record {
   order = AreInKeyOrder-without name state.schema.tables state.rows kept.order;
 }
 
--- Where each table keeps its definition and all rows stay, names are distinct still and rows in key order.
+-- If each table keeps its definition and all rows stay, names are still distinct and rows in key order.
 kept_with_definitions : (change : Table → Table) → ((t : Table) → (change t).definition ≡ t.definition) → (state : State) → IsKept state.schema state.rows
     → IsKept (record state.schema { tables = map change state.schema.tables }) state.rows
 kept_with_definitions change same state kept = record {
@@ -103,7 +103,7 @@ no_duplicates : (key : ℕ) (rows : List Row) (lacks referred : Bool) (behind : 
     → first_refusal (table_rows_conditions key rows lacks referred ++ behind) ≡ None → has_duplicate_keys key rows ≡ false
 no_duplicates key rows lacks referred behind due = first_none (has_duplicate_keys key rows) DuplicateKey _ due
 
--- Where nothing refuses a change, neither its rows nor the standing queries do.
+-- If nothing refuses a change, neither its rows nor the standing queries do.
 pub none_due_by_rows : (mutation : Mutation) (state : State) → first_refusal (change_conditions mutation state) ≡ None
     → first_refusal (row_conditions (changed_table mutation) (edits mutation state) (after_change mutation state)
     ++ growth_conditions (after_change mutation state)) ≡ None
@@ -155,7 +155,7 @@ reached commands = held_by_all IsKept kept_by_definition kept_by_change commands
 pub reached_in_order : (commands : List Command) → AreInKeyOrder (after_all commands first_state).schema.tables (after_all commands first_state).rows
 reached_in_order commands = (reached commands).rows.order
 
--- .. and so are those that are saved.
+-- .. and so are the saved rows.
 pub saved_in_order : (commands : List Command)
     → IfSome (after_all commands first_state).saved (AreSavedRows (AreInKeyOrder (after_all commands first_state).schema.tables))
 saved_in_order commands =

@@ -1,4 +1,4 @@
--- The rows of the table of a name, and the table itself, after each change of a state.
+-- The rows of the table with a name, and the table itself, after each change of a state.
 use Rattle.std.proofs.Common.{◌≡◌, ℕ, Bool, true, false, cond, not, List, [], ◌∷◌, ◌++◌, Option, Some, filter, find, is_none, map, refl, sym, ap, ◌∙◌}
 use Rattle.std.specs.Option.{option_map_or}
 use Rattle.std.proofs.lemmas.Bool.{false≢true}
@@ -20,7 +20,7 @@ has name table = same_name name (name_of table)
 -- ---- a new table
 
 module _ (name : List ℕ) (new : Table) where
-  -- A name that is there keeps its table ..
+  -- An existing name keeps its table ..
   pub table_behind : (ts : List Table) → lacks name ts ≡ false → find (has name) (ts ++ new ∷ []) ≡ find (has name) ts
   table_behind [] there = cc
   table_behind (t ∷ ts) there = by (has name t) there (table_behind ts)
@@ -61,7 +61,7 @@ module _ (name : List ℕ) (new : Table) where
   no_rows_behind [] (r ∷ rs) beside none = absurd beside
   no_rows_behind (t ∷ ts) [] beside none = absurd beside
 
--- ---- a table that goes
+-- ---- a dropped table
 
 no_rows : (name : List ℕ) (ts : List Table) → rows_named name ts [] ≡ []
 no_rows name [] = refl
@@ -71,7 +71,7 @@ module _ (gone : List ℕ) where
   abbrev stays : Table → Bool
   stays t = not (same_name gone (name_of t))
 
-  -- no table of another name is the one that goes
+  -- no table with another name is the dropped one
   not_the_same : (name : List ℕ) (t : Table) → same_name gone name ≡ false → has name t ≡ true → same_name gone (name_of t) ≡ false
   not_the_same name t other own = ap (same_name gone) (sym (same_bytes name (name_of t) own)) ∙ other
 
@@ -103,7 +103,7 @@ module _ (gone : List ℕ) where
       by false differs true went later = later
       by false differs false here later = ap (λ b. cond b r (rows_named name (filter stays ts) (without_rows gone ts rs))) differs ∙ later
 
-  -- .. and its own name has none.
+  -- .. and the dropped name has none.
   pub rows_gone : (ts : List Table) (rows : Instance) → rows_named gone (filter stays ts) (without_rows gone ts rows) ≡ []
   rows_gone [] rows = refl
   rows_gone (t ∷ ts) [] = no_rows gone (filter stays (t ∷ ts))
@@ -121,7 +121,7 @@ module _ (change : Table → Table) (same : (t : Table) → (change t).definitio
     abbrev told : Option Table → X
     told found = option_map_or (λ (t : Table). tell t.definition) found none
 
-    -- Where each table keeps its definition, what the definition of a name tells stays ..
+    -- If each table keeps its definition, the properties of the definition with a name stay ..
     pub told_kept : (ts : List Table) → told (find (has name) (map change ts)) ≡ told (find (has name) ts)
     told_kept [] = refl
     told_kept (t ∷ ts) =
@@ -141,7 +141,7 @@ module _ (change : Table → Table) (same : (t : Table) → (change t).definitio
 -- ---- a change of rows
 
 module _ (name : List ℕ) (pairs : List Pair) where
-  -- The rows of a table that is there are changed by its pairs, ..
+  -- The rows of an existing table are changed by its pairs, ..
   pub rows_changed : (ts : List Table) (rows : Instance) → AreBeside ts rows → lacks name ts ≡ false
       → rows_named name ts (changed_instance ts (edits_of_one name pairs) rows)
       ≡ changed (option_map_or (λ (t : Table). key_place t.definition.columns) (find (has name) ts) 0) pairs (rows_named name ts rows)

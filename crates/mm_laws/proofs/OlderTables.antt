@@ -74,7 +74,7 @@ module _ (gone : List ℕ) where
   abbrev stays : Table → Bool
   stays t = not (same_name gone (name_of t))
 
-  -- all names but the one that goes are there still
+  -- all names but the dropped one still exist
   abbrev Keeps : List (List ℕ) → List (List ℕ) → Type 0
   Keeps names left = (n : List ℕ) → same_name gone n ≡ false → list_any (same_name n) names ≡ true → list_any (same_name n) left ≡ true
 

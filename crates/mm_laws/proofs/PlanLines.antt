@@ -1,4 +1,4 @@
--- What the lines of a plan are: each is of its own table, and joins it where others stand before it.
+-- The lines of a plan: each is of its own table, and is a join if there are tables before it.
 use Rattle.std.proofs.Common.{◌≡◌, ℕ, Bool, true, false, cond, ◌&&◌, List, [], ◌∷◌, ◌++◌, Option, Some, None, length, map, not, refl, ap, suc, ◌∙◌}
 use Rattle.std.specs.List.{list_all}
 use Rattle.std.specs.Option.{IfSome, option_and_then, option_map, unwrap_or}
@@ -13,7 +13,7 @@ use Rattle.mm_query.specs.declared.plan_line.PlanLine.TheVariants as line
 use Rattle.mm_query.specs.declared.query.FromItem.{FromItem}
 use Rattle.mm_query.specs.declared.query.Query.{Query}
 
--- ---- what holds of whatever rules give
+-- ---- a property of the results of rules
 
 module _ {Y : Type 0} (P : Y → Type 0) where
   pub mapped : {X : Type 0} (f : X → Y) → ((x : X) → P (f x)) → (o : Option X) → IfSome (option_map f o) P
@@ -28,7 +28,7 @@ module _ {Y : Type 0} (P : Y → Type 0) where
   guarded true o h = h
   guarded false o h = tt
 
-  -- It holds of what the first of some gives, and else of the first of the others.
+  -- The property holds of the result of the first of some rules, and otherwise of the first of the others.
   pub before : (o : Option Y) (options : List (Option Y)) → IfSome o P → IfSome (first_there options) P → IfSome (first_there (o ∷ options)) P
   before None options h others = others
   before (Some y) options h others = h
@@ -43,7 +43,7 @@ module _ {Y : Type 0} (P : Y → Type 0) where
 
 -- ---- each line
 
--- The line is of the alias, and a join or none.
+-- The line is of the alias, and is a join or not.
 abbrev Is : List ℕ → Bool → PlanLine → Type 0
 Is alias joins line = (line_alias line ≡ alias) × (is_join line ≡ joins)
 
@@ -114,7 +114,7 @@ pub as_many_lines : (schema : Schema) (counts : List ℕ) (query : Query) (earli
 as_many_lines schema counts query earlier [] = refl
 as_many_lines schema counts query earlier (item ∷ items) = ap suc (as_many_lines schema counts query (earlier ++ item ∷ []) items)
 
--- Behind a table all lines are joins.
+-- After a table all lines are joins.
 all_join : (schema : Schema) (counts : List ℕ) (query : Query) (first : FromItem) (others items : List FromItem)
     → list_all is_join (lines_behind schema counts query (first ∷ others) items) ≡ true
 all_join schema counts query first others [] = refl

@@ -1,4 +1,4 @@
--- What queries mean: how often combinations and rows arise, and the order in which rows are shown.
+-- The meaning of queries: how often combinations and rows occur, and the order in which rows are shown.
 use Rattle.std.proofs.Common.{◌≡◌, ℕ, ◌+◌, ◌*◌, Bool, true, false, cond, not, ◌&&◌, ◌||◌, List, [], ◌∷◌, ◌++◌, map, refl, sym, ap, ◌∙◌, arith, zero-add}
 use Rattle.std.specs.Cmp.{IsTotalOrder}
 use Rattle.std.specs.List.{count_by, filter, flat_map, list_any}
@@ -21,7 +21,7 @@ use Rattle.mm_query.specs.State.{State}
 use Rattle.mm_query.specs.declared.bound_query.BoundQuery.{BoundQuery}
 use Rattle.mm_query.specs.declared.query.Query.{Query}
 
--- The conditions of a query stand in the one order.
+-- The conditions of a query are in the one order.
 pub query_ascending : (query : Query) (state : State) → ascend (select_conditions query state) ≡ true
 query_ascending query state = refl
 
@@ -37,7 +37,7 @@ module _ {X : Type 0} (p : X → Bool) where
   count_append : (xs ys : List X) → count_by p (xs ++ ys) ≡ count_by p xs + count_by p ys
   count_append xs ys = sum_by-append one xs ys
 
-  -- Where none that passes stays in a filter, none is counted, ..
+  -- If no element that passes stays in a filter, none is counted, ..
   none_counted : (q : X → Bool) → ((x : X) → p x ≡ true → q x ≡ false) → (xs : List X) → count_by p (filter q xs) ≡ 0
   none_counted q drops [] = refl
   none_counted q drops (x ∷ xs) = by (q x) (p x) refl refl (none_counted q drops xs)
@@ -48,7 +48,7 @@ module _ {X : Type 0} (p : X → Bool) where
       by true false here is later = count_cons x (filter q xs) ∙ (λ i. cond (is i) 1 0 + later i)
       by false passes here is later = later
 
-  -- .. and where all that pass stay, all are.
+  -- .. and if all that pass stay, all are.
   all_counted : (q : X → Bool) → ((x : X) → p x ≡ true → q x ≡ true) → (xs : List X) → count_by p (filter q xs) ≡ count_by p xs
   all_counted q keeps [] = refl
   all_counted q keeps (x ∷ xs) = by (q x) (p x) refl refl (all_counted q keeps xs)
@@ -98,7 +98,7 @@ module _ {X : Type 0} where
       count_append (pass_each []) (map (λ c. x ∷ c) others) (flat_map (λ x. map (λ c. x ∷ c) others) xs)
       ∙ (λ i. none_in_front x others i + none_in_fronts others xs i)
 
-  -- As many combinations pass as the product of the numbers of elements that do.
+  -- The number of combinations that pass is the product of the numbers of elements that pass.
   pub combinations_counted : (tests : List (X → Bool)) (lists : List (List X))
       → count_by (pass_each tests) (combinations lists) ≡ product_of_counts tests lists
   combinations_counted [] [] = refl
@@ -108,7 +108,7 @@ module _ {X : Type 0} where
       in_fronts test tests (combinations lists) xs ∙ ap (λ n. count_by test xs * n) (combinations_counted tests lists)
 
 module _ (query : BoundQuery) (row : List Value) where
-  -- the combination fits, and gives the row
+  -- the combination matches, and yields the row
   abbrev gives : List (List Value) → Bool
   gives c = fits query c && same_row row (projected query c)
 
@@ -124,7 +124,7 @@ module _ (query : BoundQuery) (row : List Value) where
       by false here later =
           later ∙ sym (count_cons gives c cs ∙ ((λ i. cond (here i && same_row row (projected query c)) 1 0 + count_by gives cs) ∙ zero-add _))
 
--- A row stands in a bag as often as combinations fit that give it.
+-- The count of a row in a bag is the number of matching combinations that yield it.
 pub bag_counted : (query : BoundQuery) (lists : List (List (List Value))) (row : List Value)
     → count_by (same_row row) (bag_of query lists) ≡ count_by (λ c. fits query c && same_row row (projected query c)) (combinations lists)
 bag_counted query lists row = each_counted query row (combinations lists)
@@ -147,7 +147,7 @@ module _ (first row : List Value) where
   all_unlike : same_row row first ≡ false → (x : List Value) → same_row row x ≡ true → others x ≡ true
   all_unlike other x is = ap not (ap (λ r. same_row first r) (sym (same_from row x is)) ∙ (same_back first row ∙ other))
 
--- Each row that is there is kept once, and no other.
+-- Each row is kept once, and no other.
 pub one_counted : (rows : List (List Value)) (row : List Value)
     → count_by (same_row row) (one_of_each rows) ≡ cond (list_any (same_row row) rows) 1 0
 one_counted [] row = refl

@@ -1,4 +1,4 @@
--- The order of refusals, and which of those that are due is answered.
+-- The order of refusals, and which of the due ones is the result.
 use Rattle.std.proofs.Common.{◌≡◌, ◌<◌, ◌≤◌, ◌&&◌, ℕ, zero, suc, Bool, true, false, cond, List, [], ◌∷◌, Some, inl, inr, map, nat_lt, refl, sym, ap, subst}
 use Rattle.std.proofs.Common.{◌∙◌, arith}
 use Rattle.std.specs.Prelude.{All, AllPairs, Contains}
@@ -28,7 +28,7 @@ rises (m ∷ n ∷ ns) = nat_lt m n && rises (n ∷ ns)
 less : (m n : ℕ) → nat_lt m n ≡ true → m < n
 less m n is = grind (arith, nat_tests)
 
--- What ascends from one to the next ascends throughout.
+-- A list that ascends from each element to the next ascends throughout.
 module _ {X : Type 0} (f : X → ℕ) where
   above : (x : X) (xs : List X) → rises (map f (x ∷ xs)) ≡ true → All (λ y. f x < f y) xs
   above x [] up k d within = absurd (omega arith)
@@ -79,7 +79,7 @@ all_are_there ResultTooLarge = (24, omega arith, refl)
 all_are_there StandingListTooLarge = (25, omega arith, refl)
 all_are_there Memory = (26, omega arith, refl)
 
--- ---- the refusal that is answered
+-- ---- the resulting refusal
 
 conditions_rise : (cs : List Condition) → ascend cs ≡ rises (map (λ (c : Condition). rank c.refusal) cs)
 conditions_rise [] = refl

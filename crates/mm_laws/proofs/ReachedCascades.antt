@@ -1,4 +1,4 @@
--- What a DELETE takes with it, in every state that commands lead to.
+-- The deletions to which a DELETE cascades, in every state that commands lead to.
 use Rattle.std.proofs.Common.{◌≡◌, ℕ, Bool, true, false, List, [], ◌∷◌, None, filter}
 use Rattle.std.specs.List.{Contains}
 use Rattle.mm_schema.specs.Indexes.{table_with_index, table_without_index}
@@ -39,7 +39,7 @@ older_by_definition (define.DropIndex name) state due back = older_with_definiti
 older_by_definition (define.Watch watched) state due back = back
 older_by_definition (define.Unwatch name) state due back = back
 
--- what each step keeps of a catalog and rows
+-- the invariant of a catalog and rows at each step
 record IsInTurn (schema : Schema) (rows : Instance) : Type 0 where
   kept : IsKept schema rows
   back : RefersBack [] schema.tables
@@ -59,7 +59,7 @@ reached commands =
 
 -- ---- the laws
 
--- No row that stays is cascaded by one that went.
+-- A deletion cascades to no remaining row.
 pub none_left : (commands : List Command) (name : List ℕ) (tests : List (Atom (List ℕ))) (table : Table) (row : Row)
     → let state = after_all commands first_state in
     Contains state.schema.tables table → Contains (rows_in (after_change (Delete name tests) state) table.definition.name) row
@@ -72,7 +72,7 @@ none_left commands name tests table row there here =
     (beside_from_order state.schema.tables state.rows is.kept.order) is.back is.kept.distinct table (IsIn-from_Contains state.schema.tables table there) row
     (IsIn-from_Contains (rows_in (after_change (Delete name tests) state) table.definition.name) row here)
 
--- What holds of the rows that a DELETE names, and is closed, holds of all rows that go.
+-- A closed test that holds of the rows that a DELETE names holds of all deleted rows.
 pub no_others : (passes : List ℕ → Row → Bool) (name : List ℕ) (tests : List (Atom (List ℕ))) (state : State)
     → ((row : Row) → meets (tests_for name state.schema tests) row ≡ true → passes name row ≡ true)
     → ((table : Table) (row target : Row) (r : ℕ × List ℕ) → Contains (cascading_of table.definition.columns) r

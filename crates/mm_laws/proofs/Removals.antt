@@ -1,4 +1,4 @@
--- Removals of rows: what they leave in order.
+-- Deletions of rows keep the order of the others.
 use Rattle.std.proofs.Common.{◌≡◌, ℕ, Bool, true, false, cond, not, List, [], ◌∷◌, ◌++◌, Option, None, inl, inr, filter, refl, sym, ap, subst, ◌∙◌}
 use Rattle.std.specs.List.{AllByRecursion, filter_map, list_any}
 use Rattle.std.proofs.lemmas.Bool.{cases_Bool, or_from, or_parts}
@@ -18,7 +18,7 @@ use Rattle.mm_schema.proofs.Duplicates.{Row, has_duplicate_keys-IsPermutation, n
 use Rattle.mm_query.specs.Edits.{also, is_cascaded, removals_of, with_cascades}
 use Rattle.mm_query.specs.Machine.{after_edits}
 
--- ---- what a filter leaves
+-- ---- the result of a filter
 
 none_in_filter : (q p : Row → Bool) (rows : List Row) → list_any q rows ≡ false → list_any q (filter p rows) ≡ false
 none_in_filter q p [] none = refl
@@ -39,9 +39,9 @@ apart_in_filter key p (r ∷ rs) none =
     by true first later = or_from _ _ first later
     by false first later = later
 
--- ---- removals
+-- ---- deletions
 
--- For none of the old rows comes a new one.
+-- None of the old rows is replaced by a new one.
 abbrev pub AreRemovals : List Pair → Type 0
 AreRemovals pairs = AllByRecursion (λ (p : Pair). p.1 ≡ None) pairs
 
@@ -49,7 +49,7 @@ pub none_comes : (pairs : List Pair) → AreRemovals pairs → filter_map (λ (p
 none_comes [] none = refl
 none_comes ((old, new) ∷ ps) none = ap (λ (n : Option Row). filter_map (λ (p : Pair). p.1) ((old, n) ∷ ps)) none.0 ∙ none_comes ps none.1
 
--- What they leave of rows in the order of their keys is so too.
+-- Deletions keep rows in the order of their keys.
 pub IsInKeyOrder-removed : (key : ℕ) (pairs : List Pair) (rows : List Row) → AreRemovals pairs → IsInKeyOrder key rows
     → IsInKeyOrder key (changed key pairs rows)
 IsInKeyOrder-removed key [] rows none order = order
@@ -63,7 +63,7 @@ IsInKeyOrder-removed key (p ∷ ps) rows none order =
     ∙ (ap (has_duplicate_keys key) just_left
     ∙ apart_in_filter key (λ row. not (list_any (λ q. goes key row q.0) pairs)) rows (no_duplicates_in_order key rows order)))
 
--- All tables are in key order where rows of one go.
+-- All tables stay in key order if rows of one are deleted.
 AreInKeyOrder-removed : (name : List ℕ) (pairs : List Pair) → AreRemovals pairs → (ts : List Table) (rows : Instance) → AreInKeyOrder ts rows
     → AreInKeyOrder ts (changed_instance ts (edits_of_one name pairs) rows)
 AreInKeyOrder-removed name pairs none [] [] order = tt
@@ -84,7 +84,7 @@ AreInKeyOrder-removed name pairs none (t ∷ ts) [] order = absurd order
 
 -- ---- of several tables
 
--- The edits of each table are removals.
+-- The edits of each table are deletions.
 abbrev pub EachRemoves : List TableEdits → Type 0
 EachRemoves es = AllByRecursion (λ (e : TableEdits). AreRemovals e.pairs) es
 
@@ -103,7 +103,7 @@ also_removes es name [] each none = each
 also_removes es name (p ∷ ps) each none =
     AllByRecursion-append (λ (e : TableEdits). AreRemovals e.pairs) es (record { table = name; pairs = p ∷ ps } ∷ []) each (none, tt)
 
--- Behind removals come removals.
+-- Deletions cascade only to deletions.
 pub cascades_remove : (schema : Schema) (ts : List Table) (rows : Instance) (es : List TableEdits) → EachRemoves es
     → EachRemoves (with_cascades schema ts rows es)
 cascades_remove schema [] rows es none = none

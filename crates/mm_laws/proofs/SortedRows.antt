@@ -1,4 +1,4 @@
--- A sorted list is fixed by how often it has each element; and without equal neighbours it has one of each.
+-- A sorted list is determined by the number of occurrences of each element; without equal neighbours it has one of each.
 use Rattle.std.proofs.Common.{◌≡◌, ℕ, suc, ◌+◌, ◌<◌, Bool, true, false, cond, not, List, [], ◌∷◌, length, get_or, refl, sym, ap, ◌∙◌, subst, arith, zero-add}
 use Rattle.std.specs.Cmp.{IsTotalOrder}
 use Rattle.std.specs.List.{AllByRecursion, count_by, dedup, dedup_from, filter}
@@ -20,7 +20,7 @@ use Rattle.mm_schema.proofs.StrictOrder.{AllByRecursion-weaker}
 use Rattle.mm_query.specs.Queries.{one_of_each, rows_by_columns, same_row}
 use Rattle.mm_laws.proofs.QueryLaws.{count_cons, one_counted, shown_exact, shown_total}
 
--- None of the elements behind another is less than it.
+-- No element is less than an earlier one.
 abbrev pub Ascends : {X : Type 0} → (X → X → Ordering) → List X → Type 0
 Ascends cmp [] = Unit {0}
 Ascends cmp (x ∷ xs) = AllByRecursion (λ y. is_lt (cmp y x) ≡ false) xs × Ascends cmp xs
@@ -86,7 +86,7 @@ module _ {X : Type 0} {cmp : X → X → Ordering} (total : IsTotalOrder cmp) wh
     counted_in_order : (xs : List X) (z : X) → count_by (same z) (in_order cmp xs) ≡ count_by (same z) xs
     counted_in_order xs z = sum_by-IsPermutation (λ a. cond (same z a) 1 0) xs (in_order cmp xs) (IsPermutation-in_order cmp xs)
 
-    -- What is sorted and has each element as often is the list put in order.
+    -- A sorted list with the same number of occurrences of each element is the list in order.
     pub in_order_by_counts : (xs ys : List X) → Ascends cmp ys → ((z : X) → count_by (same z) xs ≡ count_by (same z) ys) → in_order cmp xs ≡ ys
     in_order_by_counts xs ys up counts =
         same_sorted (in_order cmp xs) ys (ascends_from_sorted (in_order cmp xs) (IsSorted-in_order total xs)) up
@@ -156,7 +156,7 @@ module _ (columns : List ℕ) where
       let others = λ (other : List Value). not (same_row row other) in
       (all_kept behind others (one_of_each rows) (all_one_of_each behind rows up.0), ascends_kept others (one_of_each rows) (ascends_one_of_each rows up.1))
 
-  -- An element greater than the one before it is none of those before.
+  -- An element greater than the one before it differs from all earlier ones.
   is_other : (k x z : List Value) → is_lt (cmp x k) ≡ false → same_row x k ≡ false → is_lt (cmp z x) ≡ false → not (same_row k z) ≡ true
   is_other k x z behind other later = by (same_row k z) refl
     where
@@ -196,14 +196,14 @@ module _ (columns : List ℕ) where
       (ascends_one_of_each sorted up)
       (λ row. one_counted rows row ∙ (ap (λ b. cond b 1 0) (list_any-IsPermutation (same_row row) rows sorted moved) ∙ sym (one_counted sorted row)))
 
-  -- Rows that are sorted are what any order of them is put in order to, ..
+  -- Sorted rows are the result of ordering any permutation of them, ..
   pub sorted_is_in_order : (rows sorted : List (List Value)) → IsPermutation rows sorted → IsSorted cmp sorted → in_order cmp rows ≡ sorted
   sorted_is_in_order rows sorted moved up =
       in_order_by_counts (shown_total columns) (shown_exact columns) same_row same_means same_itself rows sorted
       (ascends_from_sorted (shown_total columns) sorted up)
       (λ row. sym (sum_by-IsPermutation (λ a. cond (same_row row a) 1 0) rows sorted moved))
 
-  -- .. and without equal neighbours they are one of each, put in order.
+  -- .. and without equal neighbours they are one of each, in order.
   pub deduped_is_in_order : (rows sorted : List (List Value)) → IsPermutation rows sorted → IsSorted cmp sorted
       → in_order cmp (one_of_each rows) ≡ dedup same_row sorted
   deduped_is_in_order rows sorted moved up =
@@ -213,17 +213,17 @@ module _ (columns : List ℕ) where
   in_order_sorted : (rows : List (List Value)) → IsSorted cmp (in_order cmp rows)
   in_order_sorted = IsSorted-in_order (shown_total columns)
 
-  -- The order in which rows are given is lost when they are put in order, ..
+  -- The shown rows do not depend on the order in which the rows are given, ..
   pub shown_of_permutation : (a b : List (List Value)) → IsPermutation a b → in_order cmp a ≡ in_order cmp b
   shown_of_permutation a b moved =
       sorted_is_in_order a (in_order cmp b) (IsPermutation-trans a b (in_order cmp b) moved (IsPermutation-in_order cmp b)) (in_order_sorted b)
 
-  -- .. and so with one of each row, ..
+  -- .. nor does one of each row, ..
   pub shown_once_of_permutation : (a b : List (List Value)) → IsPermutation a b → in_order cmp (one_of_each a) ≡ in_order cmp (one_of_each b)
   shown_once_of_permutation a b moved =
       deduped_is_in_order a (in_order cmp b) (IsPermutation-trans a b (in_order cmp b) moved (IsPermutation-in_order cmp b)) (in_order_sorted b)
       ∙ sym (deduped_is_in_order b (in_order cmp b) (IsPermutation-in_order cmp b) (in_order_sorted b))
 
-  -- .. and one of each row, put in order, are the rows in order without equal neighbours.
+  -- .. and one of each row, in order, are the ordered rows without equal neighbours.
   pub shown_once_is_dedup : (rows : List (List Value)) → in_order cmp (one_of_each rows) ≡ dedup same_row (in_order cmp rows)
   shown_once_is_dedup rows = deduped_is_in_order rows (in_order cmp rows) (IsPermutation-in_order cmp rows) (in_order_sorted rows)

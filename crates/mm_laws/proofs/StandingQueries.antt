@@ -1,4 +1,4 @@
--- Standing queries beside the catalog: they are bound, they are shown, and they keep within their limit.
+-- Standing queries of the catalog: they are bound, they are shown, and they are within their limit.
 use Rattle.std.proofs.Common.{◌≡◌, ◌&&◌, ℕ, zero, suc, ◌<◌, Bool, true, false, cond, not, List, [], ◌∷◌, ◌++◌, Option, Some, None, filter, find, is_some}
 use Rattle.std.proofs.Common.{length, map, nat_le, refl, sym, ap, ◌∙◌, subst}
 use Rattle.std.specs.List.{All, AllByRecursion, list_any}
@@ -49,18 +49,18 @@ use Rattle.mm_laws.proofs.Throughout.{kept_by_step}
 
 -- ---- queries over another catalog
 
--- a name that isn't out keeps its table's columns
+-- a name that is not excluded keeps its table's columns
 abbrev pub Stays : Schema → Schema → (List ℕ → Bool) → Type 0
 Stays old new out =
     (name : List ℕ) → lacks_table name old ≡ false → out name ≡ false
     → (lacks_table name new ≡ false) × (columns_named name new ≡ columns_named name old)
 
--- the table of an item is there, with the columns that it has in the other catalog
+-- the table of an item exists, with the same columns in the other catalog
 abbrev pub IsThere : Schema → Schema → FromItem → Type 0
 IsThere old new item = (lacks_table item.table new ≡ false) × (columns_named item.table new ≡ columns_named item.table old)
 
 module _ (old new : Schema) (out : List ℕ → Bool) (stays : Stays old new out) where
-  -- Where a query reads only tables that stay, all of its tables are there.
+  -- If a query reads only tables that stay, all of its tables exist.
   pub items_stay : (from : List FromItem) → list_any (λ (item : FromItem). lacks_table item.table old) from ≡ false
       → list_any out (map (λ (item : FromItem). item.table) from) ≡ false → AllByRecursion (IsThere old new) from
   items_stay [] there unread = tt
@@ -85,7 +85,7 @@ module _ (old new : Schema) (out : List ℕ → Bool) (stays : Stays old new out
     atom_still : (atom : Atom FieldPlace) → IsAtomWithin old from atom → IsAtomWithin new from atom
     atom_still atom within = (field_still atom.left within.0, λ field is. field_still field (within.1 field is))
 
-  -- A query that reads only tables which stay is bound still, ..
+  -- A query that reads only tables that stay is still bound, ..
   query_still : (query : BoundQuery) → list_any out (tables_read query) ≡ false → IsQueryWithin old query → IsQueryWithin new query
   query_still query unread within =
       let there = items_stay query.from within.tables unread in
@@ -107,11 +107,11 @@ module _ (old new : Schema) (out : List ℕ → Bool) (stays : Stays old new out
   all_still queries unread within =
       All-from_recursion (IsQueryWithin new) queries (queries_still queries unread (recursion_from_All (IsQueryWithin old) queries within))
 
--- no name is out
+-- no name is excluded
 abbrev pub none_out : List ℕ → Bool
 none_out name = false
 
--- So none of some tables is, ..
+-- So none of some tables is excluded, ..
 pub none_of_tables : (tables : List (List ℕ)) → list_any none_out tables ≡ false
 none_of_tables [] = refl
 none_of_tables (t ∷ ts) = none_of_tables ts
@@ -121,7 +121,7 @@ pub all_read_on : (queries : List BoundQuery) → AllByRecursion (λ query. list
 all_read_on [] = tt
 all_read_on (q ∷ qs) = (none_of_tables (tables_read q), all_read_on qs)
 
--- None of the queries beside standing queries that don't read a table reads it.
+-- The queries of standing queries that do not read a table do not read it.
 pub unread_beside : (gone : List ℕ) (standing : List StandingDef) (queries : List BoundQuery) → AreBeside standing queries
     → list_any (reads_table gone) standing ≡ false → AllByRecursion (λ query. list_any (same_name gone) (tables_read query) ≡ false) queries
 unread_beside gone [] [] beside unread = tt
@@ -136,24 +136,24 @@ unread_beside gone (s ∷ ss) [] beside unread = absurd beside
 abbrev columns_in : Option Table → List Column
 columns_in table = option_map_or (λ (t : Table). t.definition.columns) table []
 
--- Tables stay where another one comes, ..
+-- Tables stay if another one is added, ..
 pub stays_behind : (definition : TableDef) (schema : Schema) → Stays schema (with_table definition schema) none_out
 stays_behind definition schema name there kept =
     let table : Table = record { definition = definition; indexes = [] } in
     (there_behind name schema.tables table there, ap columns_in (table_behind name table schema.tables there))
 
--- .. where another one goes, ..
+-- .. if another one is dropped, ..
 pub stays_left : (gone : List ℕ) (schema : Schema) → Stays schema (without_table gone schema) (same_name gone)
 stays_left gone schema name there other =
     (there_still gone name schema.tables other there, ap columns_in (table_left gone name other schema.tables))
 
--- .. and where each keeps its definition.
+-- .. and if each keeps its definition.
 pub stays_kept : (change : Table → Table) → ((t : Table) → (change t).definition ≡ t.definition) → (schema : Schema)
     → Stays schema (record schema { tables = map change schema.tables }) none_out
 stays_kept change same schema name there kept =
     (as_there change same name schema.tables ∙ there, told_kept change same name (λ d. d.columns) [] schema.tables)
 
--- Each standing query has its query beside it, which is bound.
+-- Each standing query has its query, which is bound.
 abbrev IsWatched : State → Type 0
 IsWatched state = HasQueries state × AreBound state
 
@@ -181,7 +181,7 @@ module _ (name : List ℕ) (query : Query) (state : State) where
     hold : AllByRecursion (λ (c : Condition). c.holds ≡ false) (watch_conditions name query state)
     hold = none_hold (watch_conditions name query state) due
 
-    -- Where nothing refuses it, nothing refuses its query.
+    -- If nothing refuses a standing query, nothing refuses its query.
     pub none_of_query : first_refusal (query_conditions query state.schema) ≡ None
     none_of_query =
         let limits = or_parts (exceeds_query_limits query) (nat_le 32 (length state.schema.standing)) hold.1.1.1.1.1.1.0 in
@@ -190,7 +190,7 @@ module _ (name : List ℕ) (query : Query) (state : State) where
         (cond (hold.1.1.1.0 i) (Some AliasTaken)
         (cond (hold.1.1.1.1.0 i) (Some NoSuchAlias) (cond (hold.1.1.1.1.1.0 i) (Some TypeMismatch) (cond (limits.0 i) (Some TooMany) None)))))
 
-    -- A new standing query that nothing refuses leaves each with its query beside it, which is bound, ..
+    -- After a new standing query that nothing refuses, each has its query, which is bound.
     watched_by_watch : HasQueries state → AreBound state → HasQueries watching × AreBound watching
     watched_by_watch beside bound_now = (
       beside_behind state.schema.standing state.queries (record { name = name; tables = tables_read bound }) bound beside refl,
@@ -200,12 +200,12 @@ module _ (name : List ℕ) (query : Query) (state : State) where
           (query_within state.schema query none_of_query)),
     )
 
-    -- It keeps within its limit, as the others do.
+    -- The new query is within its limit, as the others are.
     pub limit_by_watch : list_any (outgrows state) state.queries ≡ false → list_any (outgrows watching) watching.queries ≡ false
     limit_by_watch within =
         list_any-append (outgrows watching) state.queries (bound ∷ []) ∙ or_from _ _ within (or_from _ _ hold.1.1.1.1.1.1.1.0 refl)
 
--- ---- a standing query dropped
+-- ---- a dropped standing query
 
 module _ (gone : List ℕ) where
   abbrev is_other : StandingDef → Bool
@@ -223,7 +223,7 @@ module _ (gone : List ℕ) where
   beside_left (s ∷ ss) [] beside = absurd beside
 
   module _ (P : BoundQuery → Type 0) where
-    -- What holds of all queries holds of those that are left.
+    -- What holds of all queries holds of the remaining ones.
     pub each_left : (ss : List StandingDef) (qs : List BoundQuery) → AllByRecursion P qs → AllByRecursion P (without_query gone ss qs)
     each_left [] qs each = tt
     each_left (s ∷ ss) [] each = tt
@@ -233,7 +233,7 @@ module _ (gone : List ℕ) where
         by true later = later
         by false later = (each.0, later)
 
-  -- .. and so does one that is dropped.
+  -- After a standing query is dropped, each other has its query, which is bound.
   watched_by_unwatch : (state : State) → HasQueries state → AreBound state → HasQueries (after_unwatch gone state) × AreBound (after_unwatch gone state)
   watched_by_unwatch state beside bound =
       let new = (after_unwatch gone state).schema in (
@@ -294,13 +294,13 @@ watched_by_command (RollbackTo name) state due is = is
 pub watched_at_first : HasQueries first_state × AreBound first_state
 watched_at_first = (tt, All-nil _)
 
--- So does each command.
+-- Each command keeps this.
 pub watched_by_step : (command : Command) (state : State) → HasQueries state → AreBound state
     → HasQueries (step command state).state × AreBound (step command state).state
 watched_by_step command state beside bound =
     kept_by_step IsWatched command state (λ due. watched_by_command command state due (beside, bound)) (beside, bound)
 
--- ---- what is shown
+-- ---- the shown rows
 
 module _ (name : List ℕ) (query : BoundQuery) (state : State) (is : query_named name state.schema.standing state.queries ≡ Some query) where
   its_rows : shown_rows name state ≡ shown query (eval query (rows_in state))
@@ -314,7 +314,7 @@ module _ (name : List ℕ) (query : BoundQuery) (state : State) (is : query_name
   its_rows_are_sorted = subst (IsSorted (rows_by_columns query.order)) (sym its_rows) (shown_sorted query (eval query (rows_in state)))
 
 module _ (name : List ℕ) (s : StandingDef) (q : BoundQuery) where
-  -- A name that is new is that of the last, ..
+  -- A new name is that of the last query, ..
   pub last_named : (ss : List StandingDef) (qs : List BoundQuery) → AreBeside ss qs → is_some (find (λ (x : StandingDef). same_name name x.name) ss) ≡ false
       → same_name name s.name ≡ true → query_named name (ss ++ s ∷ []) (qs ++ q ∷ []) ≡ Some q
   last_named [] [] beside free own = ap (λ b. cond b (Some q) None) own
@@ -328,7 +328,7 @@ module _ (name : List ℕ) (s : StandingDef) (q : BoundQuery) where
   last_named [] (r ∷ rs) beside free own = absurd beside
   last_named (t ∷ ts) [] beside free own = absurd beside
 
-  -- .. and any other is that of the one that it was.
+  -- .. and any other name is that of the same query as before.
   pub others_named : (ss : List StandingDef) (qs : List BoundQuery) → AreBeside ss qs → same_name name s.name ≡ false
       → query_named name (ss ++ s ∷ []) (qs ++ q ∷ []) ≡ query_named name ss qs
   others_named [] [] beside other = ap (λ b. cond b (Some q) None) other
@@ -336,7 +336,7 @@ module _ (name : List ℕ) (s : StandingDef) (q : BoundQuery) where
   others_named [] (r ∷ rs) beside other = absurd beside
   others_named (t ∷ ts) [] beside other = absurd beside
 
--- A new standing query shows what a SELECT of its query would, ..
+-- A new standing query shows the rows of a SELECT of its query, ..
 pub shown_by_watch : (name : List ℕ) (query : Query) (state : State) → HasQueries state → first_refusal (watch_conditions name query state) ≡ None
     → shown_rows name (after_watch name query state) ≡ selected query state
 shown_by_watch name query state beside due =
@@ -345,7 +345,7 @@ shown_by_watch name query state beside due =
     ap (λ (found : Option BoundQuery). option_map_or (answer_in state) found [])
     (last_named name (record { name = name; tables = tables_read bound }) bound state.schema.standing state.queries beside taken (same_name_refl name))
 
--- .. and all others what they did.
+-- .. and all others show the same as before.
 pub others_by_watch : (name : List ℕ) (query : Query) (state : State) (other : List ℕ) → HasQueries state → same_name other name ≡ false
     → shown_rows other (after_watch name query state) ≡ shown_rows other state
 others_by_watch name query state other beside differs =
@@ -358,7 +358,7 @@ no_query name [] = refl
 no_query name (s ∷ ss) = refl
 
 module _ (gone : List ℕ) where
-  -- A name that stays is that of the query that it was, ..
+  -- A remaining name is that of the same query as before, ..
   pub left_named : (name : List ℕ) → same_name gone name ≡ false → (ss : List StandingDef) (qs : List BoundQuery)
       → query_named name (filter (is_other gone) ss) (without_query gone ss qs) ≡ query_named name ss qs
   left_named name other [] qs = refl
@@ -377,7 +377,7 @@ module _ (gone : List ℕ) where
       by false differs false here later =
           ap (λ b. cond b (Some q) (query_named name (filter (is_other gone) ss) (without_query gone ss qs))) differs ∙ later
 
-  -- .. and the one that goes is that of none.
+  -- .. and the dropped one is that of none.
   gone_named : (ss : List StandingDef) (qs : List BoundQuery) → query_named gone (filter (is_other gone) ss) (without_query gone ss qs) ≡ None
   gone_named [] qs = refl
   gone_named (s ∷ ss) [] = no_query gone (filter (is_other gone) (s ∷ ss))
@@ -389,13 +389,13 @@ module _ (gone : List ℕ) where
       by true went later = later
       by false here later = ap (λ b. cond b (Some q) (query_named gone (filter (is_other gone) ss) (without_query gone ss qs))) here ∙ later
 
--- One that is dropped leaves what the others show, ..
+-- Dropping a standing query does not change what the others show, ..
 pub others_by_unwatch : (name : List ℕ) (state : State) (other : List ℕ) → same_name name other ≡ false
     → shown_rows other (after_unwatch name state) ≡ shown_rows other state
 others_by_unwatch name state other differs =
     ap (λ (found : Option BoundQuery). option_map_or (answer_in state) found []) (left_named name other differs state.schema.standing state.queries)
 
--- .. and is gone.
+-- .. and it no longer exists.
 pub gone_by_unwatch : (name : List ℕ) (state : State)
     → query_named name (after_unwatch name state).schema.standing (after_unwatch name state).queries ≡ None
 gone_by_unwatch name state = gone_named name state.schema.standing state.queries
@@ -409,14 +409,14 @@ limit_by_change mutation state due =
     (none_due_behind (row_conditions (changed_table mutation) (edits mutation state) (after_change mutation state))
     (growth_conditions (after_change mutation state)) (none_due_by_rows mutation state due))
 
--- Tables that edits do not concern keep their rows.
+-- Tables that edits do not affect keep their rows.
 rows_beside_edits : (name : List ℕ) (ts : List Table) (es : List TableEdits) (rows : Instance)
     → AllByRecursion (λ (e : TableEdits). same_name e.table name ≡ false) es → rows_named name ts (after_edits ts es rows) ≡ rows_named name ts rows
 rows_beside_edits name ts [] rows others = refl
 rows_beside_edits name ts (e ∷ es) rows others =
     rows_beside_edits name ts es (changed_instance ts (e ∷ []) rows) others.1 ∙ rows_of_others e.table e.pairs name others.0 ts rows
 
--- A query that reads none of the tables that a change concerns has the combinations that it had.
+-- A query that reads none of the tables that a change affects keeps its combinations.
 pub same_bag : (mutation : Mutation) (state : State) (query : BoundQuery)
     → AllByRecursion (λ (e : TableEdits). list_any (same_name e.table) (tables_read query) ≡ false) (edits mutation state)
     → bag query (rows_in (after_change mutation state)) ≡ bag query (rows_in state)

@@ -1,4 +1,4 @@
--- Where no row that stays refers to a key that a change takes away, each row has its targets still.
+-- If no remaining row refers to a key that a change deletes, each row still has its targets.
 use Rattle.std.proofs.Common.{◌≡◌, ℕ, ◌+◌, Bool, true, false, cond, not, ◌&&◌, ◌⊎◌, List, [], ◌∷◌, Option, Some, None, is_none, inl, inr, find, refl, sym, ap}
 use Rattle.std.proofs.Common.{subst, ◌∙◌}
 use Rattle.std.specs.List.{AllByRecursion, list_any}
@@ -27,11 +27,11 @@ use Rattle.mm_laws.proofs.Removals.{AreRemovals, EachRemoves}
 
 -- ---- rows that have their targets
 
--- the REF columns of the table of a name
+-- the REF columns of the table with a name
 abbrev pub references_in : State → List ℕ → List (ℕ × List ℕ)
 references_in state name = references_of (columns_named name state.schema)
 
--- A row refers by a column to one of the rows of the column's table.
+-- A row refers by a column to one of the rows of the column's target table.
 abbrev pub refers_in : State → ℕ × List ℕ → Row → Bool
 refers_in state r row = list_any (refers r.0 (key_named r.1 state.schema) row) (rows_in state r.1)
 
@@ -39,7 +39,7 @@ pub not_false : (b : Bool) → not b ≡ false → b ≡ true
 not_false true e = refl
 not_false false e = cc
 
--- Where no row of a table lacks its target, each row has one, ..
+-- If no row of a table lacks its target, each row has one, ..
 pub each_refers : (state : State) (name : List ℕ) → some_lacks_target name state ≡ false → (r : ℕ × List ℕ) → IsIn r (references_in state name)
     → (row : Row) → IsIn row (rows_in state name) → refers_in state r row ≡ true
 each_refers state name none r column row here =
@@ -48,7 +48,7 @@ each_refers state name none r column row here =
     (none_among (λ (q : ℕ × List ℕ). list_any (lacks_target_row q.0 (key_named q.1 state.schema) (rows_in state q.1)) (rows_in state name))
     (references_in state name) r column none))
 
--- .. and the other way round.
+-- .. and conversely.
 pub none_lacks : (state : State) (name : List ℕ)
     → ((r : ℕ × List ℕ) → IsIn r (references_in state name) → (row : Row) → IsIn row (rows_in state name) → refers_in state r row ≡ true)
     → some_lacks_target name state ≡ false
@@ -63,7 +63,7 @@ no_row_lacks state name none =
     none_by_each (λ (q : ℕ × List ℕ). list_any (lacks_target_row q.0 (key_named q.1 state.schema) (rows_in state q.1)) (rows_in state name))
     (references_in state name) (λ r column. ap (list_any (lacks_target_row r.0 (key_named r.1 state.schema) (rows_in state r.1))) none)
 
--- A table that keeps its columns and rows has all targets in a new state, where each row has them again.
+-- A table that keeps its columns and rows has all targets in a new state, if each row has them there.
 pub found_again : (old new : State) (name : List ℕ) → columns_named name new.schema ≡ columns_named name old.schema → rows_in new name ≡ rows_in old name
     → ((r : ℕ × List ℕ) → IsIn r (references_in old name) → (row : Row) → IsIn row (rows_in old name) → refers_in old r row ≡ true
     → refers_in new r row ≡ true)
@@ -74,7 +74,7 @@ found_again old new name columns rows again none =
     let row_before : IsIn row (rows_in old name) = subst (λ rs. IsIn row rs) rows here in
     again r column_before row row_before (each_refers old name none r column_before row row_before))
 
--- So it is where the tables that are referred to keep their keys and rows.
+-- This holds if the target tables keep their keys and rows.
 pub same_target : (old new : State) (r : ℕ × List ℕ) (row : Row) → key_named r.1 new.schema ≡ key_named r.1 old.schema → rows_in new r.1 ≡ rows_in old r.1
     → refers_in old r row ≡ true → refers_in new r row ≡ true
 same_target old new r row key rows is = (λ i. list_any (refers r.0 (key i) row) (rows i)) ∙ is
@@ -82,7 +82,7 @@ same_target old new r row key rows is = (λ i. list_any (refers r.0 (key i) row)
 -- ---- columns that refer to tables
 
 module _ (test : List ℕ → Bool) where
-  -- What no target of columns passes, none of their references does.
+  -- If no target of columns passes a test, none of their references does.
   pub fails_of_each : (n : ℕ) (columns : List Column) → list_any (λ c. option_map_or test (target_of c) false) columns ≡ false
       → (r : ℕ × List ℕ) → IsIn r (references_from n columns) → test r.1 ≡ false
   fails_of_each n [] none r among = absurd among
@@ -96,14 +96,14 @@ module _ (test : List ℕ → Bool) where
       by (Some name) fails later (inl same) = ap (λ (q : ℕ × List ℕ). test q.1) (sym same) ∙ fails
       by (Some name) fails later (inr rest) = later rest
 
--- A column of the table of a name is one of some table that has it.
+-- A column of the table with a name is one of some table that has it.
 pub column_of : (name : List ℕ) (ts : List Table) (r : ℕ × List ℕ) (found : Option Table) → find (has name) ts ≡ found
     → IsIn r (references_of (option_map_or (λ (t : Table). t.definition.columns) found []))
     → (t : Table) × IsIn t ts × (has name t ≡ true) × IsIn r (references_of t.definition.columns)
 column_of name ts r None is column = absurd column
 column_of name ts r (Some t) is column = let there = found_among (has name) ts t is in (t, there.0, there.1, column)
 
--- Where columns have targets, the tables of those are there.
+-- If columns have targets, the target tables exist.
 pub target_there : (schema : Schema) → HasTargets schema → (name : List ℕ) (r : ℕ × List ℕ) → IsIn r (references_of (columns_named name schema))
     → lacks_table r.1 schema ≡ false
 target_there schema targets name r column =
@@ -136,17 +136,17 @@ no_rows_lacking name (t ∷ ts) (r ∷ rs) none = by (has name t) none (no_rows_
     by true none later = absurd (false≢true none)
     by false none later = later none
 
--- The edits concern another table than this, or are removals.
+-- The edits are of another table than this, or are deletions.
 abbrev pub AddsNone : List ℕ → TableEdits → Type 0
 AddsNone name e = (same_name e.table name ≡ false) ⊎ AreRemovals e.pairs
 
--- So it is of removals alone.
+-- Deletions alone add no rows.
 pub adds_none : (name : List ℕ) (es : List TableEdits) → EachRemoves es → AllByRecursion (AddsNone name) es
 adds_none name [] each = tt
 adds_none name (e ∷ es) each = (inr each.0, adds_none name es each.1)
 
 module _ (ts : List Table) (name : List ℕ) where
-  -- What is there of a table afterwards was there before.
+  -- A remaining row of a table was there before.
   pub was_there : (e : TableEdits) (rows : Instance) → AreBeside ts rows → AddsNone name e → (row : Row)
       → IsIn row (rows_named name ts (changed_instance ts (e ∷ []) rows)) → IsIn row (rows_named name ts rows)
   was_there e rows beside (inl other) row here =
@@ -181,7 +181,7 @@ module _ (ts : List Table) (name : List ℕ) where
       was_there e rows beside none.0 row
       (were_there es (changed_instance ts (e ∷ []) rows) (beside_still ts (e ∷ []) rows beside) none.1 row here)
 
--- A row that stays refers still to a row of a table, where no edits of that table take away a key that one of these rows refers to.
+-- A remaining row still refers to a row of a table, if no edits of that table delete a key that one of these rows refers to.
 module _ (schema : Schema) (name : List ℕ) (there : lacks_table name schema ≡ false) (column : ℕ) (rows : List Row) (row : Row) (here : IsIn row rows) where
   abbrev KeepsKeys : TableEdits → Type 0
   KeepsKeys e = same_name name e.table ≡ true → lose_targets column (key_named name schema) rows e.pairs ≡ false
@@ -209,7 +209,7 @@ module _ (schema : Schema) (name : List ℕ) (there : lacks_table name schema �
       refers_through es (changed_instance schema.tables (e ∷ []) all) (beside_still schema.tables (e ∷ []) all beside) keeps.1
       (refers_through_one e all beside keeps.0 some)
 
--- What another table refers to after the change loses no key.
+-- Another table loses no key that rows refer to after the change.
 keys_stay : (e : TableEdits) (after : State) → is_referred_to after e ≡ false → (name : List ℕ) (r : ℕ × List ℕ)
     → IsIn r (references_in after name) → same_name r.1 e.table ≡ true → lose_targets r.0 (key_named e.table after.schema) (rows_in after name) e.pairs ≡ false
 keys_stay e after none name r column own =
@@ -239,7 +239,7 @@ module _ (es : List TableEdits) (own : List ℕ) (state : State) (beside : AreBe
   abbrev after : State
   after = record state { rows = after_edits state.schema.tables es state.rows }
 
-  -- After edits that add rows to no other table than one, all rows have their targets where those of that table do.
+  -- After edits that insert rows only into one table, all rows have their targets if those of that table do.
   pub found_after : some_is_referred es after ≡ false → some_lacks_target own after ≡ false → AllFindTargets state → AllFindTargets after
   found_after referred own_found found name = elim (cases_Bool (same_name own name)) [
     | inl same ↦ subst (λ n. some_lacks_target n after ≡ false) (same_bytes own name same) own_found

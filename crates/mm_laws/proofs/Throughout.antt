@@ -1,4 +1,4 @@
--- What each command keeps of the rows, commands keep one after another: also of the rows that are saved.
+-- Properties that each command keeps of the rows are kept by all commands, also of the saved rows.
 use Rattle.std.proofs.Common.{◌≡◌, ◌⊎◌, ◌&&◌, ℕ, Bool, true, false, not, cond, if◌then◌else◌, inl, inr, List, [], ◌∷◌, Option, Some, None, get_or, is_some}
 use Rattle.std.proofs.Common.{refl, sym, subst, ◌∙◌}
 use Rattle.std.specs.Option.{option_map, option_map_or}
@@ -29,7 +29,7 @@ module _ (P : State → Type 0) where
   by_outcome (Some refusal) old done new kept = kept
   by_outcome None old done new kept = new refl
 
-  -- A step keeps what its command keeps where nothing refuses it.
+  -- A step keeps what its command keeps if nothing refuses it.
   pub kept_by_step : (command : Command) (state : State) → (first_refusal (conditions command state) ≡ None → P (state_after command state)) → P state
       → P (step command state).state
   kept_by_step command state new kept =
@@ -41,19 +41,19 @@ module _ (P : State → Type 0) where
   kept_by_all by_command (command ∷ commands) state kept =
       kept_by_all by_command commands (step command state).state (kept_by_step command state (λ due. by_command command state due kept) kept)
 
--- ---- the rows, and those that are saved
+-- ---- the rows, and the saved rows
 
--- A fact of a catalog and rows holds of a state's rows, and of all that are saved.
+-- A property of a catalog and rows holds of a state's rows, and of all saved rows.
 pub record HoldsThroughout (P : Schema → Instance → Type 0) (state : State) : Type 0 where
   pub rows : P state.schema state.rows
   pub saved : IfSome state.saved (AreSavedRows (P state.schema))
 
--- Nothing is saved where no transaction is open.
+-- Nothing is saved if no transaction is open.
 pub none_saved : (saved : Option Saved) → is_some saved ≡ false → saved ≡ None
 none_saved None closed = refl
 none_saved (Some saved) closed = absurd (cc)
 
--- A change of the catalog keeps what is saved.
+-- A change of the catalog keeps the saved rows.
 pub saved_by_definition : (definition : Definition) (state : State) → (after_definition definition state).saved ≡ state.saved
 saved_by_definition (define.Table definition) state = refl
 saved_by_definition (define.DropTable name) state = refl
@@ -62,7 +62,7 @@ saved_by_definition (define.DropIndex name) state = refl
 saved_by_definition (define.Watch watched) state = refl
 saved_by_definition (define.Unwatch name) state = refl
 
--- A change of the catalog that nothing refuses is made outside a transaction, or concerns an index alone.
+-- A change of the catalog that nothing refuses is made outside a transaction, or concerns only an index.
 pub closed_or_of_index : (is_open of_index : Bool) (refusal : Refusal) (rest : Option Refusal) → cond (is_open && not of_index) (Some refusal) rest ≡ None
     → (is_open ≡ false) ⊎ (of_index ≡ true)
 closed_or_of_index false of_index refusal rest due = inl refl
@@ -70,7 +70,7 @@ closed_or_of_index true true refusal rest due = inr refl
 closed_or_of_index true false refusal rest due = absurd (cc)
 
 module _ (P : Instance → Type 0) where
-  -- ROLLBACK gives rows that are saved.
+  -- ROLLBACK restores saved rows.
   pub restored : (rows : Instance) (saved : Option Saved) → P rows → IfSome saved (AreSavedRows P)
       → P (option_map_or (λ (saved : Saved). saved.at_begin) saved rows)
   restored rows None now before = now
@@ -100,7 +100,7 @@ module _ (P : Instance → Type 0) where
   at_latest rows [] now held = now
   at_latest rows (savepoint ∷ earlier) now held = All-head (λ (s : Savepoint). P s.rows) savepoint earlier held
 
-  -- ROLLBACK TO gives rows that are saved, ..
+  -- ROLLBACK TO restores saved rows, ..
   pub gone_back : (name : List ℕ) (rows : Instance) (saved : Option Saved) → P rows → IfSome saved (AreSavedRows P)
       → P (rows_at_latest (back_to name (option_map_or (λ (saved : Saved). saved.savepoints) saved [])) rows)
   gone_back name rows None now before = now
@@ -116,7 +116,7 @@ module _ (P : Instance → Type 0) where
     savepoints = held_back name saved.savepoints before.savepoints;
   }
 
-  -- Rows that are saved keep what each of them keeps.
+  -- Saved rows keep a property that each of them keeps.
   pub each_held : (Q : Instance → Type 0) → ((rows : Instance) → P rows → Q rows) → (saved : Option Saved) → IfSome saved (AreSavedRows P)
       → IfSome saved (AreSavedRows Q)
   each_held Q keeps None held = tt
@@ -188,6 +188,6 @@ module _ (P : Schema → Instance → Type 0)
     saved = held_before (P state.schema) name state.saved held.saved;
   }
 
-  -- What changes of the catalog and of rows keep of the rows, all commands keep throughout.
+  -- A property of the rows that changes of the catalog and of rows keep is kept by all commands throughout.
   pub held_by_all : (commands : List Command) (state : State) → HoldsThroughout P state → HoldsThroughout P (after_all commands state)
   held_by_all commands state held = kept_by_all (HoldsThroughout P) held_by_command commands state held

@@ -1,4 +1,4 @@
--- What is done between BEGIN and COMMIT or ROLLBACK, and between SAVEPOINT and ROLLBACK TO.
+-- Commands between BEGIN and COMMIT or ROLLBACK, and between SAVEPOINT and ROLLBACK TO.
 use Rattle.std.proofs.Common.{◌≡◌, ◌⊎◌, ◌&&◌, ◌||◌, ℕ, Bool, true, false, cond, if◌then◌else◌, not, List, [], ◌∷◌, ◌++◌, Option, Some, None, inl, inr}
 use Rattle.std.proofs.Common.{is_some, length, map, nat_lt, refl, sym, ap, subst, ◌∙◌}
 use Rattle.std.specs.List.{list_all, list_any}
@@ -38,7 +38,7 @@ begin_rows saved = option_map (λ (saved : Saved). saved.at_begin) saved
 abbrev definitions : Schema → List TableDef
 definitions schema = map (λ (table : Table). table.definition) schema.tables
 
--- what a transaction that was begun in a state keeps
+-- the invariant of a transaction that was begun in a state
 record IsInside (begun : State) (state : State) : Type 0 where
   tables : definitions state.schema ≡ definitions begun.schema
   named : state.schema.standing ≡ begun.schema.standing
@@ -91,7 +91,7 @@ module _ (begun : State) where
       by (define.Watch watched) (inr of_index) = absurd (false≢true of_index)
       by (define.Unwatch name) (inr of_index) = absurd (false≢true of_index)
 
-  -- a savepoint more, and one less, leave the rows that BEGIN saved
+  -- one more or one less savepoint keeps the rows that BEGIN saved
   begun_further : (savepoints : Saved → List Savepoint) (saved : Option Saved) → begin_rows saved ≡ Some begun.rows
       → begin_rows (option_map (λ (saved : Saved). record saved { savepoints = savepoints saved }) saved) ≡ Some begun.rows
   unfolding begin_rows
@@ -143,7 +143,7 @@ pub after_both : (front behind : List Command) (state : State) → after_all (fr
 after_both [] behind state = refl
 after_both (command ∷ front) behind state = after_both front behind (step command state).state
 
--- where a transaction is begun
+-- the state in which a transaction is begun
 abbrev opened : State → State
 opened state = record state { saved = Some (record { at_begin = state.rows; savepoints = [] }) }
 
@@ -156,7 +156,7 @@ module _ (state : State) (closed : has_transaction state ≡ false) where
   begun : (step Begin state).state ≡ opened state
   begun = ap (λ (o : Outcome). o.state) (step-done Begin state (ap (λ b. cond b (Some TransactionOpen) None) closed))
 
-  -- where commands lead from a state in which a transaction is begun
+  -- the state that commands lead to after a transaction is begun
   reached : List Command → State
   reached commands = after_all commands (opened state)
 
@@ -186,22 +186,22 @@ module _ (state : State) (closed : has_transaction state ≡ false) where
           saved = sym (none_saved state.saved closed) i;
         })
 
-    -- ROLLBACK makes the saved rows the rows again, and nothing else has changed but the catalog, ..
+    -- ROLLBACK restores the saved rows, and nothing else has changed but the catalog, ..
     pub rolled_back : after_all (Begin ∷ commands ++ Rollback ∷ []) state
         ≡ record state { schema = (after_all (Begin ∷ commands ++ Rollback ∷ []) state).schema }
     rolled_back = gone_back ∙ (λ i. record state { schema = (sym gone_back i).schema })
 
-    -- .. and of that at most the indexes.
+    -- .. and of the catalog at most the indexes.
     pub catalog_is_alike : AreAlike (after_all (Begin ∷ commands ++ Rollback ∷ []) state).schema state.schema
     catalog_is_alike =
         subst (λ (s : State). AreAlike s.schema state.schema) (sym gone_back) (record { tables = inside.tables; standing = inside.named })
 
-    -- COMMIT changes nothing but that no rows are saved.
+    -- COMMIT changes nothing except that no rows are saved.
     pub committed : after_all (Begin ∷ commands ++ Commit ∷ []) state ≡ record (after_all (Begin ∷ commands) state) { saved = None }
     unfolding reached
     committed = ended Commit is_open ∙ (λ i. record (after_all commands (sym begun i)) { saved = None })
 
--- ---- behind a savepoint
+-- ---- after a savepoint
 
 pub open_saved : (saved : Option Saved) → is_some saved ≡ true → (kept : Saved) × (saved ≡ Some kept)
 open_saved None is = absurd (false≢true is)
@@ -212,11 +212,11 @@ not_false true is = refl
 not_false false is = absurd (false≢true (sym is))
 
 module _ (name : List ℕ) where
-  -- what going back to the name leaves saved
+  -- the saved rows after a rollback to the name
   abbrev kept_back : Option Saved → Option Saved
   kept_back saved = option_map (λ (saved : Saved). record saved { savepoints = back_to name saved.savepoints }) saved
 
-  -- one savepoint is the first of the name
+  -- one savepoint is the first with the name
   back_to_first : (savepoint : Savepoint) (earlier : List Savepoint) → same_name name savepoint.name ≡ true
       → back_to name (savepoint ∷ earlier) ≡ savepoint ∷ earlier
   back_to_first savepoint earlier is = ap (λ b. if b then savepoint ∷ earlier else back_to name earlier) is
@@ -281,13 +281,13 @@ module _ (name : List ℕ) where
       open_kept None is = absurd (cc)
       open_kept (Some saved) is = refl
 
-      -- nothing refuses to go back to it ..
+      -- nothing refuses the rollback to it ..
       none_due : (state : State) → kept_back state.saved ≡ Some at → first_refusal (conditions (RollbackTo name) state) ≡ None
       none_due state is =
           ap (λ b. cond (not b) (Some NoTransaction) (cond (lacks_savepoint name state) (Some NoSuchSavepoint) None)) (open_kept state.saved is)
           ∙ ap (λ b. cond (not b) (Some NoSuchSavepoint) None) (has_name (savepoints_of state) savepoint earlier (savepoints_kept state.saved is))
 
-      -- .. and its rows are those that come back
+      -- .. and its rows are restored
       back_at : (state : State) → kept_back state.saved ≡ Some at
           → after_rollback_to name state ≡ record state { rows = savepoint.rows; saved = Some at }
       back_at state is = λ i. record state { rows = rows_at_latest (savepoints_kept state.saved is i) state.rows; saved = is i }
@@ -299,7 +299,7 @@ module _ (name : List ℕ) (state : State) (due : first_refusal (conditions (Set
       (not_false (has_transaction state)
       (first_none (not (has_transaction state)) NoTransaction (cond (not (nat_lt (length (savepoints_of state)) max_savepoints)) (Some TooMany) None) due))
 
-  -- what is saved with the savepoint
+  -- the saved rows with the savepoint
   at_savepoint : Saved
   at_savepoint = record old.0 { savepoints = record { name = name; rows = state.rows } ∷ old.0.savepoints }
 
@@ -328,7 +328,7 @@ module _ (name : List ℕ) (state : State) (due : first_refusal (conditions (Set
     unfolding behind
     still = stays_by_all name at_savepoint commands (step (SetSavepoint name) state).state leave first_kept
 
-    -- ROLLBACK TO makes the rows at the savepoint the rows again, keeps it, and drops the later ones.
+    -- ROLLBACK TO restores the rows at the savepoint, keeps it, and drops the later ones.
     pub back_at_savepoint : after_all (SetSavepoint name ∷ commands ++ RollbackTo name ∷ []) state
         ≡ record (after_all (SetSavepoint name ∷ commands) state) { rows = state.rows; saved = (step (SetSavepoint name) state).state.saved }
     unfolding behind at_savepoint
@@ -339,7 +339,7 @@ module _ (name : List ℕ) (state : State) (due : first_refusal (conditions (Set
         ∙ back_at name at_savepoint (record { name = name; rows = state.rows }) old.0.savepoints refl behind still
         ∙ (λ i. record behind { rows = state.rows; saved = sym saved_there i })
 
--- ---- commands beside saved rows
+-- ---- commands with saved rows
 
 -- the outcome with these rows saved
 abbrev saving : Option Saved → Outcome → Outcome
@@ -350,7 +350,7 @@ saving_outcome : (saved : Option Saved) (due : Option Refusal) (state : State) (
 saving_outcome saved (Some refusal) state done = refl
 saving_outcome saved None state done = refl
 
--- A command that is done alike in a transaction and outside one does not look at the saved rows.
+-- A command that is done alike in a transaction and outside one does not depend on the saved rows.
 pub step_beside : (saved : Option Saved) (command : Command) (state : State) → is_done_alike command ≡ true
     → step command (record state { saved = saved }) ≡ saving saved (step command state)
 step_beside saved command state free = by command free

@@ -1,4 +1,4 @@
--- The rows that an UPDATE makes have the types of their columns.
+-- The new rows of an UPDATE have the types of their columns.
 use Rattle.std.proofs.Common.{◌≡◌, ℕ, suc, ◌+◌, ◌==◌, true, false, List, [], ◌∷◌, Option, Some, None, find, map, slice_get, refl, sym, ap, ◌∙◌, arith}
 use Rattle.std.specs.List.{All, list_any}
 use Rattle.std.specs.Option.{option_map, option_map_or}
@@ -23,7 +23,7 @@ use Rattle.mm_laws.specs.Typing.{HasTypes}
 use Rattle.mm_laws.proofs.TypedPlaces.{IsPlaced, column_placed, one_type}
 use Rattle.mm_laws.proofs.TypedRows.{value_typed}
 
--- A value plus a number has the type that it had.
+-- A value plus a number keeps its type.
 type_stays : (by : _) (v : Value) → type_of (shifted by v) ≡ type_of v
 type_stays by (Int number) = refl
 type_stays by (Text text) = refl
@@ -32,24 +32,24 @@ equal_places : (a b : ℕ) → (a == b) ≡ true → a ≡ b
 equal_places a b e = grind (arith, nat_tests)
 
 module _ (columns : List Column) (row : Row) (typed : HasTypes columns row) where
-  -- the type of the column of a name
+  -- the type of the column with a name
   named_type : (name : List ℕ) (is : IsPlaced columns name) → type_named columns name ≡ Some is.column.col_type
   named_type name is = ap (option_map (λ (c : Column). c.col_type)) is.named
 
-  -- The value at the place of a name has the type of the column of the name, ..
+  -- The value at the place of a name has the type of the column with the name, ..
   placed_typed : (name : List ℕ) → lacks_column columns name ≡ false → Some (type_of (value_in (placed columns name) row)) ≡ type_named columns name
   placed_typed name there =
       let is = column_placed columns name there in
       ap Some (value_typed columns row (placed columns name) is.column typed is.there) ∙ sym (named_type name is)
 
-  -- .. so what an operand gives has the type of the operand.
+  -- .. so the value of an operand has the type of the operand.
   operand_typed : (o : Operand (List ℕ)) → operand_lacks_column columns o ≡ false
       → Some (type_of (value_for row (placed_operand columns o))) ≡ operand_type (type_named columns) o
   operand_typed (operand.Literal value) there = refl
   operand_typed (operand.Column name) there = placed_typed name there
   operand_typed (operand.Shifted name by) there = ap Some (type_stays by (value_in (placed columns name) row)) ∙ placed_typed name there
 
-  -- An assignment gives its column a value of the column's type.
+  -- An assignment assigns its column a value of the column's type.
   abbrev pub Fits : Assignment ℕ → Type 0
   Fits a = (c : Column) → slice_get columns a.column ≡ Some c → type_of (value_for row a.source) ≡ c.col_type
 

@@ -1,4 +1,4 @@
--- A change of rows that nothing refuses by the catalog alone brings only rows of the types of their columns.
+-- A change of rows that the catalog does not refuse has only new rows of the types of their columns.
 use Rattle.std.proofs.Common.{◌≡◌, ℕ, false, List, [], ◌∷◌, Option, Some, None, filter, find, is_none, sym, subst}
 use Rattle.std.specs.List.{All, list_any}
 use Rattle.std.specs.Option.{option_map_or}
@@ -36,7 +36,7 @@ inserted_typed : (tuples : List Row) (found : Option Table) → is_none found �
 inserted_typed tuples None there same long = cc
 inserted_typed tuples (Some t) there same long = tuples_typed t.definition.columns tuples same long
 
--- Where rows only go, the others have the types of their columns as before.
+-- If rows are only deleted, the others still have the types of their columns.
 typed_all_removed : (schema : Schema) (gone : List TableEdits) (rows : Instance) → EachRemoves gone → HasDistinctNames schema
     → AreTyped schema.tables rows → AreTyped schema.tables (after_edits schema.tables gone rows)
 typed_all_removed schema [] rows none distinct typed = typed
@@ -47,7 +47,7 @@ typed_all_removed schema (e ∷ es) rows none distinct typed =
 
 module _ (state : State) (typed : AreTyped state.schema.tables state.rows) where
   module _ (table : List ℕ) (assignments : List (Assignment (List ℕ))) (tests : List (Atom (List ℕ))) where
-    -- The rows that an UPDATE makes have them too.
+    -- The new rows of an UPDATE have these types too.
     changed_rows_typed : first_refusal (binding_conditions (Update table assignments tests) state.schema) ≡ None
         → All (HasTypes (columns_named table state.schema)) (coming (own_pairs (Update table assignments tests) state))
     changed_rows_typed due =
@@ -72,7 +72,7 @@ module _ (state : State) (typed : AreTyped state.schema.tables state.rows) where
       subst (All (HasTypes (columns_named table state.schema))) (sym (coming_added tuples))
       (inserted_typed tuples (find (has table) state.schema.tables) hold.0 hold.1.0 hold.1.1.0)
 
-  -- So all rows have their types after a change. A DELETE brings none, in none of the tables that it concerns.
+  -- So all rows have their types after a change. A DELETE has no new row, in none of the tables that it affects.
   pub typed_by_change : (mutation : Mutation) → HasDistinctNames state.schema → first_refusal (binding_conditions mutation state.schema) ≡ None
       → AreTyped state.schema.tables (after_change mutation state).rows
   typed_by_change (Insert table tuples) distinct due =

@@ -1,4 +1,4 @@
--- A change of the catalog that nothing refuses keeps all rows and standing queries typed.
+-- A successful change of the catalog keeps all rows and standing queries typed.
 use Rattle.std.proofs.Common.{◌≡◌, ◌⊎◌, inl, inr, ℕ, Bool, true, false, List, [], ◌∷◌, Option, Some, None, IfSome, is_some, map}
 use Rattle.std.specs.List.{All, AllByRecursion, list_any}
 use Rattle.std.proofs.lemmas.Bool.{false≢true, or_parts}
@@ -24,7 +24,7 @@ use Rattle.mm_laws.proofs.StandingQueries.{Stays, all_read_on, each_left, items_
 use Rattle.mm_laws.proofs.TypedQueries.{atoms_shift, query_stays}
 use Rattle.mm_laws.proofs.TypedTables.{typed_behind, typed_kept, typed_without}
 
--- ---- the standing queries that are there
+-- ---- the existing standing queries
 
 module _ (old new : Schema) (out : List ℕ → Bool) (stays : Stays old new out) where
   each_stays : (queries : List BoundQuery) → AllByRecursion (IsQueryWithin old) queries
@@ -34,7 +34,7 @@ module _ (old new : Schema) (out : List ℕ → Bool) (stays : Stays old new out
   each_stays (q ∷ qs) bound unread shifts =
       (query_stays old new q (items_stay old new out stays q.from bound.0.tables unread.0) shifts.0, each_stays qs bound.1 unread.1 shifts.1)
 
-  -- Queries that are bound, and read only tables that stay, add numbers to columns of whole numbers still.
+  -- Bound queries that read only tables that stay still add numbers only to integer columns.
   all_stay : (queries : List BoundQuery) → All (IsQueryWithin old) queries → AllByRecursion (λ query. list_any out (tables_read query) ≡ false) queries
       → All (ShiftsNumbers old) queries → All (ShiftsNumbers new) queries
   all_stay queries bound unread shifts =
@@ -43,7 +43,7 @@ module _ (old new : Schema) (out : List ℕ → Bool) (stays : Stays old new out
 
 -- ---- one more standing query
 
--- A query that is kept adds numbers only to columns of whole numbers.
+-- A new standing query adds numbers only to integer columns.
 watched_shifts : (name : List ℕ) (query : Query) (state : State) → first_refusal (watch_conditions name query state) ≡ None
     → ShiftsNumbers state.schema (placed_query state.schema query)
 watched_shifts name query state due =
@@ -72,7 +72,7 @@ typed_with_definitions change same state bound typed =
           state.queries bound (all_read_on state.queries) typed.queries;
     }
 
--- Each keeps all rows and all standing queries typed.
+-- Each change of the catalog keeps all rows and all standing queries typed.
 pub typed_by_definition : (definition : Definition) (state : State) → (has_transaction state ≡ false) ⊎ (is_of_index definition ≡ true)
     → first_refusal (definition_conditions definition state) ≡ None → HasQueries state → AreBound state → IsTyped state
     → IsTyped (after_definition definition state)

@@ -1,4 +1,4 @@
--- Queries that add numbers only to columns of whole numbers, over rows that have their types.
+-- Queries that add numbers only to integer columns, over rows that have their types.
 use Rattle.std.proofs.Common.{◌≡◌, ℕ, false, List, [], Option, Some, None, slice_get, refl, ◌∙◌}
 use Rattle.std.specs.List.{All}
 use Rattle.std.specs.Option.{option_and_then, option_map, option_map_or}
@@ -23,13 +23,13 @@ use Rattle.mm_laws.specs.Typing.{AreTyped, HasTypes, ShiftsNumber, ShiftsNumbers
 use Rattle.mm_laws.proofs.TypedRows.{value_typed}
 use Rattle.mm_laws.proofs.TypedTables.{named_typed}
 
--- a value of the type of whole numbers is no text
+-- a value of the integer type is not a text
 not_text : (v : Value) → type_of v ≡ type.Int → is_text (Some v) ≡ false
 not_text (Int number) is = refl
 not_text (Text text) is = cc
 
 module _ (schema : Schema) (rows : Instance) (typed : AreTyped schema.tables rows) where
-  -- A column of whole numbers has no text in the rows of its table.
+  -- An integer column has no text in the rows of its table.
   in_table : (name : List ℕ) (column : ℕ) (found : Option Column) → slice_get (columns_named name schema) column ≡ found
       → option_map (λ (c : Column). c.col_type) found ≡ Some type.Int
       → All (λ (row : Row). is_text (Some (value_in column row)) ≡ false) (rows_named name schema.tables rows)

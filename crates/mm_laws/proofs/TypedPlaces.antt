@@ -1,4 +1,4 @@
--- What stands at the place of a name, and types that are not told apart.
+-- The element at the place of a name, and types that a comparison does not distinguish.
 use Rattle.std.proofs.Common.{◌≡◌, ℕ, zero, suc, ◌<◌, Bool, false, List, [], ◌∷◌, Option, Some, None, find, is_none, not, length, position, slice_get}
 use Rattle.std.proofs.Common.{refl, ap, ◌∙◌, arith}
 use Rattle.std.specs.Option.{option_map_or, unwrap_or}
@@ -13,7 +13,7 @@ use Rattle.mm_query.specs.Placing.{lacks_column, placed}
 
 -- ---- lists
 
--- what is found: the first element that passes, and its place
+-- the first element that passes, and its place
 pub record IsFound (X : Type 0) (p : X → Bool) (xs : List X) : Type 0 where
   pub element : X
   pub place : ℕ
@@ -27,7 +27,7 @@ at_place [] i inside = absurd (omega (arith, inside))
 at_place (x ∷ xs) zero inside = (x, refl)
 at_place (x ∷ xs) (suc i) inside = at_place xs i (omega (arith, inside))
 
--- Where there is a place, an element is found.
+-- If there is a place, an element is found.
 pub found_placed : {X : Type 0} (p : X → Bool) (xs : List X) → is_none (position p xs) ≡ false → IsFound X p xs
 found_placed {X = X} p xs there = by (position p xs) refl there
   where
@@ -39,27 +39,27 @@ found_placed {X = X} p xs there = by (position p xs) refl there
 
 -- ---- types
 
--- Types that aren't told apart are one, ..
+-- Types that the comparison does not distinguish are equal, ..
 pub one_type : (a b : ColType) → not (same_type a b) ≡ false → a ≡ b
 one_type type.Int type.Int same = refl
 one_type type.Text type.Text same = refl
 one_type type.Int type.Text same = cc
 one_type type.Text type.Int same = cc
 
--- .. and the one that isn't that of texts is that of whole numbers.
+-- .. and the type that is not text is integer.
 pub no_text : (a : ColType) → same_type type.Text a ≡ false → a ≡ type.Int
 no_text type.Int other = refl
 no_text type.Text other = cc
 
 -- ---- columns
 
--- A column that has the name, and stands at the place of the name.
+-- A column that has the name, and is at the place of the name.
 pub record IsPlaced (columns : List Column) (name : List ℕ) : Type 0 where
   pub column : Column
   pub named : column_named name columns ≡ Some column
   pub there : slice_get columns (placed columns name) ≡ Some column
 
--- A name that is there has such a column.
+-- An existing name has such a column.
 pub column_placed : (columns : List Column) (name : List ℕ) → lacks_column columns name ≡ false → IsPlaced columns name
 column_placed columns name there =
     let is = found_placed (λ (column : Column). same_name name column.name) columns there in
@@ -71,6 +71,6 @@ column_placed columns name there =
 
 -- ---- tables
 
--- the columns of a table, if it is there
+-- the columns of a table, if it exists
 abbrev pub columns_in : Option Table → List Column
 columns_in table = option_map_or (λ (t : Table). t.definition.columns) table []

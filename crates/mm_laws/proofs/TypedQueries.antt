@@ -1,5 +1,5 @@
--- Standing queries add numbers only to columns of whole numbers: a new one whose types were tested, and all of them while the
--- columns of their tables stay.
+-- Standing queries add numbers only to integer columns: a new one whose types were tested, and all of them while the columns of their
+-- tables stay.
 use Rattle.std.proofs.Common.{◌≡◌, ℕ, zero, suc, Bool, false, List, [], ◌∷◌, Option, Some, None, is_none, map, slice_get, refl, sym, ap, ◌∙◌}
 use Rattle.std.specs.List.{All, AllByRecursion, list_any}
 use Rattle.std.specs.Option.{option_and_then, option_map, option_map_or, unwrap_or}
@@ -29,7 +29,7 @@ use Rattle.mm_laws.proofs.TypedPlaces.{IsFound, column_placed, columns_in, found
 -- ---- over another catalog
 
 module _ (old new : Schema) where
-  -- A field has the column that it had, where its tables stay, ..
+  -- A field keeps its column, if its tables stay, ..
   pub column_stays : (from : List FromItem) → AllByRecursion (IsThere old new) from → (place column : ℕ)
       → column_at new from (record { place = place; column = column }) ≡ column_at old from (record { place = place; column = column })
   column_stays [] there place column = refl
@@ -43,7 +43,7 @@ module _ (old new : Schema) where
   operand_stays from there (operand.Shifted field by) shifts =
       ap (option_map (λ (c : Column). c.col_type)) (column_stays from there field.place field.column) ∙ shifts
 
-  -- .. so a query adds numbers to columns of whole numbers still.
+  -- .. so a query still adds numbers only to integer columns.
   pub query_stays : (query : BoundQuery) → AllByRecursion (IsThere old new) query.from → ShiftsNumbers old query → ShiftsNumbers new query
   query_stays query there shifts =
       All-weaker (λ (atom : Atom FieldPlace). ShiftsNumber old query.from atom.right) _ (λ atom. operand_stays query.from there atom.right) query.atoms shifts
@@ -113,7 +113,7 @@ module _ (schema : Schema) (from : List FromItem) (tables : list_any (λ (item :
   operand_shifts (operand.Column field) alias has whole = tt
   operand_shifts (operand.Shifted field by) alias has whole = shifts_number field alias has whole
 
-  -- The atoms of such a query add numbers only to columns of whole numbers.
+  -- The atoms of such a query add numbers only to integer columns.
   pub atoms_shift : (atoms : List (Atom FieldName)) → list_any (some_side (lacks_alias from)) atoms ≡ false
       → list_any (some_side (field_lacks_column schema from)) atoms ≡ false
       → list_any (λ (a : Atom FieldName). mismatches (field_type schema from) a.left a.right) atoms ≡ false

@@ -19,7 +19,7 @@ use Rattle.mm_laws.proofs.TypedPlaces.{one_type}
 
 -- ---- one row
 
--- A row that has its types has in each column a value of the column's type.
+-- A row that has its types has a value of the column's type in each column.
 pub value_typed : (columns : List Column) (row : Row) (place : ℕ) (column : Column) → HasTypes columns row → slice_get columns place ≡ Some column
     → type_of (value_in place row) ≡ column.col_type
 value_typed [] row place column typed there = cc
@@ -40,7 +40,7 @@ typed_by_length (c ∷ cs) (v ∷ vs) same long =
 equal_lengths : (a b : ℕ) → not (a == b) ≡ false → a ≡ b
 equal_lengths a b e = grind (arith, nat_tests)
 
--- So it is of the tuples that no test by the columns refuses.
+-- So has each tuple that no test by the columns refuses.
 pub tuples_typed : (columns : List Column) (tuples : List Row) → list_any (has_type_mismatch columns) tuples ≡ false
     → list_any (has_other_length columns) tuples ≡ false → All (HasTypes columns) tuples
 tuples_typed columns [] same long = All-nil _
@@ -51,11 +51,11 @@ tuples_typed columns (t ∷ ts) same long =
 
 -- ---- the rows of a table
 
--- the rows that come
+-- the new rows
 abbrev pub coming : List Pair → List Row
 coming pairs = filter_map (λ (p : Pair). p.1) pairs
 
--- What holds of all rows and of those that come holds of the rows after a change.
+-- A property of all rows and of the new ones holds of the rows after a change.
 pub held_by_changed : (P : Row → Type 0) (key : ℕ) (pairs : List Pair) (rows : List Row) → All P rows → All P (coming pairs)
     → All P (changed key pairs rows)
 held_by_changed P key [] rows old new = old
@@ -63,12 +63,12 @@ held_by_changed P key (p ∷ ps) rows old new =
     All-permutation P (unsorted key (p ∷ ps) rows) _ (IsPermutation-in_order (column_cmp key) (unsorted key (p ∷ ps) rows))
     (All-append P _ (coming (p ∷ ps)) (All-filter _ P rows old) new)
 
--- INSERT brings its tuples, and ..
+-- The new rows of INSERT are its tuples, ..
 pub coming_added : (rows : List Row) → coming (additions rows) ≡ rows
 coming_added [] = refl
 coming_added (r ∷ rs) = ap (λ others. r ∷ others) (coming_added rs)
 
--- .. UPDATE one for each row.
+-- .. and those of UPDATE are one for each row.
 pub coming_changed : (P : Row → Type 0) (f : Row → Row) (rows : List Row) → All (λ (row : Row). P (f row)) rows
     → All P (coming (map (λ (row : Row). (Some row, Some (f row))) rows))
 coming_changed P f rows each = subst (All P) (sym (is rows)) (All-map P f rows each)

@@ -19,7 +19,7 @@ use Rattle.mm_laws.specs.Typing.{AreTyped, IsTyped}
 use Rattle.mm_laws.proofs.TypedChanges.{typed_by_change}
 use Rattle.mm_laws.proofs.TypedDefinitions.{typed_by_definition}
 
--- Where none of some conditions holds, none of the first ones does.
+-- If none of some conditions holds, none of the first ones does.
 pub none_in_front : (cs ds : List Condition) → first_refusal (cs ++ ds) ≡ None → first_refusal cs ≡ None
 none_in_front cs ds none = by (first_refusal cs) refl
   where
@@ -69,11 +69,11 @@ typed_by_command (RollbackTo name) state due distinct beside bound typed = recor
   queries = typed.queries;
 }
 
--- Nothing is there at first.
+-- There are no rows and no standing queries at first.
 pub typed_at_first : IsTyped first_state
 typed_at_first = record { rows = tt; saved = tt; queries = All-nil _ }
 
--- A command that is refused leaves the state, and one that is done keeps it typed.
+-- A refused command leaves the state unchanged, and a successful one keeps it typed.
 pub typed_by_step : (command : Command) (state : State) → HasDistinctNames state.schema → HasQueries state → AreBound state → IsTyped state
     → IsTyped (step command state).state
 typed_by_step command state distinct beside bound typed =

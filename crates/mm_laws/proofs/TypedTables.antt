@@ -21,7 +21,7 @@ beside_from_types (t ∷ ts) (r ∷ rs) typed = beside_from_types ts rs typed.1
 beside_from_types [] (r ∷ rs) typed = absurd typed
 beside_from_types (t ∷ ts) [] typed = absurd typed
 
--- The rows of the table of a name have the types of its columns.
+-- The rows of the table with a name have the types of its columns.
 pub named_typed : (name : List ℕ) (tables : List Table) (rows : Instance) → AreTyped tables rows
     → All (HasTypes (columns_in (find (has name) tables))) (rows_named name tables rows)
 named_typed name [] [] typed = All-nil _
@@ -48,7 +48,7 @@ module _ (gone : List ℕ) where
   abbrev stays : Table → Bool
   stays t = not (same_name gone (name_of t))
 
-  -- .. a table that goes leaves those of the others as they are, ..
+  -- .. dropping a table leaves those of the others unchanged, ..
   pub typed_without : (tables : List Table) (rows : Instance) → AreTyped tables rows
       → AreTyped (filter stays tables) (without_rows gone tables rows)
   typed_without [] [] typed = tt
@@ -61,7 +61,7 @@ module _ (gone : List ℕ) where
   typed_without [] (r ∷ rs) typed = absurd typed
   typed_without (t ∷ ts) [] typed = absurd typed
 
--- .. and a change of other things than the definitions leaves all.
+-- .. and a change of other things than the definitions leaves all unchanged.
 pub typed_kept : (change : Table → Table) → ((t : Table) → (change t).definition ≡ t.definition) → (tables : List Table) (rows : Instance)
     → AreTyped tables rows → AreTyped (map change tables) rows
 typed_kept change same [] [] typed = tt
@@ -73,7 +73,7 @@ typed_kept change same (t ∷ ts) [] typed = absurd typed
 -- ---- changes of rows
 
 module _ (name : List ℕ) (pairs : List Pair) where
-  -- the rows that come have the types of the columns of the table of the name
+  -- the new rows have the types of the columns of the table with the name
   abbrev ComeTyped : Option Table → Type 0
   ComeTyped table = All (HasTypes (columns_in table)) (coming pairs)
 
@@ -92,7 +92,7 @@ module _ (name : List ℕ) (pairs : List Pair) where
     rest new,
   )
 
-  -- Rows have their types after a change of one table to which only rows of the types of its columns come.
+  -- Rows have their types after a change of one table whose new rows have the types of its columns.
   pub typed_changed : (tables : List Table) (rows : Instance) → AreTyped tables rows → IsDistinct same_name (map name_of tables)
       → ComeTyped (find (has name) tables) → AreTyped tables (changed_instance tables (edits_of_one name pairs) rows)
   typed_changed [] [] typed distinct new = tt

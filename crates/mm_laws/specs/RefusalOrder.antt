@@ -1,4 +1,4 @@
--- The refusals in the order in which they are looked for.
+-- The one order of refusals.
 use Rattle.std.specs.Prelude.{List, [], ◌∷◌}
 use Rattle.mm_value.specs.declared.refusal.Refusal.{Refusal}
 use Rattle.mm_value.specs.declared.refusal.Refusal.TheVariants.{LineTooLong, Syntax, NumberOutOfRange, NoSuchTable, NoSuchColumn, NoSuchIndex}
@@ -7,7 +7,7 @@ use Rattle.mm_value.specs.declared.refusal.Refusal.TheVariants.{ArithmeticOutOfR
 use Rattle.mm_value.specs.declared.refusal.Refusal.TheVariants.{ResultTooLarge, StandingListTooLarge, TooMany, TransactionOpen, NoTransaction}
 use Rattle.mm_value.specs.declared.refusal.Refusal.TheVariants.{NotInTransaction, NoSuchSavepoint, Memory}
 
--- The one order of refusals (docs/LANGUAGE.md), with want of memory last. A text past its limit has the place of a number past its own.
+-- The one order of refusals (docs/LANGUAGE.md), with failed allocations last. A text past its limit has the place of a number past its own.
 abbrev pub one_order : List Refusal
 one_order =
     LineTooLong ∷ Syntax ∷ NumberOutOfRange

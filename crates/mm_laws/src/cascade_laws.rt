@@ -12,8 +12,8 @@ ghost use Rattle.mm_query.specs.declared.atom.Atom.{Atom};
 ghost use Rattle.mm_query.specs.declared.command.Command.{Command};
 ghost use Rattle.mm_query.specs.declared.command.Mutation.TheVariants.{Delete};
 
-/// In every state that commands can lead to from the first, a DELETE leaves none behind that it should take with it: no row that is
-/// there afterwards has in a CASCADE column the key of a row that went.
+/// In every state that commands lead to from the first, a DELETE deletes all rows that it cascades to: no remaining row has the key of a
+/// deleted row in a CASCADE column.
 pub fn cascades_leave_none_behind()
     ensures { (commands : List Command) (name : List ℕ) (tests : List (Atom (List ℕ))) (table : Table) (row : List Value)
         → let state = after_all commands first_state in
@@ -21,8 +21,8 @@ pub fn cascades_leave_none_behind()
         → is_cascaded state.schema (edits (Delete name tests) state) table.definition.columns row ≡ false }
 {}
 
-/// A DELETE takes no others with it: whatever holds of the rows that meet its tests, and of each row that has in a CASCADE column the
-/// key of one of which it holds, holds of all rows that go.
+/// A DELETE deletes no other rows. Consider any property of the rows that satisfy its tests, and of each row that has the key of a row with
+/// the property in a CASCADE column. All deleted rows have this property.
 pub fn cascades_take_no_others()
     ensures { (passes : List ℕ → List Value → Bool) (name : List ℕ) (tests : List (Atom (List ℕ))) (state : State)
         → ((row : List Value) → meets (tests_for name state.schema tests) row ≡ true → passes name row ≡ true)

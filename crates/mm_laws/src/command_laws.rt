@@ -1,4 +1,4 @@
-//! Laws of which commands the laws of transactions speak of, and of where a transaction is open.
+//! Laws on the groups of commands in the laws of transactions, and on when a transaction is open.
 ghost use Rattle.std.specs.Prelude.{◌≡◌, ◌≢◌, ◌⊎◌, ◌↔◌, ◌<◌, ℕ, true, false, Contains, List, [], ◌∷◌, None, length};
 ghost use Rattle.std.specs.List.{list_all, list_any};
 ghost use Rattle.mm_schema.specs.Instance.{Instance};
@@ -16,25 +16,25 @@ ghost use Rattle.mm_query.specs.declared.command.Mutation.{Mutation};
 ghost use Rattle.mm_query.specs.declared.command.NamedQuery.{NamedQuery};
 ghost use Rattle.mm_query.specs.declared.query.Query.{Query};
 
-/// Just three commands begin or end a transaction: BEGIN, COMMIT and ROLLBACK.
+/// Exactly three commands begin or end a transaction: BEGIN, COMMIT and ROLLBACK.
 pub fn three_commands_control_transactions()
     ensures { (command : Command) → (is_transaction_control command ≡ true) ↔ Contains (Begin ∷ Commit ∷ Rollback ∷ []) command }
 {}
 
-/// Just four commands are done without memory: BEGIN, COMMIT, ROLLBACK and ROLLBACK TO.
+/// Exactly four commands do not allocate: BEGIN, COMMIT, ROLLBACK and ROLLBACK TO.
 pub fn four_commands_are_done_without_memory()
     ensures { (command : Command) → (is_done_without_memory command ≡ true)
         ↔ (Contains (Begin ∷ Commit ∷ Rollback ∷ []) command ⊎ ((name : List ℕ) × (command ≡ RollbackTo name))) }
 {}
 
-/// Just two changes of the catalog concern an index alone: the one that makes an index, and the one that drops one.
+/// Exactly two changes of the catalog concern only an index: creating an index and dropping one.
 pub fn two_definitions_are_of_indexes()
     ensures { (definition : Definition) → (is_of_index definition ≡ true)
         ↔ (((index : IndexDef) × (definition ≡ define.Index index)) ⊎ ((name : List ℕ) × (definition ≡ define.DropIndex name))) }
 {}
 
-/// These commands leave a savepoint of a name: each change of rows, each change of the catalog, each question, an empty line, and a
-/// SAVEPOINT of another name. These don't: BEGIN, COMMIT, ROLLBACK, each ROLLBACK TO, and a SAVEPOINT of that name.
+/// These commands keep a savepoint with a name: each change of rows, each change of the catalog, each question, an empty line, and a
+/// SAVEPOINT with another name. These do not: BEGIN, COMMIT, ROLLBACK, each ROLLBACK TO, and a SAVEPOINT with that name.
 pub fn changes_and_questions_leave_a_savepoint()
     ensures changes { (name : List ℕ) (mutation : Mutation) → leaves_savepoint name (Change mutation) ≡ true }
     ensures definitions { (name : List ℕ) (definition : Definition) → leaves_savepoint name (Define definition) ≡ true }
@@ -47,9 +47,8 @@ pub fn changes_and_questions_leave_a_savepoint()
     ensures control { (name : List ℕ) → list_any (leaves_savepoint name) (Begin ∷ Commit ∷ Rollback ∷ []) ≡ false }
 {}
 
-/// These commands are done alike in a transaction and outside one: each change of rows, the changes of the catalog that make or drop
-/// an index, each question, and an empty line. These aren't: the other changes of the catalog, and BEGIN, COMMIT, ROLLBACK,
-/// SAVEPOINT and ROLLBACK TO.
+/// These commands are done alike in a transaction and outside one: each change of rows, creating or dropping an index, each question, and
+/// an empty line. These are not: the other changes of the catalog, and BEGIN, COMMIT, ROLLBACK, SAVEPOINT and ROLLBACK TO.
 pub fn changes_and_questions_are_done_alike()
     ensures changes { (mutation : Mutation) → is_done_alike (Change mutation) ≡ true }
     ensures indexes { (index : IndexDef) (name : List ℕ)
@@ -63,8 +62,8 @@ pub fn changes_and_questions_are_done_alike()
         → list_any is_done_alike (Begin ∷ Commit ∷ Rollback ∷ Savepoint name ∷ RollbackTo name ∷ []) ≡ false }
 {}
 
-/// No transaction is open at first. One is after a BEGIN, and none after a COMMIT or a ROLLBACK; each other command leaves one open,
-/// or none, as it was.
+/// No transaction is open at first. One is open after a BEGIN, and none after a COMMIT or a ROLLBACK. Each other command leaves this
+/// unchanged.
 pub fn transactions_are_open_from_begin_to_end()
     ensures first { has_transaction first_state ≡ false }
     ensures begin { (state : State) → has_transaction (step Begin state).state ≡ true }
@@ -74,8 +73,8 @@ pub fn transactions_are_open_from_begin_to_end()
         → has_transaction (step command state).state ≡ has_transaction state }
 {}
 
-/// Nothing refuses a BEGIN outside a transaction, a COMMIT or a ROLLBACK in one, a SAVEPOINT in one that has fewer than 64, nor a
-/// ROLLBACK TO in one that has a savepoint of its name.
+/// Nothing refuses a BEGIN outside a transaction, a COMMIT or a ROLLBACK in one, a SAVEPOINT in one that has fewer than 64, or a ROLLBACK
+/// TO in one that has a savepoint with its name.
 pub fn transactions_are_begun_divided_and_ended()
     ensures begin { (state : State) → has_transaction state ≡ false → first_refusal (conditions Begin state) ≡ None }
     ensures commit { (state : State) → has_transaction state ≡ true → first_refusal (conditions Commit state) ≡ None }

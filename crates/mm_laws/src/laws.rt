@@ -12,32 +12,31 @@ ghost use Rattle.mm_query.specs.declared.command.Definition.{Definition};
 ghost use Rattle.mm_query.specs.declared.reply.Reply.TheVariants.{Refused};
 ghost use Rattle.mm_value.specs.declared.refusal.Refusal.TheVariants.{NoTransaction, NotInTransaction, TransactionOpen};
 
-/// The conditions of each command stand in the one order of refusals, so the refusal that is answered is the first in that
-/// order of those that are due.
+/// The conditions of each command are in the one order of refusals, so the refusal of a command is the first in that order of those that
+/// are due.
 pub fn conditions_ascend()
     ensures { (command : Command) (state : State) → IsTrue (ascend (conditions command state)) }
 {}
 
-/// In every state that commands can lead to from the first, whatever they are, each table's rows are strictly in the order
-/// of their keys. So no two rows of a table have one key. The same holds of all rows that are saved while a transaction is
-/// open.
+/// In every state that commands lead to from the first, each table's rows are strictly in the order of their keys. So no two rows of a
+/// table have one key. The same holds of all rows that are saved while a transaction is open.
 pub fn rows_stay_in_key_order()
     ensures rows { (commands : List Command) → let reached = after_all commands first_state in AreInKeyOrder reached.schema.tables reached.rows }
     ensures saved { (commands : List Command) → let reached = after_all commands first_state in
         IfSome reached.saved (AreSavedRows (AreInKeyOrder reached.schema.tables)) }
 {}
 
-/// In every state that commands can lead to from the first, whatever they are, each value of a foreign key is the key of a
-/// row of the table that it refers to. The same holds of all rows that are saved while a transaction is open.
+/// In every state that commands lead to from the first, each value of a foreign key is the key of a row of the table that it refers to. The
+/// same holds of all rows that are saved while a transaction is open.
 pub fn rows_keep_their_targets()
     ensures rows { (commands : List Command) (table : List ℕ) → some_lacks_target table (after_all commands first_state) ≡ false }
     ensures saved { (commands : List Command) (table : List ℕ) → let reached = after_all commands first_state in
         IfSome reached.saved (AreSavedRows (λ rows. some_lacks_target table (record reached { rows = rows }) ≡ false)) }
 {}
 
-/// A transaction is begun only outside one, and ended and divided only in one, and the catalog is changed only outside one, but
-/// for its indexes. Any other BEGIN is refused with `TransactionOpen`, COMMIT, ROLLBACK, SAVEPOINT or ROLLBACK TO with
-/// `NoTransaction`, and change of the catalog with `NotInTransaction`, whatever else would refuse it.
+/// BEGIN inside a transaction is refused with `TransactionOpen`. COMMIT, ROLLBACK, SAVEPOINT and ROLLBACK TO outside one are refused with
+/// `NoTransaction`. A change of the catalog inside one is refused with `NotInTransaction`, unless it concerns only an index. Each of these
+/// takes precedence over any other refusal.
 pub fn transactions_stand_alone()
     ensures begin { (state : State) → has_transaction state ≡ true
         → step Begin state ≡ record { reply = Some (Refused TransactionOpen); state = state } }
@@ -53,8 +52,8 @@ pub fn transactions_stand_alone()
         → step (Define definition) state ≡ record { reply = Some (Refused NotInTransaction); state = state } }
 {}
 
-/// BEGIN, then any commands of which none begins or ends a transaction, and then ROLLBACK leave the rows and the standing
-/// queries from which they started, and a catalog in which at most the indexes are others.
+/// BEGIN, then any commands none of which begins or ends a transaction, and then ROLLBACK restore the rows and the standing queries at the
+/// BEGIN. Of the catalog, at most the indexes change.
 pub fn rollback_restores_the_rows_at_begin()
     ensures state { (commands : List Command) (state : State) → has_transaction state ≡ false → list_any is_transaction_control commands ≡ false
         → let reached = after_all (Begin ∷ commands ++ Rollback ∷ []) state in reached ≡ record state { schema = reached.schema } }
@@ -62,16 +61,16 @@ pub fn rollback_restores_the_rows_at_begin()
         → AreAlike (after_all (Begin ∷ commands ++ Rollback ∷ []) state).schema state.schema }
 {}
 
-/// BEGIN, then any commands of which none begins or ends a transaction, and then COMMIT leave the catalog and the rows that
-/// were there before the COMMIT, and no saved rows.
+/// BEGIN, then any commands none of which begins or ends a transaction, and then COMMIT leave the catalog and the rows from before the
+/// COMMIT, and no saved rows.
 pub fn commit_keeps_the_rows()
     ensures { (commands : List Command) (state : State) → has_transaction state ≡ false → list_any is_transaction_control commands ≡ false
         → let before = after_all (Begin ∷ commands) state in
         after_all (Begin ∷ commands ++ Commit ∷ []) state ≡ record before { saved = None } }
 {}
 
-/// A SAVEPOINT that nothing refuses, then any commands that leave it, and then ROLLBACK TO of its name bring back the rows from
-/// which they started; the savepoint is kept, and those that were made behind it are not. Nothing else changes by the ROLLBACK TO.
+/// A successful SAVEPOINT, then any commands that keep it, and then ROLLBACK TO its name restore the rows at the SAVEPOINT. The savepoint
+/// remains, and later ones are dropped. ROLLBACK TO changes nothing else.
 pub fn rollback_to_restores_the_rows_at_its_savepoint()
     ensures { (name : List ℕ) (commands : List Command) (state : State) → first_refusal (conditions (Savepoint name) state) ≡ None
         → list_all (leaves_savepoint name) commands ≡ true
@@ -79,9 +78,8 @@ pub fn rollback_to_restores_the_rows_at_its_savepoint()
         ≡ record (after_all (Savepoint name ∷ commands) state) { rows = state.rows; saved = (step (Savepoint name) state).state.saved } }
 {}
 
-/// What is done in a transaction is what is done outside: whatever rows are saved, commands that begin, divide and end no
-/// transaction and change nothing of the catalog but indexes have the same replies, lead to the same catalog and rows, and keep
-/// the saved ones.
+/// Commands do the same in a transaction as outside one, whatever rows are saved. Commands that begin, divide and end no transaction and
+/// change nothing in the catalog but indexes have the same replies. They lead to the same catalog and rows, and keep the saved rows.
 pub fn transactions_do_what_commands_do()
     ensures replies { (command : Command) (state : State) (saved : Option Saved) → is_done_alike command ≡ true
         → (step command (record state { saved = saved })).reply ≡ (step command state).reply }

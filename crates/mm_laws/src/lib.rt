@@ -1,5 +1,5 @@
-//! Laws of the machine of row lists: what holds of every state that commands lead to, and what commands do together. They
-//! tell that the definitions mean what they are taken for. No code calls them; proofs of the crates above use some of their lemmas.
+//! Laws of the machine of row lists: what holds in every state that commands lead to, and what commands do together. They show that the
+//! definitions have the intended meaning. No code calls them; proofs of the crates above use some of their lemmas.
 #![tactic(auto)]
 
 mod cascade_laws;

@@ -1,4 +1,4 @@
-//! Laws of what queries mean.
+//! Laws of the meaning of queries.
 ghost use Rattle.std.specs.Prelude.{◌≡◌, ◌&&◌, ℕ, Bool, List, IsTrue, if◌then◌else◌};
 ghost use Rattle.std.specs.Cmp.{IsTotalOrder};
 ghost use Rattle.std.specs.List.{count_by, dedup, list_any};
@@ -14,29 +14,29 @@ ghost use Rattle.mm_query.specs.State.{State};
 ghost use Rattle.mm_query.specs.declared.bound_query.BoundQuery.{BoundQuery};
 ghost use Rattle.mm_query.specs.declared.query.Query.{Query};
 
-/// The conditions of a query stand in the one order of refusals.
+/// The conditions of a query are in the one order of refusals.
 pub fn query_conditions_ascend()
     ensures { (query : Query) (state : State) → IsTrue (ascend (select_conditions query state)) }
 {}
 
-/// The plain product has each way to take one element of each list, as often as there are such elements: whatever is asked of
-/// the elements, as many combinations answer it as the product of the numbers of elements that do. And a row stands in a bag
-/// as often as combinations fit that give it.
+/// The plain product has each way to choose one element of each list, as often as there are such elements: for any conditions on the
+/// elements, the number of combinations that satisfy them is the product of the numbers of elements that do. The count of a row in a bag is
+/// the number of matching combinations that yield it.
 pub fn combinations_are_counted<T>()
     ensures product { (tests : List (T → Bool)) (lists : List (List T)) → count_by (pass_each tests) (combinations lists) ≡ product_of_counts tests lists }
     ensures bag { (query : BoundQuery) (lists : List (List (List Value))) (row : List Value)
         → count_by (same_row row) (bag_of query lists) ≡ count_by (λ c. fits query c && same_row row (projected query c)) (combinations lists) }
 {}
 
-/// DISTINCT keeps each row that is there once, and no other row.
+/// DISTINCT keeps exactly one of each row.
 pub fn distinct_keeps_one_of_each()
     ensures { (rows : List (List Value)) (row : List Value)
         → count_by (same_row row) (one_of_each rows) ≡ (if list_any (same_row row) rows then 1 else 0) }
 {}
 
-/// A query shows just the rows that it is given, and none before one that comes first by the columns of ORDER and as a whole
-/// row. This order is total, and only equal rows compare as equal, so there is just one such list: in whatever order the rows
-/// are given, with one of each too, it is the same. And rows that are sorted have one of each when equal neighbours are dropped.
+/// The shown rows are exactly the given rows, sorted by the columns of ORDER and then as whole rows. This order is total, and only equal
+/// rows compare as equal, so there is exactly one such list, also with DISTINCT: it does not depend on the order in which the rows are
+/// given. Dropping equal neighbours of sorted rows leaves one of each.
 pub fn shown_rows_are_sorted()
     ensures permutation { (query : BoundQuery) (rows : List (List Value)) → IsPermutation rows (shown query rows) }
     ensures sorted { (query : BoundQuery) (rows : List (List Value)) → IsSorted (rows_by_columns query.order) (shown query rows) }

@@ -9,7 +9,7 @@ ghost use Rattle.mm_value.specs.declared.refusal.Refusal.{Refusal};
 ghost use Rattle.mm_value.specs.declared.refusal.Refusal.TheVariants.{NumberOutOfRange, TextTooLong};
 ghost use Rattle.mm_laws.specs.RefusalOrder.{one_order};
 
-/// The rank of refusals ascends strictly along their one order, which has all of them, with 90 at the end, but for 13: a text past
+/// The ranks of refusals increase strictly along their one order, which has all refusals and ends with 90. The exception is 13: a text past
 /// its limit has the rank of a number past its own, which is 12.
 pub fn ranks_ascend_along_the_one_order()
     ensures numbers { map refusal_number one_order
@@ -19,8 +19,7 @@ pub fn ranks_ascend_along_the_one_order()
     ensures all { (refusal : Refusal) → Contains (TextTooLong ∷ one_order) refusal }
 {}
 
-/// A refusal is answered just where the condition of one holds: then it is one whose condition holds, and of these the first in the
-/// one order.
+/// A command is refused exactly if the condition of a refusal holds. Its refusal is then the first in the one order whose condition holds.
 pub fn first_refusals_are_answered()
     ensures due { (command : Command) (state : State) (condition : Condition) → Contains (conditions command state) condition → condition.holds ≡ true
         → (answered : Refusal) × (first_refusal (conditions command state) ≡ Some answered) × (rank answered ≤ rank condition.refusal) }

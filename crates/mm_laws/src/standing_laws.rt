@@ -16,17 +16,15 @@ ghost use Rattle.mm_query.specs.declared.command.Command.{Command};
 ghost use Rattle.mm_query.specs.declared.command.Mutation.{Mutation};
 ghost use Rattle.mm_query.specs.declared.query.Query.{Query};
 
-/// Each standing query has its bound query beside it, all of whose tables and columns are there: at first, and after each
-/// command where it was so before.
+/// Each standing query has its bound query, all of whose tables and columns exist: at first, and after each command if it was so before.
 pub fn standing_queries_stay_bound()
     ensures first { HasQueries first_state × AreBound first_state }
     ensures step { (command : Command) (state : State) → HasQueries state → AreBound state
         → HasQueries (step command state).state × AreBound (step command state).state }
 {}
 
-/// A standing query shows just the rows that its query gives over the rows now, sorted as a SELECT would: right after it is
-/// kept, those of that SELECT. The others show what they did before it was kept and before one was dropped, and one that is
-/// dropped is gone.
+/// A standing query shows exactly the rows of its query over the current rows, sorted as by a SELECT: right after it is created, those of
+/// that SELECT. Creating or dropping a standing query does not change the rows of the others, and a dropped one no longer exists.
 pub fn standing_queries_are_shown()
     ensures permutation { (name : List ℕ) (query : BoundQuery) (state : State) → query_named name state.schema.standing state.queries ≡ Some query
         → IsPermutation (eval query (rows_in state)) (shown_rows name state) }
@@ -42,8 +40,8 @@ pub fn standing_queries_are_shown()
         → query_named name (after_unwatch name state).schema.standing (after_unwatch name state).queries ≡ None }
 {}
 
-/// No more than 1,048,576 combinations fit a standing query over the rows after a change that nothing refuses, nor over the
-/// rows when it is kept. A query that reads none of the tables that a change concerns has the combinations that it had.
+/// No more than 1,048,576 combinations match a standing query over the rows after a successful change, or when a standing query is created,
+/// if this held before. A change of tables that a query does not read does not change its combinations.
 pub fn standing_queries_stay_within_limit()
     ensures change { (mutation : Mutation) (state : State) → first_refusal (change_conditions mutation state) ≡ None
         → list_any (outgrows (after_change mutation state)) (after_change mutation state).queries ≡ false }

@@ -16,10 +16,10 @@ ghost use Rattle.mm_query.specs.declared.query.FromItem.{FromItem};
 ghost use Rattle.mm_query.specs.Additions.{AddsToNumbers};
 ghost use Rattle.mm_laws.specs.Typing.{AreTyped, IsTyped, ShiftsNumbers};
 
-/// All rows have the types of their columns, also the saved ones, and the standing queries add numbers only to columns of whole
-/// numbers: at first; after a change of the catalog that nothing refuses, outside a transaction; and after each command where no
-/// two tables have one name. Rows stay typed by a change that nothing refuses by the catalog alone, also where its rows or a
-/// standing query refuse it later.
+/// All rows have the types of their columns, also the saved ones, and the standing queries add numbers only to integer columns: at first;
+/// after a successful change of the catalog outside a transaction or of an index; and after each command if no two tables have one name.
+/// Both require that the standing queries are bound. Rows also remain typed by a change that the catalog does not refuse, even if its rows
+/// or a standing query refuse it later.
 pub fn types_are_kept()
     ensures first { IsTyped first_state }
     ensures definition { (definition : Definition) (state : State) → (has_transaction state ≡ false) ⊎ (is_of_index definition ≡ true)
@@ -32,7 +32,7 @@ pub fn types_are_kept()
         → IsTyped (step command state).state }
 {}
 
-/// A query that adds numbers only to columns of whole numbers adds none to a text of rows that have the types of their columns.
+/// A query that adds numbers only to integer columns adds none to a text of rows that have the types of their columns.
 pub fn bound_queries_add_to_numbers()
     ensures { (schema : Schema) (rows : Instance) (query : BoundQuery) → AreTyped schema.tables rows → ShiftsNumbers schema query
         → AddsToNumbers query (λ place. option_map_or (λ (item : FromItem). rows_named item.table schema.tables rows) (slice_get query.from place) []) }

@@ -1,4 +1,4 @@
--- Each row in use has a target, after a command of which each row that came has one.
+-- Each row in use has a target after a command if each new row has one.
 use Rattle.std.proofs.Common.{◌≡◌, ◌≢◌, ℕ, ⊎_elim, List, [], ◌∷◌, get_or, sym, ap, ◌∙◌, subst}
 use Rattle.std.specs.List.{All}
 use Rattle.std.proofs.lemmas.List.Elements.{All-head, All-tail}

@@ -138,7 +138,7 @@ module _ (reference : Reference) (key : ℕ) (apart : reference.from ≢ referen
     record { as_source = λ is. absurd (not_from is); as_target = λ is. absurd (not_to is) },
   )
 
-  -- so does the record of a row that was staged
+  -- the record of a staged row keeps the link too
   pub KeepsLink-staged : (s : List Slots) (t : ℕ) (r : RowRef) (row : List Value) → t < length s → slots_at s t r ≡ Free
       → HaveTargets reference.column key (from s) (to s)
       → KeepsLink reference key (set s t (put r (Hidden row) (slots_at s t))) (logged t (Stage r))
@@ -167,7 +167,7 @@ module _ (reference : Reference) (key : ℕ) (apart : reference.from ≢ referen
 
   module _ (keys : List ℕ) (s : List Slots) (r : LogRecord) (ties : Ties) (holds : Holds keys s r) (keeps : KeepsLink reference key s r)
       (follows : Follows reference.column key (from s) (to s) ties) where
-    -- of the referring table: the ties can be brought up
+    -- of the referring table: the ties can be updated
     pub IsTakenBack-record : r.table ≡ reference.from
         → IsTakenBack reference.column key (slice_index keys reference.from) (from (back r s)) (to (back r s)) r.edit ties
     IsTakenBack-record is =
@@ -184,7 +184,7 @@ module _ (reference : Reference) (key : ℕ) (apart : reference.from ≢ referen
               (subst (λ (y : Slots). HaveTargets reference.column key (step_back r.edit (from s)) y) (sym there) (keeps.as_source is));
         }
 
-    -- of the target table: they follow it as they are
+    -- of the target table: the ties follow it unchanged
     pub Follows-target_back : r.table ≡ reference.to → key ≡ slice_index keys reference.to
         → Follows reference.column key (from (back r s)) (to (back r s)) ties
     Follows-target_back is own =

@@ -96,7 +96,7 @@ module _ (column key : ℕ) (row : List Value) where
         value_of [] within = absurd (omega arith)
         value_of (x ∷ xs) within = x
 
-    -- a row without the column refers to none
+    -- a row without the column has no target
     pub no_row : slice_get row column ≡ None → list_any (refers column key row) (map (row_at now) refs) ≡ false
     no_row none =
         any-map (row_at now) (refers column key row) refs ∙ list_any_none (λ at. refers column key row (row_at now at)) refs
@@ -195,7 +195,7 @@ module _ (column key : ℕ) (now then : Slots) (ties : Ties) (follows : Follows 
         let here : Contains refs from = (some.0, some.2, some.3) in
         (from, (kept.held from).0 here, record { live = live; same = same_from_refers column key (row_at now from) (row_at then at) some.4 })
 
-    -- the same in terms of the list of rows
+    -- the same for the list of rows
     pub referred_listed : (found : Bool) → (found ≡ true → IsReferredTo column key now then at) → (IsReferredTo column key now then at → found ≡ true)
         → found ≡ is_referred column key (map (row_at now) refs) (row_at then at)
     referred_listed found to from = agree found _ (λ yes. listed (to yes)) (λ yes. from (from_listed yes))

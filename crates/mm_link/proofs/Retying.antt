@@ -1,4 +1,4 @@
--- Ties that are brought up to edits of the referring table.
+-- Updating ties after edits of the referring table.
 use Rattle.std.proofs.Common.{◌≡◌, ◌≢◌, ℕ, suc, ◌+◌, ◌<◌, ⊎_elim, List, [], ◌∷◌, length, get_or, drop, Option, Some, None, refl, sym, ap, ◌∙◌, subst}
 use Rattle.std.proofs.Common.{arith, drop-cons}
 use Rattle.std.specs.Prelude.{slice_get}
@@ -20,7 +20,7 @@ use Rattle.mm_link.proofs.Slots.{after_leaves, all_leave, back_leaves, first_apa
 use Rattle.mm_link.proofs.Slots.{live_apart_hidden, rest_apart, Turns-after, Turns-back}
 
 module _ (column key : ℕ) (then : Slots) where
-  -- what has no row in use is tied to none ..
+  -- a slot without a row in use is tied to none
   pub tied_none : (content : Content) (target : Option RowRef) → IsOut content → IsTied column key then content target → target ≡ None
   tied_none Free target out tied = tied
   tied_none (Live row) target out tied = absurd out
@@ -41,7 +41,7 @@ module _ (column key : ℕ) (then : Slots) where
   live_tied now at target live tied = subst (λ (c : Content). IsTied column key then c target) (sym live.1) tied
 
   module _ (was now : Slots) (at : RowRef) (target : Option RowRef) (switches : Switches was now at) (tied : IsTied column key then (was at) target) where
-    -- a row that was tied to none has come, ..
+    -- a row that was tied to none was brought into use
     pub has_come : target ≡ None → HasRow now at
     has_come none =
         ⊎_elim
@@ -51,7 +51,7 @@ module _ (column key : ℕ) (then : Slots) where
         let both : Some before.0 ≡ None = sym before.1 ∙ none in let no : ⊥ = cc in absurd no)
         switches
 
-    -- .. and one that was tied to a row has gone
+    -- and a row that was tied to another one is out of use
     pub has_gone : (to : RowRef) → target ≡ Some to → IsOut (now at)
     has_gone to some =
         ⊎_elim
@@ -204,7 +204,7 @@ module _ (column key : ℕ) (then : Slots) where
       drop-cons es i d within ∙ ap (λ (n : ℕ). get_or es i d ∷ drop n es) more in
       subst (λ (xs : List Edit). IsBehind column key now then xs ties) split behind
 
-  -- with no edits left the ties follow what the slots contain
+  -- without remaining edits, the ties follow the content of the slots
   pub Follows-done : (now : Slots) (ties : Ties) → IsBehind column key now then [] ties → Follows column key now then ties
   Follows-done now ties behind at = behind.done at (λ k d within. absurd (let no : ⊥ = omega arith in no))
 

@@ -1,4 +1,4 @@
--- Ties where both tables keep their rows in use.
+-- Ties if both tables keep their rows in use.
 use Rattle.std.proofs.Common.{◌≡◌, ℕ, List, Option, None, refl, sym, ap, ◌∙◌, subst}
 use Rattle.std.specs.Prelude.{slice_get}
 use Rattle.mm_foreign_key.specs.Ties.{KeepsTargets, Ties, target_at}
@@ -31,16 +31,16 @@ module _ (column key : ℕ) where
   tied_still (Hidden y) (Hidden x) then later target own same tied = tied
   tied_still (Hidden y) (Live x) then later target own same tied = let both : Hidden y ≡ Live x = (own x).1 refl in let no : ⊥ = cc in absurd no
 
-  -- what hides or frees no row in use, and brings none, keeps the ties: a row that is staged or released, the end of a transaction
+  -- changes that neither hide, free nor bring a row in use keep the ties: staging or releasing a row, and the end of a transaction
   pub Follows-same_rows : (was now then later : Slots) (ties : Ties) → SameRows was now → SameRows then later → Follows column key was then ties
       → Follows column key now later ties
   Follows-same_rows was now then later ties own same follows at = tied_still (was at) (now at) then later (target_at ties at) (own at) same (follows at)
 
-  -- so do entries and counts that were added
+  -- added entries and counts keep them too
   pub Follows-grown : (now then : Slots) (old new : Ties) → KeepsTargets old new → Follows column key now then old → Follows column key now then new
   Follows-grown now then old new kept follows at = subst (IsTied column key then (now at)) (sym (kept at)) (follows at)
 
-  -- with no row in use there is nothing to tie
+  -- without a row in use there is nothing to tie
   pub Follows-empty : (now then : Slots) (ties : Ties) → ((at : RowRef) → HasRow now at → ⊥) → ((at : RowRef) → target_at ties at ≡ None)
       → Follows column key now then ties
   Follows-empty now then ties empty untied at = none_here (now at) refl

@@ -68,7 +68,7 @@ rest_apart e es apart i j d before within = apart (suc i) (suc j) d (omega arith
 pub all_leave : (e : Edit) (es : List Edit) (at : RowRef) → All (IsApart e) es → (LeavesOut e at → ⊥) → All (λ f. LeavesOut f at) es
 all_leave e es at apart named k d within = leaves_other e (get_or es k d) at (apart k d within) named
 
--- ---- what edits leave alone
+-- ---- the slots that edits do not change
 
 two_left : (a b r : RowRef) (c d : Content) (now : Slots) → a ≢ r → b ≢ r → put a c (put b d now) r ≡ now r
 two_left a b r c d now not_a not_b = put_other a r c (put b d now) not_a ∙ put_other b r d now not_b
@@ -92,7 +92,7 @@ after_leaves [] now r out = refl
 after_leaves (e ∷ es) now r out =
     after_leaves es (step e now) r (All-tail (λ f. LeavesOut f r) e es out) ∙ step_leaves e now r (All-head (λ f. LeavesOut f r) e es out)
 
--- ---- what edits make of the slots that they name
+-- ---- the effect of edits on the slots that they name
 
 pub live_apart_hidden : (now : Slots) (a b : RowRef) → HasRow now a → HasHidden now b → a ≢ b
 live_apart_hidden now a b (x, live) (y, hidden) same =
@@ -136,7 +136,7 @@ Turns-step key (Move a b) now (live, hidden) = exchanges now a b live hidden
 Turns-step key (Delete r) now fits =
     inr (fits, out_hidden (step (Delete r) now) r (row_at now r, put_here r r (Hidden (row_at now r)) now refl))
 
--- .. and one that is undone
+-- .. and an edit that is undone
 pub Turns-back : (key : ℕ) (e : Edit) (now : Slots) → Stands key now e → Turns now (step_back e now) e
 Turns-back key (Stage r) now stands = (out_hidden now r stands, out_free (step_back (Stage r) now) r (put_here r r Free now refl))
 Turns-back key (Insert r) now stands =
@@ -170,7 +170,7 @@ exchanged_moved a b was now other later was_a was_b now_a now_b turned = record 
   went = now_b ∙ (turned.went ∙ ap (λ (c : Content). Hidden (row_in c)) (sym was_a));
 }
 
--- what an edit turned is seen in the slots that it names alone
+-- the change by an edit depends only on the slots that it names
 pub Turns-moved : (e : Edit) (was now other later : Slots) → ((at : RowRef) → (LeavesOut e at → ⊥) → other at ≡ was at)
     → ((at : RowRef) → (LeavesOut e at → ⊥) → later at ≡ now at) → Turns was now e → Turns other later e
 Turns-moved (Stage r) was now other later before behind turned =
@@ -220,7 +220,7 @@ IsCommand-rest key e es now command = record {
   apart = rest_apart e es command.apart;
 }
 
--- each edit has turned its slots from what they were before the command
+-- each edit has changed its slots from their content before the command
 pub Turns-after : (key : ℕ) (es : List Edit) (now : Slots) → IsCommand key es now → All (Turns now (after es now)) es
 Turns-after key [] now command = λ k d within. absurd (let no : ⊥ = omega arith in no)
 Turns-after key (e ∷ es) now command =

@@ -35,7 +35,7 @@ module _ (column key : ℕ) where
     same = refers.same ∙ ap (λ (c : Content). slice_get (row_in c) key) (sym same);
   }
 
-  -- a row that takes the place of another one with the same key
+  -- a row that replaces another one with the same key
   refers_exchanged : (then : Slots) (row : List Value) (a b : RowRef) → keys_by key then a b ≡ Equal → RefersTo column key then row a
       → RefersTo column key (exchanged a b then) row a
   refers_exchanged then row a b same refers =
@@ -82,7 +82,7 @@ module _ (column key : ℕ) where
     named_kept_back (Move a b) (has, hidden) brings named = two_kept a b hidden (λ here. brings (referred a here)) named
     named_kept_back (Delete r) stands brings named = absurd (not_hidden then (row_at now at) r t (named_one r t named) stands refers)
 
-    -- what a row refers to is still there after an edit, ..
+    -- a row that a row refers to is still there after an edit
     pub refers_step : (e : Edit) → Fits key then e → SparesReferred column key now then e → Kept e
     refers_step e fits spares =
         ⊎_elim
@@ -162,7 +162,7 @@ module _ (column key : ℕ) where
 
   -- ---- the records of a command
 
-  -- what is tied to a row and refers to another one, with keys apart
+  -- if keys are unique, a row that refers to another one is tied to it
   one_target : (now last : Slots) (ties : Ties) → Follows column key now last ties → AreApart key last → (at : RowRef) → HasRow now at
       → (r : RowRef) → RefersTo column key last (row_at now at) r → target_at ties at ≡ Some r
   one_target now last ties follows apart at (row, is) r refers =

@@ -11,12 +11,12 @@ pub record HasGrown (old new : Link) : Type 0 where
   pub referrers : length old.ties.targets ≤ length new.ties.targets
   pub targets : old.ties.extent ≤ new.ties.extent
 
--- On each side that is this table there are entries or counts for so many slots.
+-- On each side that is this table, there are entries or counts for this number of slots.
 pub record HasGrownTo (table extent : ℕ) (new : Link) : Type 0 where
   pub as_source : new.reference.from ≡ table → extent ≤ length new.ties.targets
   pub as_target : new.reference.to ≡ table → extent ≤ new.ties.extent
 
--- A table was dropped, and the tables after it have moved forward.
+-- A table was dropped, and the places of later tables decreased by one.
 pub record HasMovedUp (gone : ℕ) (old new : Link) : Type 0 where
   pub reference : new.reference ≡ moved_up gone old.reference
   pub ties : new.ties ≡ old.ties

@@ -1,4 +1,4 @@
--- Which edits keep the ties as they are, and what the records of a log keep so that the ties can follow their undo.
+-- The edits that keep the ties, and what the records of a log guarantee so that the ties can follow their undo.
 use Rattle.std.specs.Prelude.{◌≡◌, ◌≢◌, ℕ, ◌<◌, List, All, length, map, slice_index, slice_set}
 use Rattle.mm_foreign_key.specs.Ties.{Ties}
 use Rattle.mm_indexed.specs.Twins.{AreApart}
@@ -28,12 +28,12 @@ abbrev pub KeptBySameRows : ℕ → Ties → Type 0
 KeptBySameRows column ties = (key : ℕ) (was now then later : Slots) → SameRows was now → SameRows then later → Follows column key was then ties
     → Follows column key now later ties
 
--- Ties follow the target table through a command that takes no row, and no key of a row, that is referred to.
+-- Ties follow the target table through a command that removes no row that is referred to, and changes no key of such a row.
 abbrev pub KeptByCommand : ℕ → Ties → Type 0
 KeptByCommand column ties = (key : ℕ) (now then : Slots) (edits : List Edit) → IsCommand key edits then
     → All (SparesReferred column key now then) edits → Follows column key now then ties → Follows column key now (after edits then) ties
 
--- The records of a command of the referring table keep the link, if each row that came has a target.
+-- The records of a command of the referring table keep the link, if each new row has a target.
 abbrev pub SourceRecordsKeep : Reference → Ties → Type 0
 SourceRecordsKeep reference ties = (key own_key : ℕ) (s : List Slots) (edits : List Edit) → reference.from ≢ reference.to
     → reference.from < length s → IsCommand own_key edits (slots_at s reference.from)
@@ -42,7 +42,8 @@ SourceRecordsKeep reference ties = (key own_key : ℕ) (s : List Slots) (edits :
     → StandsBack back (KeepsLink reference key) (map (logged reference.from) edits)
     (slice_set s reference.from (after edits (slots_at s reference.from)))
 
--- So do those of a command of the target table, if it takes no row, and no key of a row, that is referred to, and leaves keys apart.
+-- The records of a command of the target table keep the link, if the command removes no row that is referred to, changes no key of such a
+-- row, and leaves keys unique.
 abbrev pub TargetRecordsKeep : Reference → Ties → Type 0
 TargetRecordsKeep reference ties = (key : ℕ) (s : List Slots) (edits : List Edit) → reference.from ≢ reference.to
     → reference.to < length s → IsCommand key edits (slots_at s reference.to)
@@ -51,13 +52,14 @@ TargetRecordsKeep reference ties = (key : ℕ) (s : List Slots) (edits : List Ed
     → StandsBack back (KeepsLink reference key) (map (logged reference.to) edits)
     (slice_set s reference.to (after edits (slots_at s reference.to)))
 
--- So does the record of a row that was staged.
+-- The record of a staged row keeps the link.
 abbrev pub StagedRecordKeeps : Reference → Ties → Type 0
 StagedRecordKeeps reference ties = (key : ℕ) (s : List Slots) (table : ℕ) (r : RowRef) (row : List Value) → reference.from ≢ reference.to
     → table < length s → slots_at s table r ≡ Free → FollowsIn reference key s ties
     → KeepsLink reference key (slice_set s table (put r (Hidden row) (slots_at s table))) (logged table (Stage r))
 
--- If the newest record keeps the link, its undo leaves the ties to be brought up if it is of the referring table, and following if not.
+-- If the newest record keeps the link, then after its undo the ties can be updated if it is of the referring table, and follow the tables
+-- if not.
 abbrev pub FollowsUndo : Reference → Ties → Type 0
 FollowsUndo reference ties = (key : ℕ) (keys : List ℕ) (s : List Slots) (r : LogRecord) → reference.from ≢ reference.to
     → key ≡ slice_index keys reference.to → Holds keys s r → KeepsLink reference key s r → FollowsIn reference key s ties

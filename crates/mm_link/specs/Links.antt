@@ -29,11 +29,11 @@ IsTied column key then Free target = target ≡ None
 IsTied column key then (Hidden row) target = target ≡ None
 IsTied column key then (Live row) target = (to : RowRef) × (target ≡ Some to) × RefersTo column key then row to
 
--- Each slot of the referring table is tied by what it contains.
+-- Each slot of the referring table is tied by its content.
 abbrev pub Follows : ℕ → ℕ → Slots → Slots → Ties → Type 0
 Follows column key now then ties = (at : RowRef) → IsTied column key then (now at) (target_at ties at)
 
--- Both have the same rows in use.
+-- Two tables have the same rows in use.
 abbrev pub SameRows : Slots → Slots → Type 0
 SameRows old new = (at : RowRef) (row : List Value) → (old at ≡ Live row → new at ≡ Live row) × (new at ≡ Live row → old at ≡ Live row)
 

@@ -1,4 +1,4 @@
--- What the records of a log keep of a link, so that they can be undone one after the other.
+-- What the records of a log guarantee for a link, so that they can be undone one after the other.
 use Rattle.std.specs.Prelude.{◌≡◌, ℕ, slice_index_or}
 use Rattle.std.specs.Prelude.{List}
 use Rattle.mm_row_order.specs.Refs.{Slots}
@@ -13,8 +13,8 @@ use Rattle.mm_link.specs.Targets.{BringsUnreferred}
 abbrev pub slots_at : List Slots → ℕ → Slots
 slots_at state table = slice_index_or state table no_slots
 
--- The record left the state so that its undo keeps the link: each row in use of the referring table has a target before an edit of
--- that table, and an edit of the target table brought no row that is referred to.
+-- The undo of the record keeps the link: each row in use of the referring table has a target before an edit of that table, and an edit of
+-- the target table brought no row that is referred to.
 pub record KeepsLink (reference : Reference) (key : ℕ) (state : List Slots) (r : LogRecord) : Type 0 where
   pub as_source : r.table ≡ reference.from
       → HaveTargets reference.column key (step_back r.edit (slots_at state reference.from)) (slots_at state reference.to)

@@ -8,7 +8,7 @@ use Rattle.mm_tables.specs.declared.edit.Edit.{Edit}
 use Rattle.mm_tables.specs.declared.edit.Edit.TheVariants.{Stage, Insert, Update, Move, Delete}
 use Rattle.mm_link.specs.Links.{IsReferredTo}
 
--- the row that an edit takes or replaces, and the row that it brings, before it is made
+-- the row that an edit removes or replaces, and the row that it brings, before it is made
 abbrev pub pair_of : Slots → Edit → Pair
 pair_of now (Stage r) = (None, None)
 pair_of now (Insert r) = (None, Some (row_at now r))
@@ -16,7 +16,7 @@ pair_of now (Update a b) = (Some (row_at now a), Some (row_at now b))
 pair_of now (Move a b) = (Some (row_at now a), Some (row_at now b))
 pair_of now (Delete r) = (Some (row_at now r), None)
 
--- The edit, before it is made, does not take a row, or the key of a row, to which a row in use refers.
+-- The edit, before it is made, neither removes a row to which a row in use refers, nor changes its key.
 abbrev pub SparesReferred : ℕ → ℕ → Slots → Slots → Edit → Type 0
 SparesReferred column key now then (Stage r) = Unit {0}
 SparesReferred column key now then (Insert r) = Unit {0}

@@ -12,8 +12,8 @@ use mm_foreign_key::ForeignKey;
 use mm_schema::Reference;
 use std::alloc::{AllocError, Global};
 
-/// A foreign key, and for each row in use of its table the row of the target table that has its value as key. Its calls are passed
-/// the rows of both tables.
+/// A foreign key, and for each row in use of its table the row of the target table that has its value as key. Callers pass the rows of both
+/// tables to each call.
 #[derive(Drop)]
 pub struct Link {
     /// The foreign key: the two tables and the column.
@@ -22,7 +22,7 @@ pub struct Link {
 }
 
 impl Link {
-    /// No ties yet, with a count for each of `targets` slots of the target table. `AllocError` if an allocation fails.
+    /// Returns a link without ties, with a count for each of `targets` slots of the target table. `AllocError` if an allocation fails.
     pub fn new(alloc: Global, reference: Reference, targets: usize) -> Result<Link, AllocError>
         ensures reference { IfOk result (λ link. link.reference ≡ reference) }
         ensures untied { IfOk result (λ link. (at : Ref) → target_at link.ties at ≡ None) }
@@ -33,7 +33,7 @@ impl Link {
         Ok(Link { reference, ties })
     }
 
-    /// Moves the places of both tables forward by one if they are after a table that was dropped.
+    /// Decreases the place of each of the two tables by one if it is greater than that of a dropped table.
     pub fn move_up(&mut self, gone: usize)
         ensures { HasMovedUp gone self.old self.new }
     {
@@ -45,7 +45,7 @@ impl Link {
         }
     }
 
-    /// Makes entries and counts for `extent` slots of a table, on the sides of the link that are this table. `AllocError` if an
+    /// Reserves entries and counts for `extent` slots of a table, on the sides of the link that are this table. `AllocError` if an
     /// allocation fails, or if the number is above 2^32 - 1 and there are fewer. Each slot is tied as before.
     pub fn reserve(&mut self, alloc: Global, table: usize, extent: usize) -> Result<(), AllocError>
         ensures ok { OnOk result (HasGrownTo table extent self.new) }

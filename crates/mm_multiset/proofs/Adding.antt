@@ -1,4 +1,4 @@
--- What a change that is added to a list of changes makes of them.
+-- The list of changes after adding a change.
 use Rattle.std.proofs.Common.{◌≡◌, ℕ, zero, suc, ◌<◌, ℤ, pos, ◌+ℤ◌, Bool, true, false, cond, ◌||◌, List, [], ◌∷◌, ◌++◌, All, length, get_or, set, refl, sym}
 use Rattle.std.proofs.Common.{subst, ap, ◌∙◌, arith}
 use Rattle.std.proofs.lemmas.Int.{ints}
@@ -16,7 +16,7 @@ use Rattle.mm_multiset.specs.declared.signed.Signed.{Signed}
 abbrev more : Signed → ℤ → Signed
 more x z = record { row = x.row; count = x.count +ℤ z }
 
--- The first change of the row has the sum.
+-- The first change of the row becomes the sum.
 pub with_change_at : (c : Signed) (xs : List Signed) (i : ℕ) (other : Signed) → i < length xs
     → ((k : ℕ) (d : Signed) → k < i → same_row c.row (get_or xs k d).row ≡ false) → same_row c.row (get_or xs i other).row ≡ true
     → set xs i (more (get_or xs i other) c.count) ≡ with_change c xs
@@ -26,7 +26,7 @@ with_change_at c (x ∷ xs) (suc i) other h before here =
     ap (λ l. x ∷ l) (with_change_at c xs i other (omega (arith, h)) (λ k d below. before (suc k) d (omega (arith, below))) here)
     ∙ ap (λ b. cond b (more x c.count ∷ xs) (x ∷ with_change c xs)) (sym (before zero x (omega arith)))
 
--- A row without a change has one at the end.
+-- The change of a row without one is appended.
 pub with_change_new : (c : Signed) (xs : List Signed) → ((k : ℕ) (d : Signed) → k < length xs → same_row c.row (get_or xs k d).row ≡ false)
     → xs ++ c ∷ [] ≡ with_change c xs
 with_change_new c [] none = refl
@@ -34,7 +34,7 @@ with_change_new c (x ∷ xs) none =
     ap (λ l. x ∷ l) (with_change_new c xs (λ k d below. none (suc k) d (omega (arith, below))))
     ∙ ap (λ b. cond b (more x c.count ∷ xs) (x ∷ with_change c xs)) (sym (none zero x (omega arith)))
 
--- The numbers of the row are in sum more by that of the change.
+-- The sum of the row's changes grows by the added one.
 pub signed_with : (row : List Value) (c : Signed) (xs : List Signed)
     → signed_count row (with_change c xs) ≡ signed_count row xs +ℤ signed_count row (c ∷ [])
 signed_with row c [] = turned (signed_count row (c ∷ []))
@@ -70,7 +70,7 @@ rows_with c (x ∷ xs) = by (same_row c.row x.row) (list_any (same_row c.row) (r
     by false true e = ap (λ l. x.row ∷ l) e
     by false false e = ap (λ l. x.row ∷ l) e
 
--- No row has two changes then, where none had.
+-- If no row had two changes, no row has two now.
 pub once_with : (c : Signed) (xs : List Signed) → IsDistinct same_row (rows_changed xs) → IsDistinct same_row (rows_changed (with_change c xs))
 once_with c xs once = subst (IsDistinct same_row) (rows_with c xs) (by (list_any (same_row c.row) (rows_changed xs)) refl)
   where
@@ -78,7 +78,7 @@ once_with c xs once = subst (IsDistinct same_row) (rows_with c xs) (by (list_any
     by true e = once
     by false e = IsDistinct-push same_row_equiv (rows_changed xs) c.row once e
 
--- What holds of all numbers and of that of the change holds of all then.
+-- A property of all numbers that addition keeps holds for all numbers afterwards.
 pub all_with : (P : ℤ → Type 0) (c : Signed) (xs : List Signed) → ((a : ℤ) → P a → P (a +ℤ c.count)) → P c.count → All (λ (x : Signed). P x.count) xs
     → All (λ (x : Signed). P x.count) (with_change c xs)
 all_with P c [] grows new all = All-cons (λ (x : Signed). P x.count) c [] new all

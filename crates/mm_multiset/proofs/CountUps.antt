@@ -1,4 +1,4 @@
--- A row counted once more.
+-- Adding 1 to the count of a row.
 use Rattle.std.proofs.Common.{◌≡◌, ℕ, ◌+◌, pos, ◌+ℤ◌, Bool, true, false, cond, List, [], ◌∷◌, arith}
 use Rattle.std.proofs.lemmas.Int.{ints}
 use Rattle.mm_value.specs.Equality.{same_row}

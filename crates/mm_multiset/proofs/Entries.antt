@@ -1,4 +1,4 @@
--- What a change of one entry does to the counts and to their total.
+-- The counts and their total after a change of one entry.
 use Rattle.std.proofs.Common.{◌≡◌, ℕ, ◌+◌, ◌<◌, ◌≤◌, ◌^◌, ◌≤ℤ◌, ◌<ℤ◌, FitsSigned, ℤ, pos, ◌+ℤ◌, Bool, true, false, cond, List, [], ◌∷◌, ◌++◌, Option, Some}
 use Rattle.std.proofs.Common.{None, is_some, refl, sym, ap, ◌∙◌, arith}
 use Rattle.std.proofs.lemmas.Int.{ints, fits_signed_from_abs}
@@ -14,7 +14,7 @@ use Rattle.mm_value.specs.declared.values.Value.{Value}
 use Rattle.mm_value.proofs.SameRows.{rows_exact}
 use Rattle.mm_multiset.specs.Counts.{Adds, Entries, count_in, has_entry, total_of}
 
--- A count is no more than the total.
+-- A count is at most the total.
 pub count_within : (row : List Value) (es : Entries) → count_in row es ≤ total_of es
 count_within row [] = omega arith
 count_within row (e ∷ es) =
@@ -49,7 +49,7 @@ module _ (row : List Value) (change : ℤ) (es fs : Entries) (w : ℕ)
           ap (λ o. pos (unwrap_or o 0)) (found q ∙ ap (λ b. cond b (Some w) (lookup (same_row q) es)) e)
           ∙ none_more (pos (count_in q es)) (cond (same_row q row) change (pos 0)) (ap (λ b. cond b change (pos 0)) turned)
 
-  -- The row has an entry, and each other row has one where it had one.
+  -- The row has an entry, and every other row has one exactly if it had one.
   entries : (q : List Value) → has_entry q fs ≡ cond (same_row row q) true (has_entry q es)
   entries q = ap is_some (found q) ∙ either (same_row row q) (lookup (same_row q) es)
     where
@@ -58,7 +58,7 @@ module _ (row : List Value) (change : ℤ) (es fs : Entries) (w : ℕ)
       either false o = refl
 
   module _ (v : ℕ) (had : lookup (same_row row) es ≡ Some v) (is : pos w ≡ pos v +ℤ change) where
-    -- An entry that is there has the count now.
+    -- An existing entry has the changed count.
     pub adds_at_entry : Adds (record { row = row; count = change }) es fs
     adds_at_entry = record {
       counts = counts (is ∙ ap (λ o. pos (unwrap_or o 0) +ℤ change) (sym had));
@@ -78,7 +78,7 @@ module _ (row : List Value) (change : ℤ) (es fs : Entries) (w : ℕ)
     values_push [] = refl
     values_push (x ∷ xs) = ap (λ l. x.1 ∷ l) (values_push xs)
 
-    -- A new entry stands at the end.
+    -- A new entry is appended.
     pub adds_at_end : Adds (record { row = row; count = change }) es fs
     adds_at_end = record {
       counts = counts (is ∙ ap (λ o. pos (unwrap_or o 0) +ℤ change) (sym none));
@@ -93,6 +93,6 @@ module _ (row : List Value) (change : ℤ) (es fs : Entries) (w : ℕ)
         ap (λ l. pos (total_of l)) are ∙ more (total_of (es ++ (row, w) ∷ [])) (total_of es)
         (ap (λ l. sum l) (values_push es) ∙ sum_by_push (λ x. x) (values_of es) w)
 
--- A change that keeps the count at 0 or above and the total below 2^64 fits.
+-- The number of a change fits 128 bits if the count stays at 0 or above and the total below 2^64.
 pub change_fits : (n t : ℕ) (z : ℤ) → n ≤ t → t < 2 ^ 64 → pos 0 ≤ℤ (pos n +ℤ z) → (pos t +ℤ z) <ℤ pos (2 ^ 64) → FitsSigned w128 z
 change_fits n t z within fits least most = fits_signed_from_abs w128 z (omega (arith, ints))

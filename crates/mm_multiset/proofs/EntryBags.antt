@@ -1,4 +1,4 @@
--- Entries in another order, and with one entry more, or another count.
+-- Entries in another order, with one more entry, or with another count.
 use Rattle.std.proofs.Common.{◌≡◌, ℕ, ◌+◌, ℤ, pos, ◌+ℤ◌, Bool, true, false, true≢false, cond}
 use Rattle.std.proofs.Common.{◌||◌, is_some, List, [], ◌∷◌, Option, Some, refl, sym, ap, ◌∙◌, arith}
 use Rattle.std.specs.Prelude.{IsPermutation}
@@ -32,7 +32,7 @@ has_moved row es fs moved =
     ∙ (list_any-IsPermutation (same_row row) (keys_of es) (keys_of fs) (IsPermutation-map (λ (e : List Value × ℕ). e.0) es fs moved)
     ∙ sym (entry_in_keys row fs))
 
--- what an entry adds to the count of a row
+-- the part of the row's count from an entry
 abbrev part : List Value → List Value × ℕ → ℕ
 part row e = cond (same_row row e.0) e.1 0
 
@@ -83,25 +83,20 @@ any_none row (k ∷ ks) none = by (same_row row k) refl none (any_none row ks)
     by true is h rest = absurd (true≢false h)
     by false is h rest = (is, rest h)
 
--- A row without an entry may have one in front.
+-- A row without an entry may get one at the front.
 pub once_cons : (row : List Value) (count : ℕ) (es : Entries) → IsOnce es → has_entry row es ≡ false → IsOnce ((row, count) ∷ es)
 once_cons row count es once none =
     IsDistinct-cons same_row row (keys_of es) (any_none row (keys_of es) (sym (entry_in_keys row es) ∙ none)) once
 
--- The row of the first entry has no other one.
+-- The row of the first entry has no other entry.
 pub none_behind : (row : List Value) (count : ℕ) (es : Entries) → IsOnce ((row, count) ∷ es) → has_entry row es ≡ false
 none_behind row count es once = entry_in_keys row es ∙ none_any row (keys_of es) (IsDistinct-head same_row row (keys_of es) once)
 
--- Without one of its entries a bag has no row twice either.
+-- After the removal of one entry, no row has two entries either.
 pub once_rest : (row : List Value) (count : ℕ) (old new : Entries) → IsOnce old → IsPermutation old ((row, count) ∷ new) → IsOnce new
 once_rest row count old new once taken = IsDistinct-tail same_row row (keys_of new) (once_moved old ((row, count) ∷ new) taken once)
 
 -- ---- a change of one entry
-
-one_more : (b : Bool) (new old count n : ℕ) (change : ℤ) → new ≡ cond b count 0 + n → old ≡ n → pos count ≡ pos 0 +ℤ change
-    → pos new ≡ pos old +ℤ (cond b change (pos 0) +ℤ pos 0)
-one_more true new old count n change p q r = omega (arith, ints, p, q, r)
-one_more false new old count n change p q r = omega (arith, ints, p, q, r)
 
 other_count : (b : Bool) (new old m n rest : ℕ) (change : ℤ) → new ≡ cond b m 0 + rest → old ≡ cond b n 0 + rest → pos m ≡ pos n +ℤ change
     → pos new ≡ pos old +ℤ (cond b change (pos 0) +ℤ pos 0)
@@ -112,8 +107,8 @@ twice : (b c : Bool) → cond b true c ≡ cond b true (cond b true c)
 twice true c = refl
 twice false c = refl
 
--- A row without an entry has one now.
-module _ (row : List Value) (count : ℕ) (old new : Entries) (change : ℤ) (once : IsOnce old) (none : has_entry row old ≡ false)
+-- A row without an entry gets one.
+module _ (row : List Value) (count : ℕ) (old new : Entries) (once : IsOnce old) (none : has_entry row old ≡ false)
     (put : IsPermutation new ((row, count) ∷ old)) where
   first : IsOnce ((row, count) ∷ old)
   first = once_cons row count old once none
@@ -124,19 +119,7 @@ module _ (row : List Value) (count : ℕ) (old new : Entries) (change : ℤ) (on
   pub once_put : IsOnce new
   once_put = once_moved ((row, count) ∷ old) new back first
 
-  pub adds_put : pos count ≡ pos 0 +ℤ change → Adds (record { row = row; count = change }) old new
-  adds_put is = record {
-    counts = λ q. one_more (same_row q row) (count_in q new) (count_in q old) count (count_in q old) change
-        (sym (count_moved q ((row, count) ∷ old) new back first) ∙ count_cons q (row, count) old first) refl is;
-    entries = λ q. has_moved q new ((row, count) ∷ old) put ∙ has_cons q (row, count) old;
-  }
-
-  pub total_put : pos count ≡ pos 0 +ℤ change → pos (total_of new) ≡ pos (total_of old) +ℤ change
-  total_put is =
-      let sum : total_of new ≡ count + total_of old = total_moved ((row, count) ∷ old) new back ∙ total_cons (row, count) old in
-      omega (arith, ints, sum, is)
-
--- An entry has another count now.
+-- An entry gets another count.
 module _ (row : List Value) (n m : ℕ) (rest old new : Entries) (change : ℤ) (once : IsOnce old)
     (before : IsPermutation old ((row, n) ∷ rest)) (after : IsPermutation new ((row, m) ∷ rest)) where
   was : IsOnce ((row, n) ∷ rest)
@@ -181,7 +164,7 @@ module _ (row : List Value) (n m : ℕ) (rest old new : Entries) (change : ℤ) 
       has_moved row old ((row, n) ∷ rest) before
       ∙ (has_cons row (row, n) rest ∙ ap (λ b. cond b true (has_entry row rest)) (same_row_equiv.refl row))
 
--- An entry of the count 0 is gone.
+-- An entry with the count 0 is removed.
 module _ (row : List Value) (old new : Entries) (once : IsOnce old) (taken : IsPermutation old ((row, 0) ∷ new)) where
   had : IsOnce ((row, 0) ∷ new)
   had = once_moved old ((row, 0) ∷ new) taken once
@@ -203,7 +186,7 @@ module _ (row : List Value) (old new : Entries) (once : IsOnce old) (taken : IsP
   pub gone_taken : has_entry row new ≡ false
   gone_taken = none_behind row 0 new had
 
-  has_was : (q : List Value) → has_entry q old ≡ cond (same_row row q) true (has_entry q new)
+  pub has_was : (q : List Value) → has_entry q old ≡ cond (same_row row q) true (has_entry q new)
   has_was q = has_moved q old ((row, 0) ∷ new) taken ∙ has_cons q (row, 0) new
 
   pub others_taken : (q : List Value) → has_entry q new ≡ true → has_entry q old ≡ true

@@ -9,6 +9,7 @@ pub mod Pairs
 pub mod Passing
 pub mod Placing
 pub mod Recounting
+pub mod Removing
 pub mod Rooms
 pub mod Shown
 pub mod SlotEntries

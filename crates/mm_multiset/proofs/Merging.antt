@@ -1,4 +1,4 @@
--- Changes without those by 0, changes turned, and changes as the counts of a bag.
+-- Changes without those by 0, negated changes, and changes as the entries of a multiset.
 use Rattle.std.proofs.Common.{◌≡◌, ◌≢◌, ◌==◌, ℤ, pos, negsuc, neg_ℤ, ◌+ℤ◌, ◌<ℤ◌, Bool, true, false, true≢false, cond, List, [], ◌∷◌, All, filter, length, map}
 use Rattle.std.proofs.Common.{Some, refl, sym, subst, ap, ◌∙◌, arith}
 use Rattle.std.proofs.lemmas.Bool.{eqb-true}
@@ -85,7 +85,7 @@ net_some xs are = record {
   small = All-filter counts_now (λ (x : Signed). IsSmall x.count) xs are.small;
 }
 
--- ---- changes turned
+-- ---- negated changes
 
 pub signed_turned : (row : List Value) (xs : List Signed) → signed_count row (map opposite xs) ≡ neg_ℤ (signed_count row xs)
 signed_turned row [] = refl
@@ -125,7 +125,7 @@ net_turned xs net = record {
   small = all_turned IsSmall IsSmall small_turned xs net.small;
 }
 
--- ---- changes as the counts of a bag
+-- ---- changes as the entries of a multiset
 
 pub rest_listed : (x : Signed) (xs : List Signed) → AreListed (x ∷ xs) → AreListed xs
 rest_listed x xs l = record {
@@ -140,7 +140,7 @@ counted_from : (z : ℤ) → pos 0 <ℤ z → pos (count_from z) ≡ z
 counted_from (pos n) h = refl
 counted_from (negsuc n) h = absurd (let no : ⊥ = omega (arith, ints, h) in no)
 
--- The count of a row is its number.
+-- The count of a row is the number of its change.
 pub count_listed : (row : List Value) (xs : List Signed) → AreListed xs → pos (count_in row (listed xs)) ≡ signed_count row xs
 count_listed row [] l = refl
 count_listed row (x ∷ xs) l = by (same_row row x.row) refl (count_listed row xs (rest_listed x xs l))

@@ -1,4 +1,4 @@
--- Pairs of a hash and a reference: a pair taken out of two bags that are the same leaves bags that are the same.
+-- Pairs of a hash and a reference: removing the same pair from two permuted lists leaves permuted lists.
 use Rattle.std.proofs.Common.{◌≡◌, ℕ, ◌+◌, ◌≤◌, List, [], ◌∷◌, Bool, true, false, ◌&&◌, cond, eqb, refl, sym, ap, subst, arith}
 use Rattle.std.specs.Prelude.{IsPermutation}
 use Rattle.std.specs.List.{Contains, remove, sum_by}
@@ -25,7 +25,7 @@ itself : (p : Pair) → same_pair p p ≡ true
 unfolding same_pair
 itself p = rw (eq-eqb p.0 p.0 refl, eq-eqb p.1.slot p.1.slot refl)
 
--- one where a pair is this one, else 0
+-- 1 for this pair, and 0 for every other
 one : Pair → Pair → ℕ
 one p q = cond (same_pair p q) 1 0
 
@@ -36,7 +36,7 @@ one_itself p = ap {B = ℕ} (λ b. cond b 1 0) (itself p)
 first : (p q : Pair) (qs : List Pair) → q ≡ p → Contains (q ∷ qs) p
 first p q qs is = Contains-append_left (q ∷ []) qs p (subst (Contains (q ∷ [])) is (Contains-push [] q))
 
--- What is counted is there.
+-- A pair that is counted is in the list.
 counted : (p : Pair) (qs : List Pair) → 1 ≤ sum_by (one p) qs → Contains qs p
 unfolding one
 counted p [] some = absurd (let no : ⊥ = omega arith in no)
@@ -46,7 +46,7 @@ counted p (q ∷ qs) some = by (same_pair p q) refl (omega (arith, some, sum_by-
     by true is some rest = first p q qs (sym (told p q is))
     by false is some rest = Contains-append_right (q ∷ []) qs p (rest (omega (arith, some)))
 
--- Lists that count alike are one bag.
+-- Lists with equal counts are permutations of each other.
 from_counts : (ps qs : List Pair) → ((p : Pair) → sum_by (one p) ps ≡ sum_by (one p) qs) → IsPermutation ps qs
 from_counts [] [] alike = IsPermutation-refl []
 from_counts [] (q ∷ qs) alike = absurd (let no : ⊥ = omega (arith, alike q, sum_by-cons (one q) q qs, one_itself q) in no)

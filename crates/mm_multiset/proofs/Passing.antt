@@ -1,4 +1,4 @@
--- Each entry of a bag brings at most one change, of its own row.
+-- Each entry of a multiset results in at most one change, of its own row.
 use Rattle.std.proofs.Common.{◌≡◌, ◌≢◌, ℕ, ◌^◌, FitsSigned, ℤ, pos, neg_ℤ, ◌+ℤ◌, ◌-ℤ◌, ◌<ℤ◌, Bool, true, false, true≢false, cond, ◌||◌, Option, Some, None}
 use Rattle.std.proofs.Common.{is_some, List, [], ◌∷◌, ◌++◌, All, map, refl, sym, subst, ap, ◌∙◌, arith}
 use Rattle.std.proofs.lemmas.Int.{fits_signed_from_abs, ints}
@@ -30,7 +30,7 @@ unchanged row (c ∷ cs) h = none (cond (same_row row c.row) c.count (pos 0)) (s
     none : (a b : ℤ) → a ≡ pos 0 → b ≡ pos 0 → a +ℤ b ≡ pos 0
     none a b p q = omega (arith, ints)
 
--- Where each row is changed once, and by something, a row without a change is not among the changed ones.
+-- If each row is changed once, by a number other than 0, a row without a change is not among the changed ones.
 absent : (row : List Value) (changes : List Signed) → IsDistinct same_row (rows_in changes) → All (λ change. change.count ≢ pos 0) changes
     → signed_count row changes ≡ pos 0 → list_any (same_row row) (rows_in changes) ≡ false
 absent row [] once nonzero h = refl
@@ -67,14 +67,14 @@ signed_count_push row (x ∷ xs) c =
     apart : (a b d : ℤ) → a +ℤ (b +ℤ d) ≡ (a +ℤ b) +ℤ d
     apart a b d = omega (arith, ints)
 
--- A number between -2^64 and 2^64 is one of 128 bits.
+-- A number between -2^64 and 2^64 fits 128 bits.
 pub small_fits : (z : ℤ) → neg_ℤ (pos (2 ^ 64)) <ℤ z → z <ℤ pos (2 ^ 64) → FitsSigned w128 z
 small_fits z above below = fits_signed_from_abs w128 z (omega (arith, ints))
 
 abbrev IsSmall : ℤ → Type 0
 IsSmall z = (neg_ℤ (pos (2 ^ 64)) <ℤ z) × (z <ℤ pos (2 ^ 64))
 
--- One more change, of a row that had none.
+-- One more change, of a row without one.
 net_push : (changes : List Signed) (c : Signed) → IsNet changes → signed_count c.row changes ≡ pos 0 → c.count ≢ pos 0 → IsSmall c.count
     → IsNet (changes ++ c ∷ [])
 net_push changes c net none nonzero small = record {
@@ -85,11 +85,11 @@ net_push changes c net none nonzero small = record {
 }
 
 module _ (brings : List Value → ℕ → ℤ) where
-  -- what the entry of a row brings, and 0 where there is none
+  -- the change from the entry of a row, and 0 if it has none
   abbrev pub brought : List Value → Entries → ℤ
   brought row es = option_map_or (brings row) (lookup (same_row row) es) (pos 0)
 
-  -- The changes are those of the entries that were passed, and what the others bring is still to come.
+  -- The changes so far are those of the entries so far, and the remaining entries supply the rest.
   pub record Passes (all : List Value → ℤ) (found : List Signed) (left : Entries) : Type 0 where
     pub sum : (row : List Value) → all row ≡ signed_count row found +ℤ brought row left
     pub fresh : (row : List Value) (n : ℕ) → lookup (same_row row) left ≡ Some n → brings row n ≢ pos 0 → signed_count row found ≡ pos 0
@@ -126,7 +126,7 @@ module _ (brings : List Value → ℕ → ℤ) where
     fresh_left : (row : List Value) (n : ℕ) → lookup (same_row row) left ≡ Some n → brings row n ≢ pos 0 → signed_count row found ≡ pos 0
     fresh_left row n h = passes.fresh row n (ap (λ b. cond b (Some e.1) (lookup (same_row row) left)) (other row n h) ∙ h)
 
-    -- An entry that brings nothing is passed over.
+    -- An entry whose change is 0 adds nothing.
     pub passes_over : brings e.0 e.1 ≡ pos 0 → Passes all found left
     passes_over nothing = record {
       sum = λ row. passes.sum row ∙ ap (λ z. signed_count row found +ℤ z) (head row)
@@ -144,7 +144,7 @@ module _ (brings : List Value → ℕ → ℤ) where
         same true a b = nothing_more a b
         same false a b = nothing_more a b
 
-    -- What an entry brings is one more change.
+    -- The change from an entry is one more change.
     pub passes_on : brings e.0 e.1 ≢ pos 0 → IsSmall (brings e.0 e.1) → Passes all (found ++ record { row = e.0; count = brings e.0 e.1 } ∷ []) left
     passes_on nonzero small = record {
       sum = λ row. passes.sum row ∙ ap (λ z. signed_count row found +ℤ z) (head row)
@@ -167,14 +167,14 @@ module _ (brings : List Value → ℕ → ℤ) where
         none : (a b : ℤ) → a ≡ pos 0 → b ≡ pos 0 → a +ℤ b ≡ pos 0
         none a b p q = omega (arith, ints)
 
-  -- In the end nothing is to come.
+  -- At the end no entry remains.
   pub passed_all : (all : List Value → ℤ) (found : List Signed) → Passes all found [] → (row : List Value) → signed_count row found ≡ all row
   passed_all all found passes row = sym (passes.sum row ∙ more (signed_count row found))
     where
       more : (a : ℤ) → a +ℤ pos 0 ≡ a
       more a = omega (arith, ints)
 
-  -- At the first entry nothing is found yet.
+  -- At the first entry there is no change yet.
   pub passes_none : (es : Entries) → IsOnce es → Passes (λ row. brought row es) [] es
   unfolding IsDistinct
   passes_none es once = record {
@@ -187,7 +187,7 @@ module _ (brings : List Value → ℕ → ℤ) where
       more : (a : ℤ) → a ≡ pos 0 +ℤ a
       more a = omega (arith, ints)
 
--- The count of an entry less the other bag's count of its row.
+-- The count of an entry minus the other multiset's count of its row.
 abbrev pub less_count_in : Entries → List Value → ℕ → ℤ
 less_count_in goes row n = pos n -ℤ pos (count_in row goes)
 
@@ -199,13 +199,13 @@ brought_is comes goes row = by (lookup (same_row row) comes)
     by (Some n) = refl
     by None = refl
 
--- The count of an entry taken away, where the other bag has no entry of its row.
+-- The negated count of an entry, if the other multiset has no entry of its row.
 abbrev pub without_entry_in : Entries → List Value → ℕ → ℤ
 without_entry_in comes row n = cond (has_entry row comes) (pos 0) (neg_ℤ (pos n))
 
 module _ (comes goes : Entries) (found : List Signed)
     (counts : (row : List Value) → signed_count row found ≡ cond (has_entry row comes) (pos (count_in row comes) -ℤ pos (count_in row goes)) (pos 0)) where
-  -- The changes of the rows of one bag's entries are found, and those of the other's entries are to come.
+  -- The changes of the rows of one multiset are complete, and the entries of the other one remain.
   pub passes_half : IsOnce goes → IsNet found → Passes (without_entry_in comes) (λ row. pos (count_in row comes) -ℤ pos (count_in row goes)) found goes
   passes_half once net = record {
     sum = λ row. by (lookup (same_row row) comes) (lookup (same_row row) goes) (signed_count row found) (counts row);

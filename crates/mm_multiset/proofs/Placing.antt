@@ -1,5 +1,5 @@
--- A row comes into a slot, with its count and its pair, or goes out of it.
-use Rattle.std.proofs.Common.{◌≡◌, ℕ, ◌+◌, ◌<◌, ◌≤◌, inl, inr, max, pos, List, [], ◌∷◌, ◌++◌, false, length, get_or, set, refl, sym, ◌∙◌, subst, arith}
+-- Inserting a row into a slot, with its count and its pair, and removing it.
+use Rattle.std.proofs.Common.{◌≡◌, ℕ, ◌+◌, ◌<◌, ◌≤◌, inl, inr, max, List, [], ◌∷◌, ◌++◌, false, length, get_or, set, refl, sym, ◌∙◌, subst, arith}
 use Rattle.std.specs.Prelude.{IsPermutation}
 use Rattle.std.proofs.lemmas.List.Sorted.{IsPermutation-cons, IsPermutation-sym, IsPermutation-trans}
 use Rattle.mm_value.specs.declared.row_ref.RowRef.{RowRef}
@@ -49,7 +49,7 @@ module _ (old new : Places) (at : RowRef) (row : List Value) (counts new_counts 
 
 module _ (i : ℕ) (slots new_slots : List Content) (counts new_counts : List ℕ) (row : List Value) (count : ℕ) where
   module _ (turns : Turns i slots new_slots counts new_counts Free (Live row) 0 count) where
-    -- The row has an entry more.
+    -- The row has one more entry.
     pub entries_put : IsPermutation (entries_of new_slots new_counts) ((row, count) ∷ entries_of slots counts)
     entries_put =
         IsPermutation-trans (entries_of new_slots new_counts) ((row, count) ∷ turns.rest) ((row, count) ∷ entries_of slots counts) turns.after
@@ -60,7 +60,7 @@ module _ (i : ℕ) (slots new_slots : List Content) (counts new_counts : List �
         → IsKept new_slots new_counts new_pairs
     kept_put pairs new_pairs hash kept none is put = record {
       marked = turns.marked kept.marked tt;
-      once = once_put row count (entries_of slots counts) (entries_of new_slots new_counts) (pos 0) kept.once none entries_put;
+      once = once_put row count (entries_of slots counts) (entries_of new_slots new_counts) kept.once none entries_put;
       hashed =
           let at : RowRef = record { slot = i } in
           let same : (hash, at) ≡ (row_hash row, at) = λ j. (is j, at) in
@@ -99,7 +99,7 @@ module _ (i : ℕ) (slots new_slots : List Content) (counts new_counts : List �
           (IsPermutation-sym (pairs_of new_slots) turns.pairs turns.pairs_after);
     }
 
--- A row that is hidden and then released is gone.
+-- A row that is hidden and then released is removed.
 pub changes_twice : (old mid new : Places) (at : RowRef) (first second : Content) → ChangesOnly old mid at first → ChangesOnly mid new at second
     → ChangesOnly old new at second
 changes_twice old mid new at first second a b = record { changed = b.changed; others = λ other apart. b.others other apart ∙ a.others other apart }

@@ -1,4 +1,4 @@
--- The entry of a slot, and another count of it.
+-- The entry of a slot, with another count.
 use Rattle.std.proofs.Common.{◌≡◌, ◌≢◌, ℕ, zero, suc, ℤ, pos, ◌+ℤ◌, Bool, true, false, true≢false, cond, is_some}
 use Rattle.std.proofs.Common.{List, [], ◌∷◌, ◌++◌, Option, Some, None, get_or, set, refl, sym, ap, ◌∙◌, subst}
 use Rattle.std.proofs.lemmas.List.{set-get_or}
@@ -16,7 +16,7 @@ use Rattle.mm_multiset.proofs.EntryBags.{adds_recounted, count_found, entry_foun
 use Rattle.mm_multiset.proofs.SlotEntries.{Turns, turned_at}
 use Rattle.mm_multiset.proofs.SlotLists.{live_inside}
 
--- Where no slot has the row, it has no entry.
+-- If no slot has the row, the row has no entry.
 pub none_there : (row : List Value) (slots : List Content) (counts : List ℕ) → ((i : ℕ) → get_or slots i Free ≢ Live row)
     → has_entry row (entries_of slots counts) ≡ false
 none_there row [] counts none = refl
@@ -52,7 +52,7 @@ module _ (slots : List Content) (counts : List ℕ) (pairs : List (ℕ × RowRef
   same : Turns i slots slots counts (set counts i (get_or counts i 0)) (Live row) (Live row) (get_or counts i 0) (get_or counts i 0)
   same = turned (get_or counts i 0)
 
-  -- The row of a slot has an entry, of the count beside the slot.
+  -- The row of a slot has an entry with the slot's count.
   pub count_there : count_in row (entries_of slots counts) ≡ get_or counts i 0
   count_there =
       count_found row (get_or counts i 0) (get_or counts i 0) same.rest (entries_of slots counts) (entries_of slots counts) (pos 0) kept.once

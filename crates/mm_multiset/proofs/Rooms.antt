@@ -1,4 +1,4 @@
--- A bag whose vectors grew has the same rows.
+-- A bag with more capacity has the same rows.
 use Rattle.std.proofs.Common.{◌≡◌, ℕ, List, sym, subst}
 use Rattle.mm_value.specs.declared.row_ref.RowRef.{RowRef}
 use Rattle.mm_partition.specs.Places.{Content, IsUnchanged, Places, extent_of}

@@ -15,7 +15,7 @@ use Rattle.slot_counts.proofs.Indices.{indices_are}
 use Rattle.mm_multiset.specs.Counts.{Entries, has_rows}
 use Rattle.mm_multiset.specs.Slots.{AreMarked, IsMarked, IsWalk, entries_of, entry_at, entry_of}
 
--- One slot's entry, if its count is not 0.
+-- The entry of one slot, if its count is not 0.
 one_shown : (s : Content) (n : ℕ) (rest : Entries) → IsMarked s n → cond (is_counted n) ((row_in s, n) ∷ rest) rest ≡ filter has_rows (entry_of s n) ++ rest
 one_shown Free n rest is = ap {B = Entries} (λ b. cond b (([], n) ∷ rest) rest) (ap is_counted is)
 one_shown (Live row) n rest is = either (not (n == 0))
@@ -56,7 +56,7 @@ shown_from f k (s ∷ slots) (n ∷ counts) size at marked =
     ∙ (one_shown s n (filter has_rows (entries_of slots counts)) (marked zero)
     ∙ sym (filter_both (entry_of s n) (entries_of slots counts))))
 
--- A counted slot is within the counts, and its count is not 0.
+-- A counted slot has a count, and it is not 0.
 counted_within : (counts : List ℕ) (i : ℕ) → get_or (map is_counted counts) i false ≡ true → i < length counts
 counted_within counts i is =
     ⊎_elim
@@ -71,7 +71,7 @@ counted_some counts i is e =
 
 module _ (slots : List Content) (counts shown : List ℕ) (marked : AreMarked slots counts)
     (are : IsPermutation shown (indices_from 0 (map is_counted counts))) where
-  -- The walk gives the entries whose count is not 0.
+  -- The iteration returns the entries whose count is not 0.
   pub walk_gives : IsPermutation (map (entry_at slots counts) shown) (filter has_rows (entries_of slots counts))
   walk_gives =
       subst (IsPermutation (map (entry_at slots counts) shown))
@@ -91,7 +91,7 @@ module _ (slots : List Content) (counts shown : List ℕ) (marked : AreMarked sl
   live_at (Live row) n is some = (row, refl)
   live_at (Hidden row) n is some = absurd is
 
-  -- Each slot on the way has a row.
+  -- Each of its slots has a row.
   pub walk_is : IsWalk slots counts shown
   walk_is k d within =
       let set : get_or (map is_counted counts) (get_or shown k d) false ≡ true =

@@ -1,4 +1,4 @@
--- The counts of a bag of which a few rows are listed.
+-- The counts of a multiset with few rows in a list.
 use Rattle.std.proofs.Common.{◌≡◌, ℕ, ◌+◌, ◌<ℤ◌, ℤ, pos, ◌+ℤ◌, ◌⊎◌, inl, inr, List, [], ◌∷◌, ◌++◌, All, Result, Ok, Err, sym, ap, ◌∙◌, subst, arith}
 use Rattle.std.proofs.lemmas.Int.{ints}
 use Rattle.std.specs.List.{IsDistinct}
@@ -22,7 +22,7 @@ nothing_before a = omega (arith, ints)
 apart_from : (a b d : ℤ) → a +ℤ (b +ℤ d) ≡ (a +ℤ b) +ℤ d
 apart_from a b d = omega (arith, ints)
 
--- The count of a row is that by hash and its number in the list.
+-- The count of a row is the sum of its count by hash and its number in the list.
 pub count_tallied : (row : List Value) (few : List Signed) (many : Entries) → AreListed few → (few ≡ []) ⊎ (many ≡ [])
     → pos (count_in row (listed few ++ many)) ≡ pos (count_in row many) +ℤ signed_count row few
 count_tallied row few many are (inl none) =
@@ -36,7 +36,7 @@ count_tallied row few many are (inr none) =
     ∙ nothing_before (signed_count row few)
     ∙ ap (λ (es : Entries). pos (count_in row es) +ℤ signed_count row few) (sym none)
 
--- The number in the list is the count of a row, where none is found by hash.
+-- If no row is found by hash, the count of a row is its number in the list.
 pub count_few : (row : List Value) (few : List Signed) (many : Entries) → AreListed few → many ≡ []
     → signed_count row few ≡ pos (count_in row (listed few ++ many))
 count_few row few many are none =
@@ -44,7 +44,7 @@ count_few row few many are none =
     ∙ ap (λ (es : Entries). pos (count_in row es) +ℤ signed_count row few) (sym none)
     ∙ sym (count_tallied row few many are (inr none))
 
--- The counts stay where those of the list go over to the hashed ones.
+-- Moving the counts of the list to the hash table keeps all counts.
 pub counts_over : (row : List Value) (few : List Signed) (old new : Entries) → AreListed few → (few ≡ []) ⊎ (old ≡ [])
     → pos (count_in row new) ≡ pos (count_in row old) +ℤ signed_count row few → count_in row new ≡ count_in row (listed few ++ old)
 counts_over row few old new are one added = same (count_in row new) (count_in row (listed few ++ old)) (added ∙ sym (count_tallied row few old are one))
@@ -62,7 +62,7 @@ grows a h = omega (arith, ints, h)
 some_one : pos 0 <ℤ pos 1
 some_one = omega (arith, ints)
 
--- A list of counts is one still when a row is counted once more.
+-- A list of counts remains one when the count of a row grows by 1.
 pub listed_with : (row : List Value) (old new : List Signed) → AreListed old → new ≡ with_change (one_of row) old → All (λ (x : Signed). IsSmall x.count) new
     → AreListed new
 listed_with row old new are is small = record {
@@ -73,13 +73,13 @@ listed_with row old new are is small = record {
   some = subst (λ (xs : List Signed). All (λ (x : Signed). pos 0 <ℤ x.count) xs) (sym is) (all_with (λ z. pos 0 <ℤ z) (one_of row) old grows some_one are.some);
 }
 
--- It is one too where the count is refused.
+-- It also remains one if counting fails.
 pub listed_after : {T E : Type 0} (r : Result T E) (row : List Value) (old new : List Signed) → AreListed old → OnOk r (new ≡ with_change (one_of row) old)
     → OnOk r (All (λ (x : Signed). IsSmall x.count) new) → OnErr r (new ≡ old) → AreListed new
 listed_after (Ok x) row old new are is small same = listed_with row old new are is small
 listed_after (Err e) row old new are is small same = subst (λ (xs : List Signed). AreListed xs) (sym same) are
 
--- One row more in the list.
+-- One more occurrence of a row in the list.
 pub counted_few : (row other : List Value) (old new : List Signed) (many : Entries) → many ≡ [] → AreListed old → AreListed new → new
     ≡ with_change (one_of row) old
     → count_in other (listed new ++ many) ≡ count_in other (listed old ++ many) + count_of other (row ∷ [])
@@ -91,7 +91,7 @@ counted_few row other old new many none before after is =
     ∙ apart_from (pos (count_in other many)) (signed_count other old) (signed_count other (one_of row ∷ []))
     ∙ ap (λ (z : ℤ). z +ℤ signed_count other (one_of row ∷ [])) (sym (count_tallied other old many before (inr none))))
 
--- One row more by hash, once the list is there too.
+-- One more occurrence by hash, after the list was moved there.
 pub counted_many : (row other : List Value) (few : List Signed) (old mid new : Entries) → AreListed few → (few ≡ []) ⊎ (old ≡ [])
     → pos (count_in other mid) ≡ pos (count_in other old) +ℤ signed_count other few → Adds (one_of row) mid new
     → count_in other new ≡ count_in other (listed few ++ old) + count_of other (row ∷ [])
@@ -99,7 +99,7 @@ counted_many row other few old mid new are one added adds =
     one_up row other (listed few ++ old) new
     (adds.counts other ∙ ap (λ (z : ℤ). z +ℤ signed_count other (one_of row ∷ [])) (added ∙ sym (count_tallied other few old are one)))
 
--- The same where the bag is known by another name, and the count may have been refused.
+-- The same for a multiset with another name, where counting may fail.
 pub counted_row : {T E : Type 0} (r : Result T E) (row : List Value) (old new : List Signed) (many entries : Entries) → many ≡ [] → AreListed old
     → OnOk r (new ≡ with_change (one_of row) old) → OnOk r (All (λ (x : Signed). IsSmall x.count) new) → listed old ++ many ≡ entries
     → OnOk r ((other : List Value) → count_in other (listed new ++ many) ≡ count_in other entries + count_of other (row ∷ []))

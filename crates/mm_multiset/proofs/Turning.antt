@@ -1,4 +1,4 @@
--- A list of changes of which one after another gets the opposite sign.
+-- Negating the changes of a list one after another.
 use Rattle.std.proofs.Common.{◌≡◌, ℕ, zero, suc, ◌+◌, ◌<◌, ◌≤◌, List, [], ◌∷◌, ◌++◌, get_or, length, map, take, refl, sym, ap, ◌∙◌, arith, ⊎_elim}
 use Rattle.std.specs.Prelude.{slice_set}
 use Rattle.std.proofs.lemmas.Bool.{cases_lt}
@@ -7,7 +7,7 @@ use Rattle.std.proofs.Math.Seq.{take-append_seam}
 use Rattle.mm_multiset.specs.Tally.{opposite}
 use Rattle.mm_multiset.specs.declared.signed.Signed.{Signed}
 
--- the first i changes are turned, and the others are as before
+-- the first i changes are negated, and the others are unchanged
 pub record AreTurned (i : ℕ) (start now : List Signed) : Type 0 where
   pub size : length now ≡ length start
   pub done : (k : ℕ) (d : Signed) → k < i → k < length start → get_or now k d ≡ opposite (get_or start k d)
@@ -38,7 +38,7 @@ all_turned (x ∷ xs) [] size each = absurd (let no : ⊥ = omega (arith, size) 
 all_turned (x ∷ xs) (y ∷ ys) size each =
     (λ i. each zero x (omega arith) i ∷ all_turned xs ys (omega (arith, size)) (λ k d below. each (suc k) d (omega (arith, below))) i)
 
--- Where all are turned, and are written back whole, the list is turned.
+-- If all are negated and the whole list is written back, the list is negated.
 pub written_back : (i : ℕ) (start now rest : List Signed) (n : ℕ) → AreTurned i start now → length now ≤ i → n ≡ length start
     → take n (now ++ rest) ≡ map opposite start
 written_back i start now rest n t past all =

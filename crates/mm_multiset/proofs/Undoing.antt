@@ -1,4 +1,4 @@
--- Changes that are opposite undo one another, and each finds its entry.
+-- Opposite changes undo each other, and each finds its entry.
 use Rattle.std.proofs.Common.{◌≡◌, ℕ, ℤ, pos, ◌+ℤ◌, neg_ℤ, ◌⊎◌, inl, inr, Bool, true, false, cond, ◌||◌, is_some, Some, List, [], ◌∷◌, refl, sym, ap}
 use Rattle.std.proofs.Common.{◌∙◌, arith}
 use Rattle.std.proofs.lemmas.Int.{ints}
@@ -24,7 +24,7 @@ count_after row (c ∷ cs) old new h =
     three : (a b d x y : ℤ) → a ≡ b +ℤ y → b ≡ d +ℤ (x +ℤ pos 0) → a ≡ d +ℤ (x +ℤ y)
     three a b d x y p q = omega (arith, ints)
 
--- Where what is undone is for each row the opposite of what was added, each count is as before.
+-- If the undo of each row negates its changes, each count is as before.
 pub undone : (changes undo : List Signed) (old mid new : Entries) → ((row : List Value) → signed_count row undo ≡ neg_ℤ (signed_count row changes))
     → AddsAll changes old mid → AddsAll undo mid new → (row : List Value) → count_in row new ≡ count_in row old
 undone changes undo old mid new opposite there back row =
@@ -36,7 +36,7 @@ undone changes undo old mid new opposite there back row =
 
 -- ---- entries
 
--- A row that stands among the keys has an entry, and the other way round.
+-- A row has an entry exactly if it is among the keys.
 pub entry_in_keys : (row : List Value) (es : Entries) → has_entry row es ≡ list_any (same_row row) (keys_of es)
 entry_in_keys row [] = refl
 entry_in_keys row (e ∷ es) = by (same_row row e.0) (entry_in_keys row es)
@@ -51,7 +51,7 @@ module _ (change : Signed) (old new : Entries) (adds : Adds change old new) wher
   pub found_one : has_entry change.row new ≡ true
   found_one = adds.entries change.row ∙ ap (λ b. cond b true (has_entry change.row old)) (same_row_equiv.refl change.row)
 
-  -- A row that had an entry has it still.
+  -- A row that had an entry still has it.
   pub kept_one : (row : List Value) → has_entry row old ≡ true → has_entry row new ≡ true
   kept_one row had = adds.entries row ∙ (ap (λ b. cond (same_row change.row row) true b) had ∙ either (same_row change.row row))
     where
@@ -59,7 +59,7 @@ module _ (change : Signed) (old new : Entries) (adds : Adds change old new) wher
       either true = refl
       either false = refl
 
-  -- Only the changed row can have come by an entry.
+  -- Only the changed row can have a new entry.
   pub only_one : (row : List Value) → has_entry row new ≡ true → (has_entry row old ≡ true) ⊎ (same_row row change.row ≡ true)
   only_one row has = by (same_row change.row row) refl (sym (adds.entries row) ∙ has)
     where

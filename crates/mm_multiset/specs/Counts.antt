@@ -1,28 +1,33 @@
--- Bags of rows kept as counts: an entry for a row has how often the row stands in the bag.
-use Rattle.std.specs.Prelude.{◌==◌, not, ◌≡◌, ◌≢◌, ℕ, ℤ, pos, neg_ℤ, ◌+ℤ◌, ◌<ℤ◌, ◌^◌, Bool, true, if◌then◌else◌, is_some, List, [], ◌∷◌, All, map, sum}
+-- Multisets of rows, stored as counts.
+use Rattle.std.specs.Prelude.{◌==◌, not, ◌≡◌, ◌≢◌, ℕ, ℤ, pos, neg_ℤ, ◌+ℤ◌, ◌<ℤ◌, ◌^◌, ◌⊎◌, Bool, true, false, if◌then◌else◌, is_some, List, [], ◌∷◌, All, map}
+use Rattle.std.specs.Prelude.{slice_index_or, slice_set, sum}
 use Rattle.std.specs.List.{IsDistinct, count_by}
 use Rattle.std.specs.Map.{keys_of, values_of, lookup}
 use Rattle.std.specs.Option.{unwrap_or}
+use Rattle.mm_multiset.specs.RowHash.{row_hash}
+use Rattle.mm_multiset.specs.declared.entry_ref.EntryRef.{EntryRef}
+use Rattle.mm_partition.specs.Places.{Content, Free, Live, row_in}
 use Rattle.mm_value.specs.Equality.{same_row}
 use Rattle.mm_value.specs.declared.col_type.ColType.{ColType}
 use Rattle.mm_value.specs.declared.values.Value.{Value}
 use Rattle.mm_multiset.specs.declared.signed.Signed.{Signed}
 
--- The rows of a bag with their counts, in the order of the entries.
+-- The rows of a multiset with their counts, in the order of the entries.
 abbrev pub Entries : Type 0
 Entries = List (List Value × ℕ)
 
--- A bag as counts, how many new entries fit in without growth, and the types of the columns.
+-- A bag: the contents of its slots, its entries, the number of new entries that fit the capacity, and the types of the columns.
 pub record Counts : Type 0 where
+  pub slots : List Content
   pub entries : Entries
   pub room : ℕ
   pub types : List ColType
 
--- How often a row stands in a list of rows.
+-- The number of occurrences of a row in a list of rows.
 abbrev pub count_of : List Value → List (List Value) → ℕ
 count_of row rows = count_by (same_row row) rows
 
--- The count of a row: 0 where it has no entry.
+-- The count of a row: 0 if it has no entry.
 abbrev pub count_in : List Value → Entries → ℕ
 count_in row entries = unwrap_or (lookup (same_row row) entries) 0
 
@@ -34,7 +39,7 @@ has_entry row entries = is_some (lookup (same_row row) entries)
 abbrev pub IsOnce : Entries → Type 0
 IsOnce entries = IsDistinct same_row (keys_of entries)
 
--- How many rows the bag has, each as often as its count.
+-- The sum of all counts.
 abbrev pub total_of : Entries → ℕ
 total_of entries = sum (values_of entries)
 
@@ -42,22 +47,41 @@ total_of entries = sum (values_of entries)
 abbrev pub has_rows : List Value × ℕ → Bool
 has_rows entry = not (entry.1 == 0)
 
--- What a list of signed counts adds to the count of a row.
+-- The row of the slot of a reference.
+abbrev pub row_at : List Content → EntryRef → List Value
+row_at slots entry = row_in (slice_index_or slots entry.slot.slot Free)
+
+-- The reference leads to the entry of a row: its slot has the row, and its hash is the row's.
+pub record IsEntry (slots : List Content) (entry : EntryRef) (row : List Value) : Type 0 where
+  pub live : slice_index_or slots entry.slot.slot Free ≡ Live row
+  pub hash : entry.hash ≡ row_hash row
+
+-- The reference leads to an entry.
+abbrev pub IsThere : List Content → EntryRef → Type 0
+IsThere slots entry = IsEntry slots entry (row_at slots entry)
+
+-- All slots are unchanged, or the slot of an entry is free and its row has no entry.
+abbrev pub MayFree : EntryRef → Counts → Counts → Type 0
+MayFree entry old new =
+    (new.slots ≡ old.slots)
+    ⊎ ((new.slots ≡ slice_set old.slots entry.slot.slot Free) × (has_entry (row_at old.slots entry) new.entries ≡ false))
+
+-- The sum of the changes of a row in a list of changes.
 abbrev pub signed_count : List Value → List Signed → ℤ
 signed_count row [] = pos 0
 signed_count row (change ∷ changes) = (if same_row row change.row then change.count else pos 0) +ℤ signed_count row changes
 
--- The row's count is another by the change, and it has an entry; each other row has the count that it had, and an entry where it had one.
+-- The count of the row changes by the number, and the row has an entry. Every other row keeps its count, and its entry if it had one.
 pub record Adds (change : Signed) (old new : Entries) : Type 0 where
   pub counts : (row : List Value) → pos (count_in row new) ≡ pos (count_in row old) +ℤ signed_count row (change ∷ [])
   pub entries : (row : List Value) → has_entry row new ≡ (if same_row change.row row then true else has_entry row old)
 
--- One change after another is added.
+-- The changes are added one after another.
 abbrev pub AddsAll : List Signed → Entries → Entries → Type 0
 AddsAll [] old new = new ≡ old
 AddsAll (change ∷ changes) old new = (mid : Entries) × Adds change old mid × AddsAll changes mid new
 
--- Each row is changed at most once, and by a number that is not 0 and lies between -2^64 and 2^64.
+-- Each row is changed at most once, by a number other than 0 between -2^64 and 2^64.
 pub record IsNet (changes : List Signed) : Type 0 where
   pub once : IsDistinct same_row (map (λ change. change.row) changes)
   pub nonzero : All (λ change. change.count ≢ pos 0) changes

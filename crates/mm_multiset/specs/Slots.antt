@@ -1,4 +1,4 @@
--- How a bag keeps its rows. No public clause cites this module.
+-- The invariant of a bag. No public clause cites this module.
 use Rattle.std.specs.Prelude.{◌≡◌, ℕ, suc, ◌<◌, List, [], ◌∷◌, ◌++◌, length, slice_index_or, IsPermutation}
 use Rattle.mm_value.specs.declared.row_ref.RowRef.{RowRef}
 use Rattle.mm_value.specs.declared.values.Value.{Value}
@@ -12,24 +12,24 @@ entry_of Free count = []
 entry_of (Live row) count = (row, count) ∷ []
 entry_of (Hidden row) count = []
 
--- The entries of slots with their counts beside them.
+-- The entries of slots with these counts.
 abbrev pub entries_of : List Content → List ℕ → Entries
 entries_of [] counts = []
 entries_of (slot ∷ slots) [] = []
 entries_of (slot ∷ slots) (count ∷ counts) = entry_of slot count ++ entries_of slots counts
 
--- The pair by which the row in a slot is found, if it has one.
+-- The pair of a slot in the hash table, if the slot has a row.
 abbrev pub pair_of : ℕ → Content → List (ℕ × RowRef)
 pair_of i Free = []
 pair_of i (Live row) = (row_hash row, record { slot = i }) ∷ []
 pair_of i (Hidden row) = []
 
--- The pairs of the slots from one on.
+-- The pairs of the slots from an index on.
 abbrev pub pairs_from : ℕ → List Content → List (ℕ × RowRef)
 pairs_from i [] = []
 pairs_from i (slot ∷ slots) = pair_of i slot ++ pairs_from (suc i) slots
 
--- The count of a free slot is 0. No slot is hidden.
+-- A free slot has the count 0. No slot is hidden.
 abbrev pub IsMarked : Content → ℕ → Type 0
 IsMarked Free count = count ≡ 0
 IsMarked (Live row) count = Unit {0}
@@ -40,7 +40,7 @@ pub record AreMarked (slots : List Content) (counts : List ℕ) : Type 0 where
   pub size : length counts ≡ length slots
   pub each : (i : ℕ) → IsMarked (slice_index_or slots i Free) (slice_index_or counts i 0)
 
--- The slots are marked, no two have the same row, and the pairs are those of the slots.
+-- Each slot has a count, no two slots have the same row, and the pairs are those of the slots.
 pub record IsKept (slots : List Content) (counts : List ℕ) (pairs : List (ℕ × RowRef)) : Type 0 where
   pub marked : AreMarked slots counts
   pub once : IsOnce (entries_of slots counts)
@@ -50,7 +50,7 @@ pub record IsKept (slots : List Content) (counts : List ℕ) (pairs : List (ℕ 
 abbrev pub entry_at : List Content → List ℕ → ℕ → List Value × ℕ
 entry_at slots counts i = (row_in (slice_index_or slots i Free), slice_index_or counts i 0)
 
--- Each of the listed slots has a row.
+-- Each of these slots has a row.
 abbrev pub IsWalk : List Content → List ℕ → List ℕ → Type 0
 IsWalk slots counts shown =
     (k : ℕ) (d : ℕ) → k < length shown

@@ -1,4 +1,4 @@
--- Bags of which a few rows are listed, and more are kept by hash.
+-- Multisets of which few rows are in a list, and more are found by hash.
 use Rattle.std.specs.Prelude.{ℕ, ℤ, pos, neg_ℤ, negsuc, ◌+ℤ◌, ◌<ℤ◌, ◌^◌, ◌==◌, Bool, true, false, if◌then◌else◌, List, [], ◌∷◌, All, map}
 use Rattle.std.specs.List.{IsDistinct}
 use Rattle.mm_value.specs.Equality.{same_row}
@@ -6,21 +6,21 @@ use Rattle.mm_value.specs.declared.values.Value.{Value}
 use Rattle.mm_multiset.specs.Counts.{Entries}
 use Rattle.mm_multiset.specs.declared.signed.Signed.{Signed}
 
--- A bag as counts.
+-- A multiset as counts.
 pub record Tallied : Type 0 where
   pub entries : Entries
 
--- Rows by hash: their entries, and how many new ones fit in without growth.
+-- Rows by hash: their entries, and the number of new ones that fit the capacity.
 pub record CountedRows : Type 0 where
   pub entries : Entries
   pub room : ℕ
 
--- How often a row stands in a bag whose count changed by so much from nothing.
+-- The number if it is not negative, and otherwise 0.
 abbrev pub count_from : ℤ → ℕ
 count_from (pos n) = n
 count_from (negsuc n) = 0
 
--- Changes as the counts of a bag.
+-- Changes as the entries of a multiset.
 abbrev pub listed : List Signed → Entries
 listed changes = map (λ (change : Signed). (change.row, count_from change.count)) changes
 
@@ -28,31 +28,31 @@ listed changes = map (λ (change : Signed). (change.row, count_from change.count
 abbrev pub rows_changed : List Signed → List (List Value)
 rows_changed changes = map (λ (change : Signed). change.row) changes
 
--- The number lies between -2^64 and 2^64.
+-- The number is between -2^64 and 2^64.
 abbrev pub IsSmall : ℤ → Type 0
 IsSmall z = (neg_ℤ (pos (2 ^ 64)) <ℤ z) × (z <ℤ pos (2 ^ 64))
 
--- Each row is changed at most once, and by a number that lies between -2^64 and 2^64, which may be 0.
+-- Each row is changed at most once, by a number between -2^64 and 2^64, which may be 0.
 pub record AreOnce (changes : List Signed) : Type 0 where
   pub once : IsDistinct same_row (rows_changed changes)
   pub small : All (λ (change : Signed). IsSmall change.count) changes
 
--- The changes are counts of a bag: each row has one, of at least 1.
+-- The changes are counts of at least 1, one for each row.
 pub record AreListed (changes : List Signed) : Type 0 where
   pub are : AreOnce changes
   pub some : All (λ (change : Signed). pos 0 <ℤ change.count) changes
 
--- A change with its number added to that of its row, or else behind the others.
+-- The changes with a change added to that of its row, or appended if the row has none.
 abbrev pub with_change : Signed → List Signed → List Signed
 with_change change [] = change ∷ []
 with_change change (known ∷ rest) =
     if same_row change.row known.row then record { row = known.row; count = known.count +ℤ change.count } ∷ rest else known ∷ with_change change rest
 
--- The change that takes another back.
+-- The negated change.
 abbrev pub opposite : Signed → Signed
 opposite change = record { row = change.row; count = neg_ℤ change.count }
 
--- The number is another one than 0.
+-- The number is not 0.
 abbrev pub is_some_change : ℤ → Bool
 is_some_change (pos n) = if n == 0 then false else true
 is_some_change (negsuc n) = true

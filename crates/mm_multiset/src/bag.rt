@@ -1,7 +1,8 @@
-//! Bags of rows of the types of their columns.
+//! Multisets of rows with typed columns.
 ghost use Rattle.std.specs.Prelude.{◌≡◌, ◌+◌, ◌-◌, ◌≤◌, ◌<◌, ◌^◌, ◌⊎◌, pos, ◌+ℤ◌, ◌≤ℤ◌, ◌<ℤ◌, true, []};
-ghost use Rattle.std.specs.Prelude.{false, filter, length, not, List, IfOk, IsPermutation, OnOk, OnErr};
-ghost use Rattle.mm_multiset.specs.Counts.{Adds, IsOnce, count_in, has_entry, has_rows, total_of};
+ghost use Rattle.std.specs.Prelude.{if◌then◌else◌, false, filter, length, not, List, IfOk, IsPermutation, OnOk, OnErr};
+ghost use Rattle.mm_multiset.specs.Counts.{Adds, IsEntry, IsOnce, IsThere, MayFree, count_in, has_entry, has_rows, row_at, total_of};
+ghost use Rattle.mm_multiset.specs.declared.entry_ref.EntryRef.{EntryRef as AnyEntry};
 ghost use Rattle.mm_partition.specs.Types.{HasTypes};
 ghost use Rattle.mm_value.specs.Equality.{same_row};
 ghost use Rattle.mm_value.specs.declared.values.Value.{Value as Val};
@@ -11,7 +12,7 @@ mod finding;
 mod slots;
 mod typed;
 
-use crate::signed::Signed;
+use crate::entry_ref::EntryRef;
 pub use entries::BagEntries;
 use finding::{find, hash_of};
 use mlhash::HashRefs;
@@ -22,17 +23,17 @@ use slots::{put, take};
 use std::alloc::{AllocError, Global};
 use std::marker::Model;
 
-/// The greatest total.
+/// The maximum total.
 const MAX_TOTAL: u32 = u32::MAX - 1;
 
-/// A bag of rows kept as counts: each row that it has, or had, has one entry with its count. It has at most 2^32 - 2 rows, each
-/// counted as often as its count.
+/// A multiset of rows, stored as counts: each row that it contains, or has contained, has one entry with its count. The total of the counts
+/// is at most 2^32 - 2.
 ///
-/// The rows stand in the slots of partitions, as those of a table do, and are found by the hash of their values.
+/// The rows are in the slots of partitions, like those of a table, and are found by the hash of their values.
 #[derive(Drop)]
 pub struct Bag {
     rows: Partitions,
-    /// The counts of the rows by slot. The count of a free slot is 0.
+    /// The counts of the rows, by slot. The count of a free slot is 0.
     counts: SlotCounts,
     by_hash: HashRefs,
     total: u32,
@@ -46,6 +47,7 @@ impl Model for Bag {
     ghost Value = { Counts };
 
     ghost view = { λ b. record {
+      slots = b.rows.slots;
       entries = entries_of b.rows.slots b.counts.counts;
       room = min b.rows.room (min b.by_hash.spare b.counts.room);
       types = b.rows.types;
@@ -56,7 +58,7 @@ impl Model for Bag {
 }
 
 impl Bag {
-    /// A bag of no rows, whose columns have these types. `AllocError` where memory is refused for the list of columns.
+    /// Returns an empty bag whose columns have these types. Fails with `AllocError` if the allocation of the list of columns fails.
     pub fn new(alloc: Global, types: &[ColType]) -> Result<Bag, AllocError>
         ensures entries { IfOk result (λ bag. bag.entries ≡ []) }
         ensures types { IfOk result (λ bag. bag.types ≡ types.now) }
@@ -69,11 +71,13 @@ impl Bag {
         })
     }
 
-    /// Makes room for `n` new entries. `AllocError` where memory is refused, or where there would be more than 2^32 - 1 entries.
+    /// Reserves capacity for `n` new entries. Fails with `AllocError` if an allocation fails, or if there would be more than 2^32 - 1
+    /// entries.
     pub fn reserve(&mut self, n: usize) -> Result<(), AllocError>
         ensures room { OnOk result (n ≤ self.new.room) }
         ensures entries { self.new.entries ≡ self.old.entries }
         ensures kept { self.old.room ≤ self.new.room }
+        ensures slots { self.new.slots ≡ self.old.slots }
         ensures types { self.new.types ≡ self.old.types }
     {
         let alloc = self.counts.allocator();
@@ -82,7 +86,7 @@ impl Bag {
         self.by_hash.reserve(alloc, n)
     }
 
-    /// The number of entries.
+    /// Returns the number of entries.
     pub fn len(&self) -> usize
         ensures entries { result ≡ length self.now.entries }
         ensures once { IsOnce self.now.entries }
@@ -90,7 +94,7 @@ impl Bag {
         self.by_hash.len()
     }
 
-    /// The count of a row: 0 where it has no entry.
+    /// Returns the count of a row: 0 if it has no entry.
     pub fn count(&self, row: &Row) -> usize
         ensures { result ≡ count_in row.now self.now.entries }
     {
@@ -100,14 +104,14 @@ impl Bag {
         }
     }
 
-    /// Whether a row has an entry.
+    /// Returns whether a row has an entry.
     pub fn has_entry(&self, row: &Row) -> bool
         ensures { result ≡ has_entry row.now self.now.entries }
     {
         find(&self.rows, &self.by_hash, hash_of(row), row).is_some()
     }
 
-    /// How many rows there are, each counted as often as its count.
+    /// Returns the sum of all counts.
     pub fn total(&self) -> usize
         ensures { result ≡ total_of self.now.entries }
     {
@@ -122,8 +126,8 @@ impl Bag {
         shown.len()
     }
 
-    /// Iterates the entries whose count is not 0, in no particular order, with their rows in place. A walk takes as many steps as there
-    /// are such entries, and allocates nothing.
+    /// Iterates over the entries whose count is not 0, in no particular order, with their rows in place. The iteration takes as many steps
+    /// as there are such entries, and allocates nothing.
     pub fn entries(&self) -> BagEntries<'_>
         ensures entries { IsPermutation result (filter has_rows self.now.entries) }
         ensures once { IsOnce self.now.entries }
@@ -132,64 +136,71 @@ impl Bag {
         BagEntries::new(&self.rows, &self.counts, shown)
     }
 
-    /// Adds to the count of a row, and tells whether the row had no entry before. It asks for a row of the types of the columns, for
-    /// an entry of it or for room, for a count that stays at 0 or above, and for a total below 2^32 - 1. An entry stays where its
-    /// count falls to 0. It takes no memory.
-    pub fn add(&mut self, change: Signed) -> bool
-        requires typed { HasTypes self.old.types change.row }
-        requires room { (has_entry change.row self.old.entries ≡ true) ⊎ (0 < self.old.room) }
-        requires count { pos 0 ≤ℤ (pos (count_in change.row self.old.entries) +ℤ change.count) }
-        requires total { (pos (total_of self.old.entries) +ℤ change.count) <ℤ pos (2 ^ 32 - 1) }
-        ensures added { Adds change self.old.entries self.new.entries }
-        ensures total { pos (total_of self.new.entries) ≡ pos (total_of self.old.entries) +ℤ change.count }
-        ensures kept { has_entry change.row self.old.entries ≡ true → self.new.room ≡ self.old.room }
-        ensures used { self.old.room ≤ self.new.room + 1 }
-        ensures is_new { result ≡ not (has_entry change.row self.old.entries) }
+    /// Returns a reference to the entry of a row of the types of the columns, and whether the row had none. If it had none, an entry with
+    /// the count 0 is inserted. Fails with `AllocError` if an allocation fails; then the entries are unchanged.
+    pub fn entry_or_insert(&mut self, row: Row) -> Result<(EntryRef, bool), AllocError>
+        requires typed { HasTypes self.old.types row }
+        ensures entry { IfOk result (λ found. IsEntry self.new.slots found.0 row) }
+        ensures is_new { IfOk result (λ found. found.1 ≡ not (has_entry row self.old.entries)) }
+        ensures entries { OnOk result ((other : List Val) → has_entry other self.new.entries ≡ (if same_row row other then true else has_entry other self.old.entries)) }
+        ensures counts { (other : List Val) → count_in other self.new.entries ≡ count_in other self.old.entries }
+        ensures total { total_of self.new.entries ≡ total_of self.old.entries }
+        ensures kept { (entry : AnyEntry) (other : List Val) → IsEntry self.old.slots entry other → IsEntry self.new.slots entry other }
+        ensures unchanged { OnErr result (self.new.entries ≡ self.old.entries) }
+        ensures same { OnErr result (self.new.slots ≡ self.old.slots) }
         ensures types { self.new.types ≡ self.old.types }
     {
-        let Signed { row, count } = change;
         let hash = hash_of(&row);
-        self.total = changed(self.total, count);
-        match find(&self.rows, &self.by_hash, hash, &row) {
-            Some(at) => {
-                self.counts.add(index_of(at), count);
-                false
-            }
-            None => {
-                let count = changed(0, count);
-                put(
-                    &mut self.rows,
-                    &mut self.counts,
-                    &mut self.by_hash,
-                    hash,
-                    row,
-                    count,
-                );
-                true
-            }
+        if let Some(slot) = find(&self.rows, &self.by_hash, hash, &row) {
+            return Ok((EntryRef { slot, hash }, false));
         }
+        self.reserve(1)?;
+        let slot = put(
+            &mut self.rows,
+            &mut self.counts,
+            &mut self.by_hash,
+            hash,
+            row,
+        );
+        Ok((EntryRef { slot, hash }, true))
     }
 
-    /// Adds to the count of a row that has an entry. It asks for a count that stays at 0 or above, and for a total below 2^32 - 1.
-    /// It takes no memory, and the row stays the caller's.
-    pub fn add_found(&mut self, change: &Signed)
-        requires found { has_entry change.now.row self.old.entries ≡ true }
-        requires count { pos 0 ≤ℤ (pos (count_in change.now.row self.old.entries) +ℤ change.now.count) }
-        requires total { (pos (total_of self.old.entries) +ℤ change.now.count) <ℤ pos (2 ^ 32 - 1) }
-        ensures added { Adds change.now self.old.entries self.new.entries }
-        ensures total { pos (total_of self.new.entries) ≡ pos (total_of self.old.entries) +ℤ change.now.count }
-        ensures room { self.new.room ≡ self.old.room }
+    /// Adds to the count of an entry. Requires that the count stays at 0 or above, and the total below 2^32 - 1. Allocates and hashes
+    /// nothing. The entry stays if its count falls to 0.
+    pub fn add_at(&mut self, entry: EntryRef, by: i64)
+        requires entry { IsThere self.old.slots entry }
+        requires count { pos 0 ≤ℤ (pos (count_in (row_at self.old.slots entry) self.old.entries) +ℤ by) }
+        requires total { (pos (total_of self.old.entries) +ℤ by) <ℤ pos (2 ^ 32 - 1) }
+        ensures added { Adds (record { row = row_at self.old.slots entry; count = by }) self.old.entries self.new.entries }
+        ensures entries { (row : List Val) → has_entry row self.new.entries ≡ has_entry row self.old.entries }
+        ensures total { pos (total_of self.new.entries) ≡ pos (total_of self.old.entries) +ℤ by }
+        ensures slots { self.new.slots ≡ self.old.slots }
         ensures types { self.new.types ≡ self.old.types }
     {
-        let Signed { row, count } = change;
-        if let Some(at) = find(&self.rows, &self.by_hash, hash_of(row), row) {
-            self.total = changed(self.total, *count);
-            self.counts.add(index_of(at), *count);
+        self.total = changed(self.total, by as i128);
+        self.counts.add(index_of(entry.slot), by as i128);
+    }
+
+    /// Removes an entry if its count is 0, and does nothing if the entry was removed before. No count changes. Hashes nothing.
+    pub fn remove_if_zero(&mut self, entry: EntryRef)
+        requires within { entry.slot.slot < length self.old.slots }
+        ensures gone { IsThere self.old.slots entry → count_in (row_at self.old.slots entry) self.old.entries ≡ 0
+            → has_entry (row_at self.old.slots entry) self.new.entries ≡ false }
+        ensures counts { (other : List Val) → count_in other self.new.entries ≡ count_in other self.old.entries }
+        ensures total { total_of self.new.entries ≡ total_of self.old.entries }
+        ensures others { (other : List Val) → has_entry other self.new.entries ≡ true → has_entry other self.old.entries ≡ true }
+        ensures beside { (other : List Val) → same_row (row_at self.old.slots entry) other ≡ false
+            → has_entry other self.new.entries ≡ has_entry other self.old.entries }
+        ensures slots { MayFree entry self.old self.new }
+        ensures types { self.new.types ≡ self.old.types }
+    {
+        if self.counts.count(index_of(entry.slot)) == 0 {
+            take(&mut self.rows, &self.counts, &mut self.by_hash, entry);
         }
     }
 
-    /// Adds 1 to the count of a row of the types of the columns, and makes room for its entry where that is needed. `AllocError` where
-    /// memory is refused, or where the total would be 2^32 - 1. The entries are as before then.
+    /// Adds 1 to the count of a row of the types of the columns, and reserves capacity for its entry if necessary. Fails with `AllocError`
+    /// if an allocation fails, or if the total would be 2^32 - 1; then the entries are unchanged.
     pub fn count_up(&mut self, row: Row) -> Result<(), AllocError>
         requires typed { HasTypes self.old.types row }
         ensures counted { OnOk result (Adds (record { row = row; count = pos 1 }) self.old.entries self.new.entries) }
@@ -199,27 +210,8 @@ impl Bag {
         if self.total >= MAX_TOTAL {
             return Err(AllocError);
         }
-        self.reserve(1)?;
-        self.add(Signed { row, count: 1 });
+        let (entry, _) = self.entry_or_insert(row)?;
+        self.add_at(entry, 1);
         Ok(())
-    }
-
-    /// Drops the entry of a row where its count is 0. No count changes.
-    pub fn purge_row(&mut self, row: &Row)
-        ensures counts { (other : List Val) → count_in other self.new.entries ≡ count_in other self.old.entries }
-        ensures total { total_of self.new.entries ≡ total_of self.old.entries }
-        ensures gone { count_in row.now self.old.entries ≡ 0 → has_entry row.now self.new.entries ≡ false }
-        ensures others { (other : List Val) → has_entry other self.new.entries ≡ true → has_entry other self.old.entries ≡ true }
-        ensures beside { (other : List Val) → same_row row.now other ≡ false → has_entry other self.new.entries ≡ has_entry other self.old.entries }
-        ensures kept { 0 < count_in row.now self.old.entries → self.new.entries ≡ self.old.entries }
-        ensures room { self.old.room ≤ self.new.room }
-        ensures types { self.new.types ≡ self.old.types }
-    {
-        let hash = hash_of(row);
-        if let Some(at) = find(&self.rows, &self.by_hash, hash, row) {
-            if self.counts.count(index_of(at)) == 0 {
-                take(&mut self.rows, &self.counts, &mut self.by_hash, hash, at);
-            }
-        }
     }
 }

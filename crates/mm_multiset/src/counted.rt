@@ -1,4 +1,4 @@
-//! Rows of any width found by hash, each with its count.
+//! Multisets of rows of any types, found by hash.
 ghost use Rattle.std.specs.Prelude.{◌≡◌, ◌+◌, ◌≤◌, ◌<◌, ◌^◌, ◌⊎◌, pos, ◌+ℤ◌, ◌≤ℤ◌, ◌<ℤ◌, true, [], false, length, OnOk, OnErr};
 ghost use Rattle.indexmap.specs.IndexMap.{spare};
 ghost use Rattle.mm_multiset.specs.Counts.{Adds, IsOnce, count_in, has_entry, total_of};
@@ -31,7 +31,7 @@ impl Model for Counted {
 }
 
 impl Counted {
-    /// No rows. It takes no memory.
+    /// Returns an empty multiset. Allocates nothing.
     pub(crate) fn new(alloc: Global) -> Counted
         ensures { result.entries ≡ [] }
     {
@@ -41,7 +41,7 @@ impl Counted {
         }
     }
 
-    /// Makes room for `n` new entries. `AllocError` where memory is refused.
+    /// Reserves capacity for `n` new entries. Fails with `AllocError` if an allocation fails.
     pub(crate) fn reserve(&mut self, n: usize) -> Result<(), AllocError>
         ensures room { OnOk result (n ≤ self.new.room) }
         ensures entries { self.new.entries ≡ self.old.entries }
@@ -50,7 +50,7 @@ impl Counted {
         self.counts.reserve(n)
     }
 
-    /// The number of entries.
+    /// Returns the number of entries.
     pub(crate) fn len(&self) -> usize
         ensures entries { result ≡ length self.now.entries }
         ensures once { IsOnce self.now.entries }
@@ -58,28 +58,28 @@ impl Counted {
         self.counts.len()
     }
 
-    /// The count of a row: 0 where it has no entry.
+    /// Returns the count of a row: 0 if it has no entry.
     pub(crate) fn count(&self, row: &Row) -> usize
         ensures { result ≡ count_in row.now self.now.entries }
     {
         self.counts.get(row).copied().unwrap_or(0)
     }
 
-    /// Whether a row has an entry.
+    /// Returns whether a row has an entry.
     pub(crate) fn has_entry(&self, row: &Row) -> bool
         ensures { result ≡ has_entry row.now self.now.entries }
     {
         self.counts.contains_key(row)
     }
 
-    /// How many rows there are, each counted as often as its count.
+    /// Returns the sum of all counts.
     pub(crate) fn total(&self) -> usize
         ensures { result ≡ total_of self.now.entries }
     {
         self.total
     }
 
-    /// The entries in turn, each with its count.
+    /// Iterates over the entries with their counts.
     pub(crate) fn entries(&self) -> Iter<'_, Row, usize>
         ensures entries { result ≡ self.now.entries }
         ensures once { IsOnce self.now.entries }
@@ -87,7 +87,7 @@ impl Counted {
         self.counts.iter()
     }
 
-    /// The entries in turn, each with its count, and no copy of any.
+    /// Iterates over the entries with their counts, without copying rows.
     pub(crate) fn into_entries(self) -> IntoIter<Row, usize>
         ensures entries { result ≡ self.entries }
         ensures once { IsOnce self.entries }
@@ -95,8 +95,8 @@ impl Counted {
         self.counts.into_iter()
     }
 
-    /// Adds to the count of a row. It asks for an entry of the row or for room, for a count that stays at 0 or above, and for a
-    /// total below 2^64. It takes no memory.
+    /// Adds to the count of a row. Requires an entry of the row or capacity for one, a count that stays at 0 or above, and a total that
+    /// stays below 2^64. Allocates nothing.
     pub(crate) fn add(&mut self, change: Signed)
         requires room { (has_entry change.row self.old.entries ≡ true) ⊎ (0 < self.old.room) }
         requires count { pos 0 ≤ℤ (pos (count_in change.row self.old.entries) +ℤ change.count) }
@@ -108,8 +108,8 @@ impl Counted {
         add_count(&mut self.counts, row, count);
     }
 
-    /// Adds 1 to the count of a row, and makes room for its entry where that is needed. `AllocError` where memory is refused or the
-    /// total would be 2^64. The entries are as before then.
+    /// Adds 1 to the count of a row, and reserves capacity for its entry if necessary. Fails with `AllocError` if an allocation fails, or
+    /// if the total would be 2^64; then the entries are unchanged.
     pub(crate) fn count_up(&mut self, row: Row) -> Result<(), AllocError>
         ensures counted { OnOk result (Adds (record { row = row; count = pos 1 }) self.old.entries self.new.entries) }
         ensures unchanged { OnErr result (self.new.entries ≡ self.old.entries) }
@@ -123,7 +123,7 @@ impl Counted {
     }
 }
 
-// Adds to the count of a row, which has an entry, or there is room for one.
+// Adds to the count of a row. Requires an entry of the row or capacity for one.
 fn add_count(counts: &mut IndexMap<Row, usize>, row: Row, change: i128)
     requires room { (has_entry row counts.old.entries ≡ true) ⊎ (0 < spare counts.old) }
     requires once { IsOnce counts.old.entries }
@@ -139,7 +139,7 @@ fn add_count(counts: &mut IndexMap<Row, usize>, row: Row, change: i128)
     }
 }
 
-// Adds to the count of a row where it has an entry, and tells whether it has.
+// Adds to the count of a row if it has an entry, and returns whether it has.
 fn change_found(counts: &mut IndexMap<Row, usize>, row: &Row, change: i128) -> bool
     requires once { IsOnce counts.old.entries }
     requires least { pos 0 ≤ℤ (pos (count_in row.now counts.old.entries) +ℤ change) }
@@ -161,7 +161,7 @@ fn change_found(counts: &mut IndexMap<Row, usize>, row: &Row, change: i128) -> b
     }
 }
 
-// The number with a change added to it.
+// Returns the sum of a number and a change.
 fn changed(number: usize, change: i128) -> usize
     requires least { pos 0 ≤ℤ (pos number +ℤ change) }
     requires most { (pos number +ℤ change) <ℤ pos (2 ^ 64) }

@@ -1,4 +1,4 @@
-//! How the counts of two bags differ.
+//! Differences of multisets.
 ghost use Rattle.std.specs.Prelude.{◌≡◌, ◌≢◌, ◌^◌, pos, neg_ℤ, ◌-ℤ◌, ◌<ℤ◌, List, All, map, if◌then◌else◌, IfOk, OnOk};
 ghost use Rattle.std.specs.List.{IsDistinct};
 ghost use Rattle.mm_value.specs.Equality.{same_row};
@@ -9,8 +9,8 @@ use crate::counted::Counted;
 use crate::signed::Signed;
 use std::alloc::{AllocError, Global};
 
-/// For each row whose counts in the two bags differ, the row once, with its count in `comes` less its count in `goes`, which
-/// lies between -2^64 and 2^64. A row without an entry counts as 0. `AllocError` where memory is refused.
+/// Returns each row whose counts differ, once, with its count in `comes` minus its count in `goes`, a number between -2^64 and 2^64. A row
+/// without an entry has the count 0. Fails with `AllocError` if an allocation fails.
 pub(crate) fn difference(
     alloc: Global,
     comes: &Counted,
@@ -26,7 +26,7 @@ pub(crate) fn difference(
     Ok(found)
 }
 
-// The changes of the rows that have an entry in `comes`.
+// Returns the changes of the rows with an entry in `comes`.
 fn changes_of_entries(
     alloc: Global,
     comes: &Counted,
@@ -48,7 +48,7 @@ fn changes_of_entries(
     Ok(found)
 }
 
-// Puts the changes of the rows that have no entry in `comes` at the end of those of the rows that have one.
+// Appends the changes of the rows without an entry in `comes` to those of the rows with one.
 fn push_gone(found: &mut Vec<Signed>, comes: &Counted, goes: Counted) -> Result<(), AllocError>
     requires counts { (row : List Val) → signed_count row found.old.items ≡ (if has_entry row comes.now.entries then pos (count_in row comes.now.entries) -ℤ pos (count_in row goes.entries) else pos 0) }
     requires net { IsNet found.old.items }
@@ -66,7 +66,7 @@ fn push_gone(found: &mut Vec<Signed>, comes: &Counted, goes: Counted) -> Result<
     Ok(())
 }
 
-// How much greater the first count is, which is negative where it is less.
+// Returns the first count minus the second.
 fn net(comes: usize, goes: usize) -> i128
     ensures value { result ≡ pos comes -ℤ pos goes }
     ensures above { neg_ℤ (pos (2 ^ 64)) <ℤ result }

@@ -1,4 +1,4 @@
-//! Changes of a few rows, which are found by comparing one after another.
+//! Changes of few rows, found by comparing one after another.
 ghost use Rattle.std.specs.Prelude.{◌≡◌, ◌≢◌, ◌<◌, ◌-ℤ◌, ◌+ℤ◌, ℕ, false, true, filter, length, map, slice_index_or, slice_set, List, All, IfNone, IfOk, IfSome, OnErr, OnOk};
 ghost use Rattle.mm_value.specs.Equality.{same_row};
 ghost use Rattle.mm_value.specs.declared.values.Value.{Value as Val};
@@ -10,8 +10,8 @@ use crate::signed::Signed;
 use mm_value::Row;
 use std::alloc::AllocError;
 
-/// For each row whose counts differ, the row once, with its count in `comes` less its count in `goes`. Both lists are given up,
-/// and no row is copied. `AllocError` where memory is refused.
+/// Returns each row whose counts differ, once, with its count in `comes` minus its count in `goes`. Consumes both lists and copies no row.
+/// Fails with `AllocError` if an allocation fails, or if a difference is not between -2^64 and 2^64.
 pub(crate) fn few_changes(
     comes: Vec<Signed>,
     mut goes: Vec<Signed>,
@@ -29,7 +29,7 @@ pub(crate) fn few_changes(
     }
 }
 
-/// Turns the sign of each change.
+/// Negates each change.
 pub(crate) fn turn(changes: &mut Vec<Signed>)
     requires { All (λ change. IsSmall change.count) changes.old.items }
     ensures { changes.new.items ≡ map opposite changes.old.items }
@@ -39,7 +39,7 @@ pub(crate) fn turn(changes: &mut Vec<Signed>)
     }
 }
 
-// The changes of two lists in one, without those that cancel out.
+// Returns the changes of two lists as one, without those that cancel out.
 fn merged(first: Vec<Signed>, more: Vec<Signed>) -> Result<Vec<Signed>, AllocError>
     requires first { AreOnce first.items }
     requires more { All (λ change. IsSmall change.count) more.items }
@@ -54,22 +54,22 @@ fn merged(first: Vec<Signed>, more: Vec<Signed>) -> Result<Vec<Signed>, AllocErr
     Ok(found)
 }
 
-// Drops the changes by 0.
+// Removes the changes by 0.
 fn drop_nothings(changes: &mut Vec<Signed>)
     ensures { changes.new.items ≡ filter (λ (change : Change). is_some_change change.count) changes.old.items }
 {
     changes.retain(|change| is_some_change(change.count));
 }
 
-// Whether a number is not 0.
+// Returns whether a number is not 0.
 fn is_some_change(count: i128) -> bool
     ensures { result ≡ is_some_change count }
 {
     count != 0
 }
 
-/// Adds a change to that of its row, or puts it behind the others. `AllocError` where memory is refused or the number would pass
-/// 64 bits. The changes are as before then.
+/// Adds a change to that of its row, or appends it if the row has none. Fails with `AllocError` if an allocation fails, or if the sum is
+/// not between -2^64 and 2^64; then the changes are unchanged.
 pub(crate) fn add_change(changes: &mut Vec<Signed>, change: Signed) -> Result<(), AllocError>
     requires known { All (λ known. IsSmall known.count) changes.old.items }
     requires change { IsSmall change.count }
@@ -101,7 +101,7 @@ fn add_at(changes: &mut Vec<Signed>, i: usize, count: i128) -> Result<(), AllocE
     Ok(())
 }
 
-// Whether a number lies between -2^64 and 2^64.
+// Returns `true` only if a number is between -2^64 and 2^64.
 fn is_small(count: i128) -> bool
     ensures { result ≡ true → IsSmall count }
 {
@@ -109,7 +109,7 @@ fn is_small(count: i128) -> bool
     -PAST < count && count < PAST
 }
 
-// The place of the first change of a row, if there is one.
+// Returns the position of the first change of a row, if there is one.
 fn place_of(changes: &[Signed], row: &Row) -> Option<usize>
     ensures within { IfSome result (λ i. i < length changes.now) }
     ensures found { IfSome result (λ i. (other : Change) → same_row row.now (slice_index_or changes.now i other).row ≡ true) }

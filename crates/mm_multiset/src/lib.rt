@@ -1,15 +1,17 @@
-//! Bags of rows kept as counts (the multiplicity counters of Blakeley, Larson and Tompa, SIGMOD 1986), and changes of counts.
+//! Multisets of rows, stored as counts (the multiplicity counters of Blakeley, Larson and Tompa, SIGMOD 1986), and changes of counts.
 #![tactic(auto)]
 
 mod bag;
 mod counted;
 mod differing;
+mod entry_ref;
 mod few;
 mod opposites;
 mod signed;
 mod tally;
 
 pub use bag::{Bag, BagEntries};
+pub use entry_ref::EntryRef;
 pub use opposites::counts_are_undone;
 pub use signed::Signed;
 pub use tally::{Tally, net_changes};

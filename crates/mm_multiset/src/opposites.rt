@@ -1,12 +1,12 @@
-//! Changes that take others back.
+//! The undo of changes of counts.
 ghost use Rattle.std.specs.Prelude.{◌≡◌, neg_ℤ, true, List};
 ghost use Rattle.std.specs.List.{AllByRecursion};
 ghost use Rattle.mm_multiset.specs.Counts.{AddsAll, Entries, count_in, has_entry, signed_count};
 ghost use Rattle.mm_multiset.specs.declared.signed.Signed.{Signed as Change};
 ghost use Rattle.mm_value.specs.declared.values.Value.{Value as Val};
 
-/// Changes that are the opposite of others for each row, in whatever order, give every count back; and each row that was
-/// changed has an entry, so they ask for no room.
+/// Law: changes that negate others for each row, in any order, restore every count. Each changed row still has an entry, so undoing needs
+/// no capacity.
 pub fn counts_are_undone()
     ensures counts { (changes undo : List Change) (old mid new : Entries)
         → ((row : List Val) → signed_count row undo ≡ neg_ℤ (signed_count row changes))

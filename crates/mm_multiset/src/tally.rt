@@ -1,4 +1,4 @@
-//! Bags of rows that mostly have a few.
+//! Multisets of usually few rows.
 ghost use Rattle.std.specs.Prelude.{◌≡◌, ◌≢◌, ◌+◌, ◌++◌, ◌⊎◌, ◌^◌, pos, neg_ℤ, ◌-ℤ◌, ◌+ℤ◌, ◌≤ℤ◌, ◌<ℤ◌, [], ◌∷◌, List, All, map, IfOk, OnOk};
 ghost use Rattle.std.specs.List.{IsDistinct};
 ghost use Rattle.mm_value.specs.Equality.{same_row};
@@ -16,10 +16,10 @@ use std::alloc::{AllocError, Global};
 use std::marker::Model;
 use std::mem;
 
-/// So many different rows are compared faster than they are hashed.
+/// Up to this many different rows are compared faster than hashed.
 const FEW: usize = 8;
 
-/// A bag of rows kept as counts: a few rows are listed, and more are found by hash.
+/// A multiset of rows, stored as counts: few rows are in a list, and more are found by hash.
 #[derive(Drop)]
 pub struct Tally {
     few: Vec<Signed>,
@@ -38,7 +38,7 @@ impl Model for Tally {
 }
 
 impl Tally {
-    /// A bag of no rows. It takes no memory.
+    /// Returns an empty multiset. Allocates nothing.
     pub fn new(alloc: Global) -> Tally
         ensures { result.entries ≡ [] }
     {
@@ -48,7 +48,7 @@ impl Tally {
         }
     }
 
-    /// Counts a row once more. `AllocError` where memory is refused or the count would pass 64 bits.
+    /// Adds 1 to the count of a row. Fails with `AllocError` if an allocation fails, and may fail if the total would be 2^64 or more.
     pub fn count_up(&mut self, row: Row) -> Result<(), AllocError>
         ensures { OnOk result ((other : List Val) → count_in other self.new.entries ≡ count_in other self.old.entries + count_of other (row ∷ [])) }
     {
@@ -62,9 +62,8 @@ impl Tally {
     }
 }
 
-/// For each row whose counts in the two bags differ, the row once, with its count in `comes` less its count in `goes`, which
-/// lies between -2^64 and 2^64. A row without an entry counts as 0. Where both bags have a few rows, none is copied or hashed.
-/// `AllocError` where memory is refused.
+/// Returns each row whose counts differ, once, with its count in `comes` minus its count in `goes`, a number between -2^64 and 2^64. A row
+/// without an entry has the count 0. If both have few rows, no row is copied or hashed. Fails with `AllocError` if an allocation fails.
 pub fn net_changes(alloc: Global, comes: Tally, goes: Tally) -> Result<Vec<Signed>, AllocError>
     ensures change { IfOk result (λ found. (row : List Val) → signed_count row found.items ≡ pos (count_in row comes.entries) -ℤ pos (count_in row goes.entries)) }
     ensures once { IfOk result (λ found. IsDistinct same_row (map (λ change. change.row) found.items)) }
@@ -77,7 +76,7 @@ pub fn net_changes(alloc: Global, comes: Tally, goes: Tally) -> Result<Vec<Signe
     many_changes(alloc, into_counted(comes)?, into_counted(goes)?)
 }
 
-// The same bag by hash.
+// Returns the same multiset, by hash.
 fn into_counted(tally: Tally) -> Result<Counted, AllocError>
     ensures { IfOk result (λ counted. (row : List Val) → count_in row counted.entries ≡ count_in row tally.entries) }
 {
@@ -86,7 +85,7 @@ fn into_counted(tally: Tally) -> Result<Counted, AllocError>
     Ok(many)
 }
 
-// The changes between two bags by hash. Only the rows of the one with fewer are copied.
+// Returns the changes between two multisets by hash. Copies only rows of the one with fewer entries.
 fn many_changes(alloc: Global, comes: Counted, goes: Counted) -> Result<Vec<Signed>, AllocError>
     ensures change { IfOk result (λ found. (row : List Val) → signed_count row found.items ≡ pos (count_in row comes.entries) -ℤ pos (count_in row goes.entries)) }
     ensures net { IfOk result (λ found. IsNet found.items) }
@@ -99,7 +98,7 @@ fn many_changes(alloc: Global, comes: Counted, goes: Counted) -> Result<Vec<Sign
     Ok(found)
 }
 
-// Adds counts to a bag.
+// Adds counts to a multiset.
 fn add_all(many: &mut Counted, few: Vec<Signed>) -> Result<(), AllocError>
     requires { AreListed few.items }
     ensures { OnOk result ((row : List Val) → pos (count_in row many.new.entries) ≡ pos (count_in row many.old.entries) +ℤ signed_count row few.items) }
@@ -110,7 +109,7 @@ fn add_all(many: &mut Counted, few: Vec<Signed>) -> Result<(), AllocError>
     Ok(())
 }
 
-// Adds to the count of a row, and makes room for its entry where that is needed.
+// Adds to the count of a row, and reserves capacity for its entry if necessary.
 fn add_counts(many: &mut Counted, change: Signed) -> Result<(), AllocError>
     requires least { pos 0 ≤ℤ change.count }
     requires small { IsSmall change.count }

@@ -1,4 +1,4 @@
--- Probes that go along an order.
+-- Probes that agree with an order.
 use Rattle.std.proofs.Common.{◌≡◌, ◌≤◌, refl, sym, ap, ◌∙◌, subst, arith}
 use Rattle.std.specs.Ordering.{ordering_index, ordering_reverse}
 use Rattle.std.specs.declared.cmp.Ordering.{Ordering}
@@ -12,7 +12,7 @@ not_before Less p equal greater = omega arith
 not_before Equal p equal greater = subst (λ q. ordering_index Equal ≤ ordering_index q) (sym (equal refl)) (omega arith)
 not_before Greater p equal greater = subst (λ q. ordering_index Greater ≤ ordering_index q) (sym (greater refl)) (omega arith)
 
--- in a total order the places of one reference rise
+-- the position of a reference agrees with its total order
 pub IsMonotone-at : (Covers : RowRef → Type 0) (cmp : RowRef → RowRef → Ordering) → IsTotalOrderOn Covers cmp → (at : RowRef)
     → Covers at → IsMonotone Covers cmp (λ a. Covers a × Covers at) (λ a. cmp a at)
 IsMonotone-at Covers cmp total at covered = record {

@@ -1,4 +1,4 @@
--- Ordered lists of references: what their edits leave, what a search found, and the entries of a range.
+-- Ordered lists of references: the effects of edits, the results of searches, and the entries of ranges.
 use Rattle.std.proofs.Common.{◌≡◌, ◌≢◌, ℕ, ◌<◌, ◌≤◌, Bool, true, false, ◌&&◌, List, [], ◌∷◌, ◌++◌, length, get_or, take, drop, suc, ◌⊎◌, refl, sym, ap, ◌∙◌}
 use Rattle.std.proofs.Common.{subst, ⊎_elim, arith, add-zero, length-take, length-drop}
 use Rattle.std.proofs.lemmas.Bool.{cases_order}
@@ -44,7 +44,7 @@ too_high Greater Less e = (cc)
 too_high Greater Equal e = (cc)
 too_high Greater Greater e = refl
 
--- of a list in three parts, the first too low, the last too high, the entries between are the middle part
+-- of three parts of a list, the first before the range and the last after it, the entries of the range are the middle part
 pub entries_between-found_parts : (low high : RowRef → Ordering) (before middle after : List RowRef) → All (λ a. low a ≡ Less) before
     → All (λ a. low a ≢ Less) middle → All (λ a. high a ≢ Greater) middle → All (λ a. high a ≡ Greater) after
     → entries_between low high (before ++ (middle ++ after)) ≡ middle
@@ -60,7 +60,7 @@ entries_between-found_parts low high before middle after low_before low_middle h
     ∙ ap (λ xs. middle ++ xs) none_after
     ∙ append-nil middle
 
--- the entries between are so many of those from the first that is not too low on, as come before one that is too high
+-- the entries of a range are those from the first that is not before it up to the first that is after it
 pub entries_between-found : (low high : RowRef → Ordering) (refs : List RowRef) (from count : ℕ) → All (λ a. low a ≡ Less) (take from refs)
     → All (λ a. low a ≢ Less) (drop from refs) → All (λ a. high a ≢ Greater) (take count (drop from refs))
     → All (λ a. high a ≡ Greater) (drop count (drop from refs)) → entries_between low high refs ≡ take count (drop from refs)
@@ -73,7 +73,7 @@ entries_between-found low high refs from count low_before low_rest high_middle h
     sym (ap (entries_between low high) split) ∙ entries_between-found_parts low high (take from refs) (take count rest)
     (drop count rest) low_before low_middle high_middle high_after
 
--- along an ordered list the places of a monotone probe rise
+-- along an ordered list the results of a monotone probe are ascending
 pub IsNonDecreasingBy-places : (Covers : RowRef → Type 0) (cmp : RowRef → RowRef → Ordering) (refs : List RowRef) → IsOrdered Covers cmp refs
     → (Reaches : RowRef → Type 0) (place : RowRef → Ordering) → IsMonotone Covers cmp Reaches place → IsNonDecreasingBy (λ a. ordering_index (place a)) refs
 IsNonDecreasingBy-places Covers cmp refs was Reaches place monotone i j d upto within =
@@ -87,21 +87,21 @@ IsNonDecreasingBy-places Covers cmp refs was Reaches place monotone i j d upto w
 -- ---- edits
 
 module _ (cmp : RowRef → RowRef → Ordering) (refs : List RowRef) (added : RowRef) (more : List RowRef) (adds : AddsInOrder cmp refs added more) where
-  -- what holds of the new reference and of the old ones holds of all
+  -- a property of the new reference and of the old ones holds for all
   pub All-added : (P : RowRef → Type 0) → All P refs → P added → All P more
   All-added P all here =
       let parts : All P (adds.front ++ adds.back) = subst (All P) adds.refs_are all in
       subst (All P) (sym adds.more_are) (All-append P adds.front (added ∷ adds.back) (All-append_left P adds.front adds.back parts)
       (All-cons P added adds.back here (All-append_right P adds.front adds.back parts)))
 
-  -- what holds of all holds without one
+  -- a property of all references holds without one
   pub All-removed : (P : RowRef → Type 0) → All P more → All P refs
   All-removed P all =
       let parts : All P (adds.front ++ added ∷ adds.back) = subst (All P) adds.more_are all in
       subst (All P) (sym adds.refs_are) (All-append P adds.front adds.back (All-append_left P adds.front (added ∷ adds.back) parts)
       (All-tail P added adds.back (All-append_right P adds.front (added ∷ adds.back) parts)))
 
-  -- the new list holds the new reference and the old ones
+  -- the new list has the new reference and the old ones
   pub IsPermutation-added : IsPermutation more (added ∷ refs)
   IsPermutation-added =
       subst (λ xs. IsPermutation xs (added ∷ refs)) (sym adds.more_are)
@@ -111,7 +111,7 @@ module _ (Covers : RowRef → Type 0) (cmp : RowRef → RowRef → Ordering) whe
   Below : RowRef → RowRef → Type 0
   Below a b = cmp a b ≡ Less
 
-  -- with a covered reference at its place an ordered list is ordered
+  -- an ordered list with a covered reference inserted in order is ordered
   pub IsOrdered-added : (refs : List RowRef) (added : RowRef) (more : List RowRef) → IsOrdered Covers cmp refs → Covers added → AddsInOrder cmp refs added more
       → IsOrdered Covers cmp more
   unfolding Below
@@ -128,7 +128,7 @@ module _ (Covers : RowRef → Type 0) (cmp : RowRef → RowRef → Ordering) whe
             (λ k d below. All-cons (Below (get_or adds.front k d)) added adds.back (adds.above_front k d below) (across k d below)));
       }
 
-  -- without one of its references an ordered list is ordered
+  -- an ordered list without one of its references is ordered
   pub IsOrdered-removed : (refs : List RowRef) (gone : RowRef) (more : List RowRef) → IsOrdered Covers cmp more → AddsInOrder cmp refs gone more
       → IsOrdered Covers cmp refs
   unfolding Below
@@ -144,7 +144,7 @@ module _ (Covers : RowRef → Type 0) (cmp : RowRef → RowRef → Ordering) whe
             (λ k d below. All-tail (Below (get_or adds.front k d)) gone adds.back (across k d below)));
       }
 
-  -- ---- a search that found the place of a reference
+  -- ---- a search that found the position of a reference
 
   reverse_self : (o : Ordering) → o ≡ ordering_reverse o → o ≢ Less
   reverse_self Less e = λ _. cc
@@ -165,7 +165,7 @@ module _ (Covers : RowRef → Type 0) (cmp : RowRef → RowRef → Ordering) whe
         let at_first : get_or (drop at refs) 0 sought ≡ get_or refs at sought = get_or-drop at refs 0 sought ∙ ap (λ n. get_or refs n sought) (add-zero at) in
         rest 0 sought (omega (arith, length-drop at refs)) (ap (λ a. cmp a sought) at_first ∙ here)
 
-    -- a reference that stands anywhere stands at its place
+    -- a reference of the list is at its position
     pub stands_at_place : Contains refs sought → (at < length refs) × (get_or refs at sought ≡ sought)
     stands_at_place (k, within, is) =
         ⊎_elim
@@ -173,7 +173,7 @@ module _ (Covers : RowRef → Type 0) (cmp : RowRef → RowRef → Ordering) whe
         (λ (apart : (k < at) ⊎ (at < k)). absurd (⊎_elim (not_before k within is) (not_after k within is) apart))
         (cases_order k at)
 
-    -- taken out at its place
+    -- removing the reference at its position
     pub AddsInOrder-found : at < length refs → get_or refs at sought ≡ sought → AddsInOrder cmp (take at refs ++ drop (suc at) refs) sought refs
     AddsInOrder-found within is =
         let split : refs ≡ take at refs ++ sought ∷ drop (suc at) refs = sym (take-append-drop at refs)

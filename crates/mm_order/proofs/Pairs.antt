@@ -1,4 +1,4 @@
--- What holds of each element, and of each element and each later one, of a list in two parts.
+-- Properties of each element, and of each element and each later one, of a list in two parts.
 use Rattle.std.proofs.Common.{◌≡◌, ◌+◌, ◌-◌, ◌<◌, ◌≤◌, List, [], ◌∷◌, ◌++◌, length, get_or, sym, subst, ⊎_elim, arith, length-append}
 use Rattle.std.proofs.lemmas.Bool.{cases_lt}
 use Rattle.std.proofs.lemmas.List.{get_or_append_left, get_or-append-add, get_or_default}
@@ -15,7 +15,7 @@ module _ {X : Type 0} (P : X → Type 0) where
       subst P (get_or-append-add xs ys k d) (all (length xs + k) d (omega (arith, length-append xs ys)))
 
 module _ {X : Type 0} (R : X → X → Type 0) where
-  -- each element of xs stands in R to each of ys
+  -- the relation R holds between each element of xs and each of ys
   abbrev pub AllAcross : List X → List X → Type 0
   AllAcross xs ys = All (λ x. All (R x) ys) xs
 

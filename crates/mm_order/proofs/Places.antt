@@ -1,4 +1,4 @@
--- What one answer of a probe tells of the entries before and after it, where the places rise along the list.
+-- One result of a probe determines those of the entries before or after it, if the results are ascending along the list.
 use Rattle.std.proofs.Common.{◌≡◌, ◌≢◌, ℕ, ◌+◌, ◌<◌, ◌≤◌, true, false, List, length, get_or, refl, subst, arith}
 use Rattle.std.proofs.lemmas.List.{get_or_default}
 use Rattle.std.specs.List.{AllWithin}
@@ -7,15 +7,15 @@ use Rattle.std.specs.Ordering.{ordering_index, is_lt, is_le}
 use Rattle.std.specs.declared.cmp.Ordering.{Ordering}
 use Rattle.std.specs.declared.cmp.Ordering.TheVariants.{Less, Equal, Greater}
 
--- ---- one answer
+-- ---- one result
 
--- what is not after Less is Less
+-- only Less is not after Less
 pub less_below : (o : Ordering) → ordering_index o ≤ ordering_index Less → o ≡ Less
 less_below Less h = refl
 less_below Equal h = absurd (omega arith)
 less_below Greater h = absurd (omega arith)
 
--- what is not before Greater is Greater
+-- only Greater is not before Greater
 pub greater_above : (o : Ordering) → ordering_index Greater ≤ ordering_index o → o ≡ Greater
 greater_above Less h = absurd (omega arith)
 greater_above Equal h = absurd (omega arith)
@@ -54,22 +54,22 @@ module _ {X : Type 0} (place : X → Ordering) (xs : List X) (at : ℕ) (d : X) 
   from_on k e above inside =
       subst (λ y. ordering_index (place y) ≤ ordering_index (place (get_or xs k e))) (get_or_default xs at e d within) (rise at k e above inside)
 
-  -- up to an entry that lies before the sought place all do
+  -- all entries up to one before the position are before it
   pub less_up_to : place (get_or xs at d) ≡ Less → AllWithin (λ x. place x ≡ Less) xs 0 (at + 1)
   less_up_to is k e _ below =
       less_below (place (get_or xs k e)) (subst (λ o. ordering_index (place (get_or xs k e)) ≤ ordering_index o) is (up_to k e (omega arith)))
 
-  -- from an entry on that does not lie before the sought place none does
+  -- no entry from one that is not before the position on is before it
   pub not_less_from : place (get_or xs at d) ≢ Less → AllWithin (λ x. place x ≢ Less) xs at (length xs)
   not_less_from is k e above inside less =
       is (less_below (place (get_or xs at d)) (subst (λ o. ordering_index (place (get_or xs at d)) ≤ ordering_index o) less (from_on k e above inside)))
 
-  -- up to an entry that does not lie after the sought place none does
+  -- no entry up to one that is not after the position is after it
   pub not_greater_up_to : place (get_or xs at d) ≢ Greater → AllWithin (λ x. place x ≢ Greater) xs 0 (at + 1)
   not_greater_up_to is k e _ below greater =
       is (greater_above (place (get_or xs at d)) (subst (λ o. ordering_index o ≤ ordering_index (place (get_or xs at d))) greater (up_to k e (omega arith))))
 
-  -- from an entry on that lies after the sought place all do
+  -- all entries from one after the position on are after it
   pub greater_from : place (get_or xs at d) ≡ Greater → AllWithin (λ x. place x ≡ Greater) xs at (length xs)
   greater_from is k e above inside =
       greater_above (place (get_or xs k e)) (subst (λ o. ordering_index o ≤ ordering_index (place (get_or xs k e))) is (from_on k e above inside))

@@ -1,4 +1,4 @@
--- An ordered list is known by what it holds.
+-- An ordered list is determined by its elements.
 use Rattle.std.proofs.Common.{◌≡◌, ◌⊎◌, List, [], ◌∷◌, get_or, refl, sym, ap, ◌∙◌, subst, inl, inr, ⊎_elim, arith}
 use Rattle.std.proofs.lemmas.List.Elements.{All-head, All-tail, All-contains, Contains-append_cases, Contains-append_left, Contains-append_right, Contains-push}
 use Rattle.std.specs.List.{All, Contains}
@@ -58,7 +58,7 @@ module _ (Covers : RowRef → Type 0) (cmp : RowRef → RowRef → Ordering) (to
       (cons_cases a b xs b_there))
       (cons_cases b a ys a_there)
 
-  -- what stands in the rest of one list stands in the rest of the other, where both begin alike
+  -- an element of the rest of one list is in the rest of the other, if both lists have the same first element and the same elements
   rest_within : (a : RowRef) (xs ys : List RowRef) → IsOrdered Covers cmp (a ∷ xs) → ((c : RowRef) → Contains (a ∷ xs) c → Contains (a ∷ ys) c) → (c : RowRef)
       → Contains xs c → Contains ys c
   rest_within a xs ys in_xs through c here =
@@ -67,7 +67,7 @@ module _ (Covers : RowRef → Type 0) (cmp : RowRef → RowRef → Ordering) (to
       (λ (there : Contains ys c). there)
       (cons_cases a c ys (through c (Contains-append_right (a ∷ []) xs c here)))
 
-  -- two ordered lists that hold the same references are one list
+  -- two ordered lists with the same references are equal
   pub same_from_same_references : (xs ys : List RowRef) → IsOrdered Covers cmp xs → IsOrdered Covers cmp ys → ((c : RowRef) → Contains xs c → Contains ys c)
       → ((c : RowRef) → Contains ys c → Contains xs c) → xs ≡ ys
   same_from_same_references [] [] in_xs in_ys there back = refl

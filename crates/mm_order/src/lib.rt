@@ -1,6 +1,6 @@
-//! Ordered lists of row references, under any lawful order.
+//! Ordered lists of row references, under any total order.
 //!
-//! A call that may take memory is handed the allocator; no other call takes any.
+//! Every public function that may allocate has a parameter for the allocator.
 #![tactic(auto)]
 
 mod ordered_refs;

@@ -1,4 +1,4 @@
-//! What every ordered list of references offers.
+//! The interface of ordered lists of references.
 ghost use Rattle.std.specs.Prelude.{◌≡◌, ◌≢◌, ℕ, ◌+◌, ◌≤◌, ◌↔◌, List, ◌++◌, length, All, Contains, IsTrue, IsOk, OnOk, OnErr};
 ghost use Rattle.std.specs.Bool.{OnTrue, OnFalse};
 ghost use Rattle.std.specs.declared.cmp.Ordering.TheVariants.{Equal};
@@ -12,32 +12,30 @@ use crate::ref_order::RefOrder;
 use mm_value::RowRef;
 use std::alloc::{AllocError, Global};
 
-/// A list of references in ascending order. It keeps no order of its own: each call that
-/// searches is handed the order by which the list is sorted, and no call but `reserve` grows it.
+/// A list of references in ascending order. It stores no order: each call that searches receives the order by which the list is sorted.
+/// Only `reserve` increases its capacity.
 pub trait OrderedRefs {
     ghost refs: { Self → List RowRef };
 
     ghost spare: { Self → ℕ };
 
-    /// How many references it holds.
+    /// Returns the number of references.
     fn len(&self) -> usize
         ensures { result ≡ length (refs self.now) };
 
-    /// How many more references it takes for certain without growing.
+    /// Returns the number of further references that fit the capacity.
     fn spare(&self) -> usize
         ensures { result ≡ spare self.now };
 
-    /// Makes room for at least `n` more references. The list stays, and so does the room that was
-    /// there. Where that is room enough it takes no memory and succeeds; `AllocError` where memory
-    /// is refused.
+    /// Reserves capacity for at least `n` more references. If the capacity is already there, allocates nothing and succeeds. Fails with
+    /// `AllocError` if an allocation fails. In any case the list is unchanged, and no capacity is lost.
     fn reserve(&mut self, alloc: Global, n: usize) -> Result<(), AllocError>
         ensures room { OnOk result (n ≤ spare self.new) }
         ensures met { n ≤ spare self.old → IsOk result }
         ensures refs { refs self.new ≡ refs self.old }
         ensures spare { spare self.old ≤ spare self.new };
 
-    /// Puts a reference at its place in the order, where no entry compares equal to it. It takes at
-    /// most one of the spare places.
+    /// Inserts a reference in order. Requires that no entry compares equal to it. Uses at most one unit of the capacity.
     fn insert<O: RefOrder>(&mut self, order: &O, added: RowRef)
         requires room { 1 ≤ spare self.old }
         requires ordered { IsOrdered (O.covers order.now) (O.cmp order.now) (refs self.old) }
@@ -47,8 +45,7 @@ pub trait OrderedRefs {
         ensures ordered { IsOrdered (O.covers order.now) (O.cmp order.now) (refs self.new) }
         ensures spare { spare self.old ≤ spare self.new + 1 };
 
-    /// Takes a reference out, and says whether it was there. Another reference that compares equal
-    /// to it stays.
+    /// Removes a reference, and returns whether it was in the list. Another reference that compares equal to it stays.
     fn remove<O: RefOrder>(&mut self, order: &O, gone: RowRef) -> bool
         requires ordered { IsOrdered (O.covers order.now) (O.cmp order.now) (refs self.old) }
         requires covered { O.covers order.now gone }
@@ -59,8 +56,8 @@ pub trait OrderedRefs {
         ensures ordered { IsOrdered (O.covers order.now) (O.cmp order.now) (refs self.new) }
         ensures spare { spare self.old ≤ spare self.new };
 
-    /// Appends to `out`, in order, the entries that lie neither before the place of `low` nor after
-    /// that of `high`. `AllocError` where memory is refused; then `out` holds what it held.
+    /// Appends to `out`, in order, the entries that are neither before the position of `low` nor after that of `high`. Fails with
+    /// `AllocError` if an allocation fails; then `out` is unchanged.
     fn copy_range<O: RefOrder, L: Probe, H: Probe>(
         &self,
         alloc: Global,

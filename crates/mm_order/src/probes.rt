@@ -1,4 +1,4 @@
-//! Sought places along an order.
+//! Positions in an order.
 ghost use Rattle.std.specs.Prelude.{◌≡◌};
 ghost use Rattle.std.specs.declared.cmp.Ordering.{Ordering};
 ghost use Rattle.mm_value.specs.declared.row_ref.RowRef.{RowRef};
@@ -7,26 +7,25 @@ use crate::ref_order::RefOrder;
 use mm_value::RowRef;
 use std::cmp::Ordering;
 
-/// A sought place along an order, as a value to look up or the end of a range.
+/// A position that is searched for in an order, such as a value to look up or a bound of a range.
 pub trait Probe {
     ghost covers: { Self → RowRef → Type 0 };
 
     ghost place_of: { Self → RowRef → Ordering };
 
-    /// Where the entry `at` lies: `Less` before the sought place, `Greater` after it, `Equal`
-    /// where it fits.
+    /// Compares the entry `at` with the position: `Less` before it, `Greater` after it, and `Equal` for a match.
     fn place(&self, at: RowRef) -> Ordering
         requires { covers self.now at }
         ensures { result ≡ place_of self.now at };
 }
 
-/// The place of one reference along an order. It answers `Equal` for the reference itself and for any entry that
-/// compares equal to it. The order has to cover it.
+/// The position of a reference in an order. Its result is `Equal` for the reference itself and for any entry that compares equal to it. The
+/// order must cover the reference.
 #[derive(Drop)]
 pub struct AtReference<'a, O> {
-    /// The order along which the place is sought.
+    /// The order that is searched.
     pub order: &'a O,
-    /// The reference whose place it is.
+    /// The reference whose position is searched for.
     pub sought: RowRef,
 }
 

@@ -7,14 +7,14 @@ ghost use Rattle.mm_order.specs.Order.{IsTotalOrderOn};
 use mm_value::RowRef;
 use std::cmp::Ordering;
 
-/// A total order on the references that it covers. An order of an index borrows the rows and
-/// compares what stands in them, so it covers the references of rows alone.
+/// A total order on the references that it covers. The order of an index borrows the rows and compares their values, so it covers only
+/// references of existing rows.
 pub trait RefOrder {
     ghost covers: { Self → RowRef → Type 0 };
 
     ghost cmp: { Self → RowRef → RowRef → Ordering };
 
-    /// How `a` stands to `b`.
+    /// Compares `a` with `b`.
     fn compare(&self, a: RowRef, b: RowRef) -> Ordering
         requires a_covered { covers self.now a }
         requires b_covered { covers self.now b }

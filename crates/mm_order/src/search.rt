@@ -1,6 +1,5 @@
-//! Binary search by a probe (Knuth, The Art of Computer Programming, volume 3, section 6.2.1).
-//! The slice's own `partition_point` asks for a test that answers for every reference; a probe answers only for those
-//! that it covers.
+//! Binary search with a probe (Knuth, The Art of Computer Programming, volume 3, section 6.2.1). The slice's own `partition_point` requires
+//! a predicate for every reference, and a probe compares only references that it covers.
 ghost use Rattle.std.specs.Prelude.{◌≡◌, ◌≢◌, ◌≤◌, length, take, drop, All};
 ghost use Rattle.std.specs.List.Sorted.{IsNonDecreasingBy};
 ghost use Rattle.std.specs.Ordering.{ordering_index};
@@ -9,7 +8,7 @@ use crate::probes::Probe;
 use mm_value::RowRef;
 use std::cmp::Ordering;
 
-/// How many entries lie before the place of the probe.
+/// Returns the number of entries before the position of the probe.
 pub fn lower_bound<P: Probe>(probe: &P, refs: &[RowRef]) -> usize
     requires covered { All (P.covers probe.now) refs.now }
     requires rising { IsNonDecreasingBy (λ a. ordering_index (P.place_of probe.now a)) refs.now }
@@ -30,7 +29,7 @@ pub fn lower_bound<P: Probe>(probe: &P, refs: &[RowRef]) -> usize
     low
 }
 
-/// How many entries do not lie after the place of the probe.
+/// Returns the number of entries that are not after the position of the probe.
 pub fn upper_bound<P: Probe>(probe: &P, refs: &[RowRef]) -> usize
     requires covered { All (P.covers probe.now) refs.now }
     requires rising { IsNonDecreasingBy (λ a. ordering_index (P.place_of probe.now a)) refs.now }

@@ -6,8 +6,8 @@ use mm_value::RowRef;
 use std::cmp::Ordering;
 use std::marker::Model;
 
-/// One search: a probe, and how often it was asked. The probe is reached by [`Seek::place`] alone,
-/// so the count bounds the steps of whoever is handed the search.
+/// A search: a probe, and the number of its comparisons. The probe is accessible through [`Seek::place`] only, so the count bounds the
+/// comparisons of the code that receives the search.
 #[derive(Drop)]
 pub struct Seek<'a, P> {
     probe: &'a P,
@@ -23,14 +23,14 @@ impl<'a, P> Model for Seek<'a, P> {
 }
 
 impl<'a, P> Seek<'a, P> {
-    /// A search by this probe that has asked nothing yet.
+    /// Returns a search with this probe, without comparisons.
     pub fn new(probe: &'a P) -> Self
         ensures { result ≡ record { probe = probe.now; count = 0 } }
     {
         Seek { probe, count: 0 }
     }
 
-    /// How often the probe was asked, at most `u64::MAX`.
+    /// Returns the number of comparisons, at most `u64::MAX`.
     pub fn count(&self) -> u64
         ensures { result ≡ self.now.count }
     {
@@ -39,8 +39,7 @@ impl<'a, P> Seek<'a, P> {
 }
 
 impl<'a, P: Probe> Seek<'a, P> {
-    /// Asks the probe where `at` lies. The probe stays, and the count rises by one, up to
-    /// `u64::MAX`.
+    /// Compares `at` with the position of the probe. The probe is unchanged, and the count grows by 1, up to `u64::MAX`.
     pub fn place(&mut self, at: RowRef) -> Ordering
         requires { P.covers self.old.probe at }
         ensures answer { result ≡ P.place_of self.old.probe at }

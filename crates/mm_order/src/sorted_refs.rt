@@ -1,4 +1,4 @@
-//! Ordered references in a vector.
+//! Ordered references as a vector.
 ghost use Rattle.std.specs.Prelude.{◌≡◌, ◌-◌, [], vec_len};
 ghost use Rattle.std.specs.Vec.{vec_capacity};
 
@@ -10,8 +10,7 @@ use mm_value::RowRef;
 use std::alloc::{AllocError, Global};
 use std::marker::Model;
 
-/// The vector form of [`OrderedRefs`]: a search halves the list, an edit moves the entries behind
-/// its place.
+/// [`OrderedRefs`] as a vector: a search is binary, and an insert or removal moves the later entries.
 #[derive(Drop)]
 pub struct SortedRefs {
     refs: Vec<RowRef>,
@@ -28,7 +27,7 @@ impl Model for SortedRefs {
 }
 
 impl SortedRefs {
-    /// No references. It takes no memory.
+    /// Returns an empty list. Allocates nothing.
     pub fn new(alloc: Global) -> Self
         ensures { result ≡ record { refs = []; spare = 0 } }
     {

@@ -1,4 +1,4 @@
--- What stands at a reference, after a slot or its cells are written.
+-- The content of a reference, after its slot or its cells are written.
 use Rattle.std.proofs.Common.{◌≡◌, ◌≢◌, ℕ, zero, suc, ◌+◌, ◌^◌, ◌<◌, List, [], ◌∷◌, ◌++◌, Option, Some, None, length, map, get_or, set, refl}
 use Rattle.std.proofs.Common.{sym, ap, ◌∙◌, subst, ⊎_elim, arith}
 use Rattle.std.specs.Prelude.{slice_get}
@@ -21,7 +21,7 @@ use Rattle.mm_partition.specs.Places.{Content, Places, Free, Live, Hidden, slot_
 use Rattle.mm_partition.specs.Places.{AreRowsStorable, AreReferencesSmall, IsStorableIn}
 use Rattle.mm_partition.specs.Stored.{content, contents_from}
 
--- states that are written or appended
+-- states after a write or an append
 pub slice_get-set_same : (states : List State) (i : ℕ) (s : State) → i < length states → slice_get (set states i s) i ≡ Some s
 slice_get-set_same [] i s within = absurd (let no : ⊥ = omega arith in no)
 slice_get-set_same (x ∷ xs) zero s within = refl
@@ -48,7 +48,7 @@ pub length-contents : (i : ℕ) (columns : List Column) (states : List State) �
 length-contents i columns [] = refl
 length-contents i columns (s ∷ ss) = ap (λ k. suc k) (length-contents (suc i) columns ss)
 
--- what a slot holds that may not be there
+-- the content of a slot that may not exist
 abbrev pub content_if : Option State → List Value → Content
 content_if None row = Free
 content_if (Some s) row = content s row
@@ -66,11 +66,11 @@ pub get_or-contents : (k : ℕ) (columns : List Column) (states : List State)
 get_or-contents k columns states =
     get_or-contents_from 0 k columns states ∙ ap (λ n. content_if (slice_get states k) (row_of columns n)) (let e : 0 + k ≡ k = omega arith in e)
 
--- a table of these columns and states
+-- partitions with these columns and states
 abbrev pub places_of : List Column → List State → ℕ → Places
 places_of columns states room = record { slots = contents_from 0 columns states; room = room; types = types_of columns }
 
--- what the slot at an index holds
+-- the content of the slot at an index
 pub content_at-is : (columns : List Column) (states : List State) (room : ℕ) (old : Places) (i : ℕ) → places_of columns states room ≡ old
     → content_if (slice_get states i) (row_of columns i) ≡ content_at old i
 content_at-is columns states room old i view = sym (get_or-contents i columns states) ∙ ap (λ (p : Places). content_at p i) view
@@ -93,7 +93,7 @@ hidden_in (Some state.Free) r row is = cc
 hidden_in (Some state.Live) r row is = cc
 hidden_in (Some state.Hidden) r row is = let e : r ≡ row = cc in (refl, e)
 
--- a slot with a row in use
+-- a live slot
 pub live_slot : (columns : List Column) (states : List State) (room : ℕ) (old : Places) (row : List Value) (i : ℕ)
     → places_of columns states room ≡ old → content_at old i ≡ Live row → Stands columns states i state.Live row
 live_slot columns states room old row i view is =
@@ -119,17 +119,17 @@ pub hidden_within : (columns : List Column) (states : List State) (room : ℕ) (
     → places_of columns states room ≡ old → slot_at old at ≡ Hidden row → at.slot < length states
 hidden_within columns states room old at row view is = (hidden_at columns states room old at row at.slot view refl is).within
 
--- two references to one slot are one
+-- two references to one slot are equal
 same_reference : (a b : RowRef) → a.slot ≡ b.slot → a ≡ b
 same_reference a b same = ap {B = RowRef} (λ s. record { slot = s }) same
 
--- One slot holds something else, since its state or its cells are written, and the others hold what they held.
+-- The content of one slot is another, since its state or its cells were written, and the other slots are unchanged.
 pub record Written (old_columns new_columns : List Column) (old_states new_states : List State) (i : ℕ) (now : Content) : Type 0 where
   pub here : content_if (slice_get new_states i) (row_of new_columns i) ≡ now
   pub states : (k : ℕ) → k ≢ i → slice_get new_states k ≡ slice_get old_states k
   pub cells : (k : ℕ) → k ≢ i → row_of new_columns k ≡ row_of old_columns k
 
--- what the other slots hold
+-- the content of the other slots
 others_hold : (old_columns new_columns : List Column) (old_states new_states : List State) (i : ℕ) (now : Content) (k : ℕ)
     → Written old_columns new_columns old_states new_states i now → k ≢ i
     → content_if (slice_get new_states k) (row_of new_columns k) ≡ content_if (slice_get old_states k) (row_of old_columns k)
@@ -156,7 +156,7 @@ ChangesOnly-at old old_columns new_columns old_states new_states old_room new_ro
     subst (λ p. ChangesOnly p (places_of new_columns new_states new_room) at now) view
     (changes-at old_columns new_columns old_states new_states old_room new_room i at now place written)
 
--- each row has values that a program can have, as `IsStored` has it
+-- each row has values within their limits, as `IsStored` states it
 abbrev pub Storable : List Column → List State → Type 0
 Storable columns states = (i : ℕ) → IsStorableIn (get_or (contents_from 0 columns states) i Free)
 
@@ -170,7 +170,7 @@ Storable-written old_columns new_columns old_states new_states i now written sto
     (get_or-contents k old_columns old_states ∙ sym (others_hold old_columns new_columns old_states new_states i now k written apart)) (old k))
     (cases_eq k i))
 
--- a slot with a row is in another state, or has other values in its cells
+-- a slot with a row gets another state or other values
 pub Written-slot : (old_columns new_columns : List Column) (states : List State) (i : ℕ) (s : State) (row : List Value) → i < length states
     → row_of new_columns i ≡ row → ((k : ℕ) → k ≢ i → row_of new_columns k ≡ row_of old_columns k)
     → Written old_columns new_columns states (set states i s) i (content s row)
@@ -201,7 +201,7 @@ Written-pushed old_columns new_columns states new_states i s row place pushed ro
   cells = others;
 }
 
--- the values of a row that stands in a slot
+-- the values of the row in a slot
 pub stored_in : (columns : List Column) (states : List State) (i : ℕ) (s : State) (row : List Value) → slice_get states i ≡ Some s → row_of columns i ≡ row
     → Storable columns states → IsStorableIn (content s row)
 stored_in columns states i s row state_is row_is all =
@@ -209,26 +209,26 @@ stored_in columns states i s row state_is row_is all =
     (get_or-contents i columns states ∙ (ap (λ x. content_if x (row_of columns i)) state_is ∙ ap (content s) row_is))
     (all i)
 
--- what is known of each slot's content is known of what stands at each reference
+-- a property of the contents of all slots holds for all references
 pub rows_storable : (columns : List Column) (states : List State) (room : ℕ) (old : Places) → places_of columns states room ≡ old
     → Storable columns states → AreRowsStorable old
 rows_storable columns states room old view all at = subst (λ (p : Places). IsStorableIn (slot_at p at)) view (all at.slot)
 
--- references to live rows are small where there are few slots
+-- live references are small if there are few slots
 pub references_small : (columns : List Column) (states : List State) (room : ℕ) (old : Places) → places_of columns states room ≡ old
     → length states < 2 ^ 32 → AreReferencesSmall old
 references_small columns states room old view few at (row, is) = omega (arith, live_within columns states room old at row view is, few)
 
--- how many slots there are
+-- the number of slots
 pub extent_is : (columns : List Column) (states : List State) (room : ℕ) (old : Places) → places_of columns states room ≡ old → extent_of old ≡ length states
 extent_is columns states room old view = ap (λ (p : Places). length p.slots) (sym view) ∙ length-contents 0 columns states
 
--- a slot that is free
+-- a free slot
 pub free_at : (columns : List Column) (states : List State) (room : ℕ) (old : Places) (at : RowRef) (i : ℕ) → places_of columns states room ≡ old
     → at.slot ≡ i → content_if (slice_get states i) (row_of columns i) ≡ Free → slot_at old at ≡ Free
 free_at columns states room old at i view place free = ap (content_at old) place ∙ (sym (content_at-is columns states room old i view) ∙ free)
 
--- what a live row has in a column is what its cell has
+-- the value of a live row in a column is the value of its cell
 pub cell_at : (columns : List Column) (states : List State) (room : ℕ) (old : Places) (row : List Value) (i column : ℕ) (c : Column)
     → places_of columns states room ≡ old → content_at old i ≡ Live row → column < length columns → c ≡ get_or columns column c
     → slice_get row column ≡ Some (cell c i)
@@ -247,7 +247,7 @@ value_at columns states room old at row i column c view place is within read =
 pub width_is : (columns : List Column) (states : List State) (room : ℕ) (old : Places) → places_of columns states room ≡ old → length old.types ≡ length columns
 width_is columns states room old view = ap (λ (p : Places). length p.types) (sym view) ∙ length-map columns type_in
 
--- each row stays where the states and the rows do
+-- each row is unchanged if the states and the cells are
 pub IsUnchanged-at : (old : Places) (old_columns new_columns : List Column) (old_states new_states : List State) (old_room new_room : ℕ)
     → places_of old_columns old_states old_room ≡ old → new_states ≡ old_states → ((k : ℕ) → row_of new_columns k ≡ row_of old_columns k)
     → IsUnchanged old (places_of new_columns new_states new_room)
@@ -256,7 +256,7 @@ IsUnchanged-at old old_columns new_columns old_states new_states old_room new_ro
     ∙ (ap (λ xs. content_if (slice_get xs at.slot) (row_of new_columns at.slot)) same
     ∙ (ap (λ r. content_if (slice_get old_states at.slot) r) (rows at.slot) ∙ content_at-is old_columns old_states old_room old at.slot view))
 
--- .. and so do its values
+-- the values stay within their limits
 pub Storable-same : (old_columns new_columns : List Column) (old_states new_states : List State) → new_states ≡ old_states
     → ((k : ℕ) → row_of new_columns k ≡ row_of old_columns k) → Storable old_columns old_states → Storable new_columns new_states
 Storable-same old_columns new_columns old_states new_states same rows all i =
@@ -266,7 +266,7 @@ Storable-same old_columns new_columns old_states new_states same rows all i =
     ∙ (ap (λ r. content_if (slice_get new_states i) r) (sym (rows i)) ∙ sym (get_or-contents i new_columns new_states))))
     (all i)
 
--- a live row is of the types of the columns
+-- a live row has the types of the columns
 pub live_typed : (columns : List Column) (states : List State) (room : ℕ) (old : Places) (at : RowRef) (row : List Value)
     → places_of columns states room ≡ old → slot_at old at ≡ Live row → HasTypes old.types row
 live_typed columns states room old at row view is =
@@ -274,7 +274,7 @@ live_typed columns states room old at row view is =
     subst (HasTypes old.types) stands.row_is
     (subst (λ (p : Places). HasTypes p.types (row_of columns at.slot)) view (row_of-typed columns at.slot))
 
--- what the slots hold stays where the rows do
+-- the contents are unchanged if the cells are
 contents-same : (i : ℕ) (old_columns new_columns : List Column) (states : List State) → ((k : ℕ) → row_of new_columns k ≡ row_of old_columns k)
     → contents_from i new_columns states ≡ contents_from i old_columns states
 contents-same i old_columns new_columns [] rows = refl
@@ -282,7 +282,7 @@ contents-same i old_columns new_columns (s ∷ ss) rows =
     ap (λ r. content s r ∷ contents_from (suc i) new_columns ss) (rows i)
     ∙ ap (λ cs. content s (row_of old_columns i) ∷ cs) (contents-same (suc i) old_columns new_columns ss rows)
 
--- a column is written that keeps its type and its cells
+-- writing a column that keeps its type and its cells changes nothing
 pub places-same : (columns : List Column) (states : List State) (room i : ℕ) (c new : Column) (old : Places) → places_of columns states room ≡ old
     → c ≡ get_or columns i c → type_in new ≡ type_in c → ((k : ℕ) → cell new k ≡ cell c k) → places_of (set columns i new) states room ≡ old
 places-same columns states room i c new old view read typed cells =
@@ -291,7 +291,7 @@ places-same columns states room i c new old view read typed cells =
     ∙ (ap (λ (ts : List ColType). record { slots = contents_from 0 columns states; room = room; types = ts }) (types_of-set columns i c new read typed)
     ∙ view)
 
--- the prefix of what a live row has in a column is that of its cell
+-- the prefix of a live row in a column is that of its cell
 pub prefix_at : (columns : List Column) (states : List State) (room : ℕ) (old : Places) (at : RowRef) (row : List Value) (i column : ℕ) (c : Column)
     → places_of columns states room ≡ old → at.slot ≡ i → slot_at old at ≡ Live row → column < length columns → c ≡ get_or columns column c
     → row_prefix column row ≡ order_prefix (cell c i)

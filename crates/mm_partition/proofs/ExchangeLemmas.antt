@@ -1,4 +1,4 @@
--- Two slots whose cells change places.
+-- Two slots whose cells are exchanged.
 use Rattle.std.proofs.Common.{◌≡◌, ◌≢◌, ℕ, ◌+◌, ◌<◌, ◌⊎◌, List, [], ◌∷◌, length, map, get_or, set, swap, Option, Some, None, refl, sym, ap, ◌∙◌, subst, ⊎_elim}
 use Rattle.std.specs.Prelude.{slice_get}
 use Rattle.std.proofs.lemmas.Bool.{cases_eq}
@@ -25,7 +25,7 @@ map-swap f (d ∷ ys) a b in_a in_b =
     ∙ (ap (λ x. set (set (map f (d ∷ ys)) a x) b (f (get_or (d ∷ ys) a d))) (sym (get_or-map f (d ∷ ys) b d (f d) in_b))
     ∙ ap (λ x. set (set (map f (d ∷ ys)) a (get_or (map f (d ∷ ys)) b (f d))) b x) (sym (get_or-map f (d ∷ ys) a d (f d) in_a))))
 
--- the cells of a slot that takes those of another, one column further
+-- the cells of a slot that gets those of another one, after one more column
 pub taken-more : (cs cs0 : List Column) (i a b : ℕ) (c new : Column) → row_of cs a ≡ seam i (row_of cs0 b) (row_of cs0 a) → i < length cs0
     → c ≡ get_or cs0 i c → cell new a ≡ cell c b → row_of (set cs i new) a ≡ seam (i + 1) (row_of cs0 b) (row_of cs0 a)
 taken-more cs cs0 i a b c new so_far within column taken =
@@ -72,7 +72,7 @@ module _ (old : Places) (old_columns new_columns : List Column) (states : List S
       (cases_eq k j))
       (cases_eq k i))
 
--- what stands at a reference whose slot is in a state that was read
+-- the content of a reference whose slot's state was read
 pub slot_read : (columns : List Column) (states : List State) (room : ℕ) (old : Places) (at : RowRef) (i : ℕ) (s : State)
     → places_of columns states room ≡ old → at.slot ≡ i → i < length states → s ≡ get_or states i s → slot_at old at ≡ content_if (Some s) (row_of columns i)
 slot_read columns states room old at i s view place within read =
@@ -81,14 +81,14 @@ slot_read columns states room old at i s view place within read =
     ∙ (ap (λ k. content_if (slice_get states k) (row_of columns k)) place
     ∙ ap (λ x. content_if x (row_of columns i)) (slice_get_read states (length states) i s refl within read)))
 
--- .. which is no hidden row where the state is another
+-- it is not a hidden row if the state is another
 pub not_hidden : (s : State) (row other : List Value) → (s ≡ state.Free) ⊎ (s ≡ state.Live) → content_if (Some s) row ≡ Hidden other → ⊥
 not_hidden state.Free row other is e = cc
 not_hidden state.Live row other is e = cc
 not_hidden state.Hidden row other is e =
     ⊎_elim (λ (a : state.Hidden ≡ state.Free). let no : ⊥ = cc in no) (λ (a : state.Hidden ≡ state.Live). let no : ⊥ = cc in no) is
 
--- what a hidden row has in a column is what its cell has
+-- the value of a hidden row in a column is the value of its cell
 pub hidden_value_at : (columns : List Column) (states : List State) (room : ℕ) (old : Places) (at : RowRef) (row : List Value) (i column : ℕ) (c : Column)
     → places_of columns states room ≡ old → at.slot ≡ i → slot_at old at ≡ Hidden row → column < length columns → c ≡ get_or columns column c
     → slice_get row column ≡ Some (cell c i)
@@ -97,7 +97,7 @@ hidden_value_at columns states room old at row i column c view place is within r
     ap (λ r. slice_get r column) (sym stands.row_is)
     ∙ (slice_get-map (λ x. cell x i) columns column ∙ ap (option_map (λ x. cell x i)) (slice_get_read columns (length columns) column c refl within read))
 
--- a slot that has a row
+-- a slot with a row
 taken_slot : (o : Option State) (row : List Value) → IsTaken (content_if o row) → ((s : State) × (o ≡ Some s)) × (row_in (content_if o row) ≡ row)
 taken_slot None row taken = let no : ⊥ = cc in absurd no
 taken_slot (Some state.Free) row taken = let no : ⊥ = cc in absurd no
@@ -114,7 +114,7 @@ taken_within columns states room old i view taken =
     let found = taken_slot (slice_get states i) (row_of columns i) (subst IsTaken (sym (content_read columns states room old i view)) taken) in
     slice_get_within states i found.0.0 found.0.1
 
--- what its row has in a column is what its cell has
+-- the value of its row in a column is the value of its cell
 pub taken_cell : (columns : List Column) (states : List State) (room : ℕ) (old : Places) (i column : ℕ) (c : Column) → places_of columns states room ≡ old
     → IsTaken (content_at old i) → column < length columns → c ≡ get_or columns column c → slice_get (row_in (content_at old i)) column ≡ Some (cell c i)
 taken_cell columns states room old i column c view taken within read =
@@ -123,7 +123,7 @@ taken_cell columns states room old i column c view taken within read =
     ∙ (ap (λ r. slice_get r column) found.1
     ∙ (slice_get-map (λ x. cell x i) columns column ∙ ap (option_map (λ x. cell x i)) (slice_get_read columns (length columns) column c refl within read)))
 
--- a hidden row is of the types of the columns
+-- a hidden row has the types of the columns
 pub hidden_typed : (columns : List Column) (states : List State) (room : ℕ) (old : Places) (at : RowRef) (row : List Value)
     → places_of columns states room ≡ old → slot_at old at ≡ Hidden row → HasTypes old.types row
 hidden_typed columns states room old at row view is =

@@ -1,4 +1,4 @@
--- The stack of free slots, after a slot is given out, freed, appended or hidden.
+-- The stack of free slots, after a slot is reused, freed, appended or hidden.
 use Rattle.std.proofs.Common.{◌≡◌, ◌≢◌, ℕ, ◌+◌, ◌-◌, ◌<◌, ◌≤◌, List, [], ◌∷◌, ◌++◌, length, true, false, Some, cond, get_or, set, refl, sym, ap, ◌∙◌}
 use Rattle.std.proofs.Common.{subst, arith, length-append, length-set}
 use Rattle.std.specs.Prelude.{All, slice_get, count_by}
@@ -15,7 +15,7 @@ use Rattle.mm_partition.proofs.CellLemmas.{Fits-set, row_of-set}
 use Rattle.mm_partition.specs.Stored.{is_taken, IsFreeStack, IsStored}
 use Rattle.mm_partition.proofs.ContentLemmas.{Storable, Storable-same, slice_get-set_same, slice_get-set_other, slice_get-push_other}
 
--- how many rows a slot has, as `counted` has it
+-- the number of rows of a slot, as `counted` counts it
 taken : State → ℕ
 taken s = cond (is_taken s) 1 0
 
@@ -27,7 +27,7 @@ apart_from_taken states free i s there row stack k d within same =
     let is : s ≡ state.Free = cc in
     let both : false ≡ true = ap is_taken (sym is) ∙ row in cc
 
--- a slot with a row has it in another state
+-- a slot with a row gets another state with a row
 pub IsFreeStack-kept : (states : List State) (free : List ℕ) (i : ℕ) (was s : State) → slice_get states i ≡ Some was → is_taken was ≡ true → is_taken s ≡ true
     → IsFreeStack states free → IsFreeStack (set states i s) free
 unfolding taken
@@ -45,7 +45,7 @@ IsFreeStack-kept states free i was s there row new_row stack = record {
   );
 }
 
--- a slot loses its row
+-- a slot is freed
 pub IsFreeStack-freed : (states : List State) (free : List ℕ) (i : ℕ) (was : State) → slice_get states i ≡ Some was → is_taken was ≡ true
     → IsFreeStack states free → IsFreeStack (set states i state.Free) (free ++ i ∷ [])
 unfolding taken
@@ -74,7 +74,7 @@ last_is_free states rest i stack =
     let size : length rest < length (rest ++ i ∷ []) = omega (arith, length-append rest (i ∷ [])) in
     ap (slice_get states) (sym (get_or_push rest i 0 (length rest) refl)) ∙ stack.each (length rest) 0 size
 
--- the last slot of the stack is given a row
+-- the last slot of the stack gets a row
 pub IsFreeStack-given : (states : List State) (rest : List ℕ) (i : ℕ) → IsFreeStack states (rest ++ i ∷ []) → IsFreeStack (set states i state.Live) rest
 unfolding taken
 IsFreeStack-given states rest i stack =
@@ -99,7 +99,7 @@ IsFreeStack-given states rest i stack =
       );
     }
 
--- a slot with a row is appended, where none is free
+-- a slot with a row is appended if none is free
 pub IsFreeStack-pushed : (states : List State) → IsFreeStack states [] → IsFreeStack (states ++ state.Live ∷ []) []
 unfolding taken
 IsFreeStack-pushed states stack = record {
@@ -108,7 +108,7 @@ IsFreeStack-pushed states stack = record {
   counted = omega (arith, stack.counted, length-append states (state.Live ∷ []), sum_by-append taken states (state.Live ∷ []));
 }
 
--- where a slot has a row, not all are free
+-- if a slot has a row, not all are free
 pub some_taken : (states : List State) (free : List ℕ) (i : ℕ) (was : State) → slice_get states i ≡ Some was → is_taken was ≡ true
     → IsFreeStack states free → length free < length states
 unfolding taken
@@ -121,7 +121,7 @@ some_taken states free i was there row stack =
       stack.counted,
     )
 
--- slots are written, as many as there were
+-- slots are written, and their number stays
 pub IsStored-at : (states new_states : List State) (free new_free : List ℕ) (capacity free_capacity spare : ℕ) (columns new_columns : List Column)
     → length new_states ≡ length states → IsFreeStack new_states new_free → All (Fits (length states) spare) new_columns
     → Storable new_columns new_states → IsStored states free capacity free_capacity spare columns
@@ -142,7 +142,7 @@ IsFreeStack-none = record {
   counted = refl;
 }
 
--- a slot with a row is appended, where none is free
+-- a slot with a row is appended if none is free
 pub IsStored-pushed : (states new_states : List State) (free new_free : List ℕ) (capacity new_capacity free_capacity new_free_capacity spare index : ℕ)
     (columns new_columns : List Column)
     → index ≡ length states → free ≡ [] → new_free ≡ [] → new_states ≡ states ++ state.Live ∷ [] → 1 ≤ spare → capacity ≤ new_capacity
@@ -183,7 +183,7 @@ IsStored-column states free capacity free_capacity spare columns i c new within 
   storable = Storable-same columns (set columns i new) states states refl (λ k. row_of-set columns i k c new read (same k)) old.storable;
 }
 
--- where a slot is free, not all have rows
+-- if a slot is free, not all have rows
 pub some_free : (states : List State) (i : ℕ) → slice_get states i ≡ Some state.Free → count_by is_taken states < length states
 unfolding taken
 some_free states i there =
@@ -195,7 +195,7 @@ some_free states i there =
       length-set states i state.Live,
     )
 
--- the last slot is free, and the last one of the stack
+-- the last slot is free, and is the last one on the stack
 pub without_last : (states : List State) (free : List ℕ) (i : ℕ) → i ≡ length states → IsFreeStack (states ++ state.Free ∷ []) (free ++ i ∷ [])
     → IsFreeStack states free
 unfolding taken

@@ -1,4 +1,4 @@
--- What holds of each two elements of a list holds of each two of a permutation of it.
+-- A property of each two elements of a list holds for each two of a permutation.
 use Rattle.std.proofs.Common.{◌≡◌, ◌≢◌, ℕ, ◌<◌, ◌⊎◌, inl, inr, List, length, get_or, refl, sym, ap, ◌∙◌, subst, arith, ⊎_elim}
 use Rattle.std.specs.Prelude.{IsPermutation}
 use Rattle.std.specs.List.{AllPairs, swap}
@@ -6,7 +6,7 @@ use Rattle.std.proofs.lemmas.Bool.{cases_order}
 use Rattle.std.proofs.lemmas.List.Edits.{swapped_from_swap}
 use Rattle.std.proofs.lemmas.List.Sorted.{IsPermutation-keeps, IsPermutation-swap, length_permutation}
 
--- what holds of each two elements, whichever comes first, holds of each two of a bag
+-- a symmetric relation between each two elements holds between each two of a permutation
 module _ {X : Type 0} (R : X → X → Type 0) (turns : (a b : X) → R a b → R b a) where
   each_two : (xs : List X) → AllPairs R xs → (p q : ℕ) (d : X) → p ≢ q → p < length xs → q < length xs → R (get_or xs p d) (get_or xs q d)
   each_two xs all p q d differ below_p below_q =
@@ -14,7 +14,7 @@ module _ {X : Type 0} (R : X → X → Type 0) (turns : (a b : X) → R a b → 
       (λ (o : (p < q) ⊎ (q < p)). ⊎_elim (λ (h : p < q). all p q d h below_q) (λ (h : q < p). turns (get_or xs q d) (get_or xs p d) (all q p d h below_p)) o)
       (cases_order p q)
 
-  -- where an element of the list with two exchanged stood before
+  -- the previous position of an element after an exchange of two
   abbrev Stood : ℕ → ℕ → ℕ → ℕ → Type 0
   Stood i j p k = ((p ≡ i) × (k ≡ j)) ⊎ (((p ≡ j) × (k ≡ i)) ⊎ ((p ≢ i) × (p ≢ j) × (k ≡ p)))
 

@@ -1,4 +1,4 @@
--- The highest slots that are free are given back.
+-- Giving back the highest free slots.
 use Rattle.std.proofs.Common.{◌≡◌, ◌≢◌, ℕ, suc, zero, ◌+◌, ◌-◌, ◌<◌, ◌≤◌, List, [], ◌∷◌, ◌++◌, length, true, Option, Some, None, cond, get_or, set, take}
 use Rattle.std.proofs.Common.{refl, sym, ap}
 use Rattle.std.proofs.Common.{◌∙◌, subst, ⊎_elim, arith, length-append}
@@ -64,7 +64,7 @@ split_states states (i, place, there) =
     (split_last i states state.Free (omega arith)
     ∙ ap (λ s. take i states ++ s ∷ []) (get_or_from_slice_get states i state.Free state.Free there))
 
--- the last slot of a stack in order is the highest that is free
+-- the last slot of a sorted stack is the highest free slot
 highest_is_last : (states : List State) (free : List ℕ) (i m : ℕ) → i + 1 ≡ length states → slice_get states i ≡ Some state.Free → IsNonDecreasing free
     → IsFreeStack states free → length free ≡ suc m → get_or free m 0 ≡ i
 highest_is_last states free i m place there sorted stack size =
@@ -73,7 +73,7 @@ highest_is_last states free i m place there sorted stack size =
     let low : i ≤ get_or free m i = subst (λ n. n ≤ get_or free m i) here.2 (sorted here.0 m i (omega (arith, here.1)) (omega arith)) in
     omega (arith, slice_get_within states (get_or free m 0) state.Free last_there, low, get_or_default_zero free m i (omega arith))
 
--- the last slot is dropped, from the states and from the stack
+-- the last slot is removed from the states and from the stack
 pub IsFreeStack-dropped : (states : List State) (free : List ℕ) → EndsFree states → IsNonDecreasing free → IsFreeStack states free
     → IsFreeStack (take (length states - 1) states) (take (length free - 1) free)
 IsFreeStack-dropped states free (i, place, there) sorted stack =
@@ -95,7 +95,7 @@ IsCut-same states = record {
   above = λ i past within. absurd (let no : ⊥ = omega arith in no);
 }
 
--- one slot more is dropped
+-- one more slot is removed
 cut_more : (old states : List State) → IsCut old (states ++ state.Free ∷ []) → IsCut old states
 cut_more old states cut =
     let size : length (states ++ state.Free ∷ []) ≡ length states + 1 = length-append states (state.Free ∷ []) in
@@ -112,7 +112,7 @@ cut_more old states cut =
 pub IsCut-dropped : (old states : List State) → EndsFree states → IsCut old states → IsCut old (take (length states - 1) states)
 IsCut-dropped old states ends cut = cut_more old (take (length states - 1) states) (subst (IsCut old) (split_states states ends) cut)
 
--- each slot holds what it held
+-- each slot has the same content
 abbrev pub HoldsSame : (old_columns new_columns : List Column) (old_states new_states : List State) → Type 0
 HoldsSame old_columns new_columns old_states new_states =
     (i : ℕ) → content_if (slice_get new_states i) (row_of new_columns i) ≡ content_if (slice_get old_states i) (row_of old_columns i)
@@ -140,7 +140,7 @@ pub Storable-held : (old_columns new_columns : List Column) (old_states new_stat
 Storable-held old_columns new_columns old_states new_states same all i =
     subst IsStorableIn (get_or-contents i old_columns old_states ∙ (sym (same i) ∙ sym (get_or-contents i new_columns new_states))) (all i)
 
--- a slot has a row where its state says so
+-- a slot has a row exactly if its state says so
 holds-taken : (s : State) (row : List Value) → holds_row (content s row) ≡ is_taken s
 holds-taken state.Free row = refl
 holds-taken state.Live row = refl

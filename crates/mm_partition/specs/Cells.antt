@@ -14,33 +14,33 @@ abbrev pub type_in : Column → ColType
 type_in (Numbers numbers) = type.Int
 type_in (Texts column) = type.Text
 
--- how many cells there are
+-- the number of cells
 abbrev pub size_of : Column → ℕ
 size_of (Numbers numbers) = length numbers.items
 size_of (Texts column) = length column.texts
 
--- .. and how many there may be without growing
+-- the number of cells that fit the capacity
 abbrev pub room_of : Column → ℕ
 room_of (Numbers numbers) = vec_capacity numbers
 room_of (Texts column) = column.room
 
--- what stands in a cell: 0 or an empty text where there is none
+-- the value in a cell: 0 or the empty text past the end
 abbrev pub cell : Column → ℕ → Value
 cell (Numbers numbers) i = value.Int (slice_index_or numbers.items i (pos 0))
 cell (Texts column) i = value.Text (slice_index_or column.texts i [])
 
--- this cell has this value now, and every other one what it had
+-- this cell has this value now, and every other cell is unchanged
 pub record Writes (old new : Column) (i : ℕ) (v : Value) : Type 0 where
   pub here : cell new i ≡ v
   pub others : (k : ℕ) → k ≢ i → cell new k ≡ cell old k
 
--- what stood in two cells has changed places, and every other cell has what it had
+-- the values of two cells are exchanged, and every other cell is unchanged
 pub record Exchanges (old new : Column) (a b : ℕ) : Type 0 where
   pub first : cell new a ≡ cell old b
   pub second : cell new b ≡ cell old a
   pub others : (k : ℕ) → k ≢ a → k ≢ b → cell new k ≡ cell old k
 
--- the cell has no text: where it is one of texts, it has the empty one
+-- if the cell is one of texts, it has the empty text
 abbrev pub IsEmptied : Column → ℕ → Type 0
 IsEmptied (Numbers numbers) i = Unit {0}
 IsEmptied (Texts column) i = cell (Texts column) i ≡ value.Text []
@@ -49,17 +49,17 @@ IsEmptied (Texts column) i = cell (Texts column) i ≡ value.Text []
 abbrev pub types_of : List Column → List ColType
 types_of columns = map type_in columns
 
--- the values that stand in one slot
+-- the values in one slot
 abbrev pub row_of : List Column → ℕ → List Value
 row_of columns i = map (λ c. cell c i) columns
 
--- what stood in two slots has changed places, and every other slot has what it had
+-- the values of two slots are exchanged, and every other slot is unchanged
 pub record RowsExchanged (old new : List Column) (a b : ℕ) : Type 0 where
   pub first : row_of new a ≡ row_of old b
   pub second : row_of new b ≡ row_of old a
   pub others : (k : ℕ) → k ≢ a → k ≢ b → row_of new k ≡ row_of old k
 
--- a column has a cell for each of so many slots, and room for more
+-- a column has a cell for each slot, and capacity for more
 pub record Fits (slots spare : ℕ) (column : Column) : Type 0 where
   pub size : size_of column ≡ slots
   pub room : slots + spare ≤ room_of column

@@ -1,4 +1,4 @@
-//! One column of a table.
+//! The columns of a table.
 ghost use Rattle.std.specs.Prelude.{◌≡◌, ◌≢◌, ℕ, ◌+◌, ◌<◌, ◌≤◌, OnOk};
 ghost use Rattle.mm_value.specs.Types.{type_of};
 ghost use Rattle.mm_value.specs.Views.{value_of};
@@ -9,19 +9,19 @@ use mm_value::{ColType, Value, ValueRef};
 use std::alloc::{AllocError, Global};
 use std::mem;
 
-/// The values of one column, a cell for each slot.
+/// The values of one column: a cell for each slot.
 #[derive(Drop)]
 pub enum Column {
-    /// Whole numbers.
+    /// A column of integers.
     Numbers(Vec<i64>),
-    /// Texts.
+    /// A column of texts.
     Texts(TextColumn),
 }
 
 impl Column {
     ghost use Rattle.mm_partition.specs.Cells.{type_in, size_of, room_of, cell, Writes, Exchanges, IsEmptied};
 
-    /// A column with no cells. It takes no memory.
+    /// Returns a column without cells. Allocates nothing.
     pub fn new(alloc: Global, col_type: ColType) -> Column
         ensures typed { type_in result ≡ col_type }
         ensures size { size_of result ≡ 0 }
@@ -32,7 +32,7 @@ impl Column {
         }
     }
 
-    /// The type of its values.
+    /// Returns the type of the values.
     pub fn col_type(&self) -> ColType
         ensures { result ≡ type_in self.now }
     {
@@ -42,7 +42,7 @@ impl Column {
         }
     }
 
-    /// Makes room for at least `n` cells more. `AllocError` where memory is refused; the cells stay in any case.
+    /// Reserves capacity for at least `n` more cells. Fails with `AllocError` if an allocation fails. The cells are unchanged in any case.
     pub fn reserve(&mut self, n: usize) -> Result<(), AllocError>
         ensures typed { type_in self.new ≡ type_in self.old }
         ensures size { size_of self.new ≡ size_of self.old }
@@ -56,7 +56,7 @@ impl Column {
         }
     }
 
-    /// What stands in a cell.
+    /// Returns the value in a cell.
     #[inline(always)]
     pub fn value(&self, index: usize) -> ValueRef<'_>
         requires { index < size_of self.now }
@@ -68,7 +68,7 @@ impl Column {
         }
     }
 
-    /// Appends the cell of a new slot, and leaves 0 where the value was.
+    /// Appends the cell of a new slot. The value moves there, and `value` becomes 0.
     pub fn push(&mut self, value: &mut Value)
         requires room { size_of self.old < room_of self.old }
         requires typed { type_of value.old ≡ type_in self.old }
@@ -84,7 +84,7 @@ impl Column {
         }
     }
 
-    /// Puts a value into a cell, and what stood there into its place.
+    /// Exchanges the value in a cell with `value`.
     pub fn swap(&mut self, index: usize, value: &mut Value)
         requires within { index < size_of self.old }
         requires typed { type_of value.old ≡ type_in self.old }
@@ -103,7 +103,7 @@ impl Column {
         }
     }
 
-    /// Lets what stands in two cells change places.
+    /// Exchanges the values in two cells.
     pub fn exchange(&mut self, a: usize, b: usize)
         requires a { a < size_of self.old }
         requires b { b < size_of self.old }
@@ -118,7 +118,7 @@ impl Column {
         }
     }
 
-    /// Drops what stands in a cell of texts, which has the empty text then. A number stays.
+    /// Drops the text in a cell, which becomes empty. A number is unchanged.
     pub fn clear(&mut self, index: usize)
         requires { index < size_of self.old }
         ensures typed { type_in self.new ≡ type_in self.old }
@@ -133,7 +133,7 @@ impl Column {
         }
     }
 
-    /// Drops the cells from a place on, and capacity that is left over.
+    /// Removes the cells from position `n` on, and frees excess capacity.
     pub fn truncate(&mut self, n: usize)
         requires { n ≤ size_of self.old }
         ensures typed { type_in self.new ≡ type_in self.old }
@@ -147,8 +147,8 @@ impl Column {
         }
     }
 
-    /// Keeps the prefixes of texts from now on; of numbers none are needed. `AllocError` where memory is refused; then
-    /// they are kept as before.
+    /// Stores the prefixes of texts from now on. Does nothing for numbers, which need none. Fails with `AllocError` if an allocation fails;
+    /// then nothing changes.
     pub fn track(&mut self, alloc: Global) -> Result<(), AllocError>
         ensures typed { type_in self.new ≡ type_in self.old }
         ensures size { size_of self.new ≡ size_of self.old }
@@ -161,7 +161,7 @@ impl Column {
         }
     }
 
-    /// Drops the prefixes, if they are kept.
+    /// Drops the prefixes, if they are stored.
     pub fn untrack(&mut self)
         ensures typed { type_in self.new ≡ type_in self.old }
         ensures size { size_of self.new ≡ size_of self.old }

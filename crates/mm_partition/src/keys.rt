@@ -1,12 +1,12 @@
-//! What tells rows apart by a column.
+//! Search keys of a column.
 
-/// What tells rows apart by a column without a look at them: an entry for each slot, by its index.
+/// The search keys of a column: numbers that order most rows without reading them, one for each slot, by its index.
 #[derive(Clone, Copy)]
 pub enum ColumnKeys<'a> {
     /// The numbers of the column.
     Numbers(&'a [i64]),
-    /// The prefixes of its texts: the `order_prefix` of each.
+    /// The prefixes of the column's texts: the `order_prefix` of each.
     Prefixes(&'a [u64]),
-    /// Nothing: only the rows tell.
+    /// No keys: the rows must be read.
     None,
 }

@@ -1,6 +1,6 @@
-//! Rows in columns, found by references that stay as long as the rows live.
+//! Rows stored by column, with references that stay valid as long as the rows live.
 //!
-//! A call that may take memory is handed the allocator; no other call takes any.
+//! Every public function that may allocate has a parameter for the allocator.
 #![tactic(auto)]
 
 mod columns;

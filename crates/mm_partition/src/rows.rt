@@ -1,4 +1,4 @@
-//! Rows by reference.
+//! The rows of a table, by reference.
 ghost use Rattle.std.specs.Prelude.{◌≡◌, ◌+◌, ◌<◌, ◌≤◌, ◌↔◌, max, List, length, Some, slice_get, IfOk, IsTrue, OnOk, count_by};
 ghost use Rattle.mm_value.specs.Views.{value_of};
 ghost use Rattle.mm_value.specs.declared.values.Value.{Value};
@@ -19,33 +19,31 @@ use mm_value::{ColType, Row, RowRef, Value, ValueRef};
 use std::alloc::{AllocError, Global};
 use std::marker::Model;
 
-/// The most slots that there are: the index of each has 32 bits.
+/// The maximum number of slots: the index of each has 32 bits.
 const MAX_SLOTS: usize = 4_294_967_295;
 
-/// The rows of one table, 64 to a partition (partitions and tuple pointers of Lehman and Carey,
-/// SIGMOD 1986), column by column (the decomposed storage of Copeland and Khoshafian, SIGMOD 1985). A row is
-/// found by its reference, which stays the same while the row lives. Only `new`, `reserve` and `track` need
-/// memory. Placing, hiding and releasing a row take the same time however many rows there are.
+/// The rows of one table, in partitions of 64 slots, stored by column. Partitions and tuple pointers are those of Lehman and Carey (SIGMOD
+/// 1986), and storage by column is that of Copeland and Khoshafian (SIGMOD 1985). A row is found by its reference, which stays the same
+/// while the row lives. Only `new`, `reserve` and `track` allocate. The time to place, hide or release a row does not depend on the number
+/// of rows.
 ///
-/// A reference is the index of its slot among all slots. The *extent* is how many slots have been
-/// in use so far and not been given back: the slot of each row is below it. A caller that keeps a
-/// vector beside the rows, an entry for each slot, needs one of that length. Only `place` and `stage` make the
-/// extent greater, by at most 1, and only `trim` makes it less.
+/// A reference is the index of a slot among all slots. The *extent* is the number of slots that have been used and not been given back, and
+/// the slot of each row is below it. A caller that keeps a vector with an entry for each slot needs one of this length. Only `place` and
+/// `stage` increase the extent, by at most 1, and only `trim` reduces it.
 ///
-/// The values of a row stand in the cells of its slot, one in the vector of each column. The freed slots are a
-/// stack beside the columns, and the last one freed is the first given out. `reserve` gives the stack room for
-/// every slot, so that `release` needs no memory. Room that no row has had yet is capacity behind the last
-/// slot, and nothing is written there.
+/// The values of a row are in the cells of its slot, one in the vector of each column. The freed slots are on a stack, and the last one
+/// freed is reused first. `reserve` gives the stack capacity for every slot, so that `release` does not allocate. Slots that have never
+/// been used are unwritten capacity after the last slot.
 ///
-/// A column of texts can be tracked: then the prefixes of its texts are kept too, in a vector with an entry for
-/// each slot, by which most rows are put in order without a look at them. The rows are the same with it.
+/// A column of texts can be tracked. Then the prefixes of its texts are stored too, in a vector with an entry for each slot, and most rows
+/// can be ordered without reading their texts. Tracking does not change the rows.
 #[derive(Drop)]
 pub struct Partitions {
     states: Vec<State>,
     columns: Vec<Column>,
-    /// The freed slots. The last one is given out next.
+    /// The freed slots. The last one is reused next.
     free: Vec<u32>,
-    /// For how many more slots there is room, in `states`, in `free` and in each column.
+    /// The number of further slots for which `states`, `free` and each column have capacity.
     spare: usize,
 }
 
@@ -69,7 +67,8 @@ impl Model for Partitions {
 }
 
 impl Partitions {
-    /// No rows, of columns of these types, and an extent of 0. `AllocError` where memory is refused for the list of columns.
+    /// Returns an empty table with columns of these types, and an extent of 0. Fails with `AllocError` if the allocation of the list of
+    /// columns fails.
     pub fn new(alloc: Global, types: &[ColType]) -> Result<Self, AllocError>
         ensures empty { IfOk result (λ rows. (at : RowRef) → slot_at rows at ≡ Free) }
         ensures room { IfOk result (λ rows. rows.room ≡ 0) }
@@ -88,21 +87,21 @@ impl Partitions {
         })
     }
 
-    /// How many slots have been in use so far and not been given back.
+    /// Returns the extent: the number of slots that have been used and not been given back.
     pub fn extent(&self) -> usize
         ensures { result ≡ extent_of self.now }
     {
         self.states.as_slice().len()
     }
 
-    /// How many of the slots below the extent are free.
+    /// Returns the number of free slots below the extent.
     pub fn free_slots(&self) -> usize
         ensures { result + count_by holds_row self.now.slots ≡ extent_of self.now }
     {
         self.free.len()
     }
 
-    /// How many columns there are.
+    /// Returns the number of columns.
     #[inline(always)]
     pub fn width(&self) -> usize
         ensures { result ≡ length self.now.types }
@@ -110,7 +109,7 @@ impl Partitions {
         self.columns.as_slice().len()
     }
 
-    /// The type of a column.
+    /// Returns the type of a column.
     pub fn column_type(&self, column: usize) -> ColType
         requires { column < length self.now.types }
         ensures { slice_get self.now.types column ≡ Some result }
@@ -118,29 +117,28 @@ impl Partitions {
         self.columns[column].col_type()
     }
 
-    /// A law of the rows that are kept: their whole numbers have 64 bits, and their texts at most 64 bytes without a line feed.
-    /// It does nothing.
+    /// Law: integers in stored rows have 64 bits, and texts have at most 64 bytes and no line feed. The call does nothing.
     pub fn are_storable(&self)
         ensures { AreRowsStorable self.now }
     {
         let _columns = &self.columns;
     }
 
-    /// A law of the references: the slot of each that gives a row has an index below 2^32 - 1. It does nothing.
+    /// Law: the slot of each live reference has an index below 2^32 - 1. The call does nothing.
     pub fn are_references_small(&self)
         ensures { AreReferencesSmall self.now }
     {
         let _states = &self.states;
     }
 
-    /// A law of the rows in use: each has the types of the columns. It does nothing.
+    /// Law: each live row has the types of the columns. The call does nothing.
     pub fn have_types(&self)
         ensures { (at : RowRef) (row : List Value) → slot_at self.now at ≡ Live row → HasTypes self.now.types row }
     {
         let _columns = &self.columns;
     }
 
-    /// The row of a reference, where it stands.
+    /// Returns the row of a live reference, in place.
     #[inline(always)]
     pub fn get(&self, at: RowRef) -> RowView<'_>
         requires { IsLive self.now at }
@@ -153,7 +151,7 @@ impl Partitions {
         }
     }
 
-    /// The hidden row of a reference, where it stands.
+    /// Returns the row of a hidden reference, in place.
     pub fn get_hidden(&self, at: RowRef) -> RowView<'_>
         requires { IsHidden self.now at }
         ensures { slot_at self.now at ≡ Hidden (viewed result) }
@@ -165,7 +163,7 @@ impl Partitions {
         }
     }
 
-    /// What the row of a reference has in a column.
+    /// Returns the value of a live row in a column.
     #[inline(always)]
     pub fn value(&self, at: RowRef, column: usize) -> ValueRef<'_>
         requires live { IsLive self.now at }
@@ -175,7 +173,7 @@ impl Partitions {
         self.columns[column].value(index_of(at))
     }
 
-    /// What the hidden row of a reference has in a column.
+    /// Returns the value of a hidden row in a column.
     pub fn hidden_value(&self, at: RowRef, column: usize) -> ValueRef<'_>
         requires hidden { IsHidden self.now at }
         requires column { column < length self.now.types }
@@ -184,7 +182,7 @@ impl Partitions {
         self.columns[column].value(index_of(at))
     }
 
-    /// What the row in the slot at an index has in a column.
+    /// Returns the value of the row in a slot in a column.
     #[inline(always)]
     pub(crate) fn cell(&self, index: usize, column: usize) -> ValueRef<'_>
         requires taken { IsTaken (content_at self.now index) }
@@ -194,8 +192,8 @@ impl Partitions {
         self.columns[column].value(index)
     }
 
-    /// What tells rows apart by a column, with an entry for each slot: its numbers, or the prefixes of its texts if they are
-    /// kept. It is nothing for texts whose prefixes are not kept, and for a column past the last one.
+    /// Returns the search keys of a column, one for each slot: its numbers, or the prefixes of its texts if they are stored. Returns `None`
+    /// keys for untracked texts, and for a column past the last one.
     pub fn keys(&self, column: usize) -> ColumnKeys<'_>
         ensures { AreKeys column self.now result }
     {
@@ -211,8 +209,8 @@ impl Partitions {
         }
     }
 
-    /// Keeps the prefixes of a column of texts from now on, in a pass over the slots where they are not kept yet. For other
-    /// columns it does nothing. `AllocError` where memory is refused; then they are kept as before.
+    /// Stores the prefixes of a column of texts from now on. Visits all slots if they are not stored yet. Does nothing for other columns.
+    /// Fails with `AllocError` if an allocation fails; then nothing changes.
     pub fn track(&mut self, alloc: Global, column: usize) -> Result<(), AllocError>
         ensures { self.new ≡ self.old }
     {
@@ -222,7 +220,7 @@ impl Partitions {
         self.columns[column].track(alloc)
     }
 
-    /// Drops the prefixes of a column, if they are kept.
+    /// Drops the prefixes of a column, if they are stored.
     pub fn untrack(&mut self, column: usize)
         ensures { self.new ≡ self.old }
     {
@@ -231,9 +229,8 @@ impl Partitions {
         }
     }
 
-    /// Makes room for at least `n` rows more, in whole partitions. Every row stays as it is, and so
-    /// does the room that was there; `AllocError` where memory is refused, or where 2^32 slots or more
-    /// would be needed. The extent stays.
+    /// Reserves capacity for at least `n` more rows, in whole partitions. Fails with `AllocError` if an allocation fails, or if there would
+    /// be 2^32 slots or more. In any case the rows and the extent are unchanged, and no capacity is lost.
     pub fn reserve(&mut self, _alloc: Global, n: usize) -> Result<(), AllocError>
         ensures ok { OnOk result (n ≤ self.new.room) }
         ensures rows { IsUnchanged self.old self.new }
@@ -259,8 +256,8 @@ impl Partitions {
         Ok(())
     }
 
-    /// Moves the values of a new row into a free slot and gives its reference. The index of that slot is at most the extent
-    /// that there was, and the extent grows to have it within.
+    /// Moves the values of a new row into a free slot, and returns its reference. The index of the slot is at most the previous extent, and
+    /// the new extent is greater than it.
     pub fn place(&mut self, values: &mut [Value]) -> RowRef
         requires room { 1 ≤ self.old.room }
         requires storable { AreStorable values.old }
@@ -289,7 +286,7 @@ impl Partitions {
         }
     }
 
-    /// Moves the values of a new row into a free slot that is hidden, and gives its reference.
+    /// Moves the values of a new row into a free slot, hides it, and returns its reference.
     pub fn stage(&mut self, values: &mut [Value]) -> RowRef
         requires room { 1 ≤ self.old.room }
         requires storable { AreStorable values.old }
@@ -306,7 +303,7 @@ impl Partitions {
         at
     }
 
-    /// Lets a row in use and a hidden one change places. The one keeps its reference, and the other its slot.
+    /// Exchanges the values of a live row and a hidden row. Both references keep their states.
     pub fn exchange(&mut self, at: RowRef, other: RowRef)
         requires live { IsLive self.old at }
         requires hidden { IsHidden self.old other }
@@ -319,7 +316,7 @@ impl Partitions {
         exchange_each(&mut self.columns, index_of(at), index_of(other));
     }
 
-    /// Whether a slot has a hidden row.
+    /// Returns whether a slot has a hidden row.
     pub fn is_hidden(&self, at: RowRef) -> bool
         ensures { IsTrue result ↔ IsHidden self.now at }
     {
@@ -333,7 +330,7 @@ impl Partitions {
         }
     }
 
-    /// Puts a row in the place of another and gives the old one. The reference stays.
+    /// Replaces the row of a live reference, and returns the old row. The reference stays valid.
     pub fn replace(&mut self, at: RowRef, row: Row) -> Row
         requires live { IsLive self.old at }
         requires typed { HasTypes self.old.types row }
@@ -349,7 +346,7 @@ impl Partitions {
         Row::new(values)
     }
 
-    /// Takes a row out of use. It keeps its slot, so that it can come back.
+    /// Hides a live row: the row becomes a tombstone, which keeps its slot so that the deletion can be undone.
     pub fn hide(&mut self, at: RowRef)
         requires { IsLive self.old at }
         ensures hidden { (row : List Value) → slot_at self.old at ≡ Live row
@@ -361,7 +358,7 @@ impl Partitions {
         self.states[index_of(at)] = State::Hidden;
     }
 
-    /// Brings a hidden row back into use.
+    /// Makes a hidden row live again.
     pub fn unhide(&mut self, at: RowRef)
         requires { IsHidden self.old at }
         ensures back { (row : List Value) → slot_at self.old at ≡ Hidden row
@@ -373,7 +370,7 @@ impl Partitions {
         self.states[index_of(at)] = State::Live;
     }
 
-    /// Drops a hidden row and frees its slot.
+    /// Drops a hidden row, and frees its slot.
     pub fn release(&mut self, at: RowRef)
         requires { IsHidden self.old at }
         ensures freed { ChangesOnly self.old self.new at Free }
@@ -388,9 +385,8 @@ impl Partitions {
         self.free.push_reserved(index as u32);
     }
 
-    /// Gives back the highest slots that are free: afterwards the slot below the extent has a row, or the extent is 0. Frees capacity
-    /// that is left over, and with it the room for rows to come behind the extent. It cannot fail: a column for which a smaller block
-    /// is refused keeps the one that it has.
+    /// Gives back the highest free slots: afterwards the slot below the extent has a row, or the extent is 0. Frees excess capacity,
+    /// including the capacity for further rows. Cannot fail: if the allocation of a smaller block fails, a vector keeps its block.
     pub fn trim(&mut self)
         ensures slots { IsUnchanged self.old self.new }
         ensures extent { extent_of self.new ≤ extent_of self.old }

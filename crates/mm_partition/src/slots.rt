@@ -3,21 +3,21 @@ ghost use Rattle.std.specs.Prelude.{◌≡◌, ◌<◌, ◌^◌};
 
 use mm_value::RowRef;
 
-/// How many slots a partition has.
+/// The number of slots of a partition.
 pub const SLOTS: usize = 64;
 
-/// Whether a slot has a row.
+/// The state of a slot.
 #[derive(Clone, Copy)]
 pub enum State {
-    /// No row: the slot may be given out.
+    /// The slot has no row and can be reused.
     Free,
-    /// A row that its reference gives.
+    /// The slot has a row in use.
     Live,
-    /// A row out of use, which keeps its slot until it is released.
+    /// The slot has a tombstone or a staged row, and keeps it until it is released.
     Hidden,
 }
 
-/// Where the slot of a reference lies among all slots: its index in a vector with an entry for each slot.
+/// Returns the index of a reference's slot: its position in a vector with an entry for each slot.
 #[inline(always)]
 pub fn index_of(at: RowRef) -> usize
     ensures { result ≡ at.slot }
@@ -25,7 +25,7 @@ pub fn index_of(at: RowRef) -> usize
     at.slot as usize
 }
 
-/// The reference to the slot at an index among all slots.
+/// Returns the reference of the slot at an index.
 pub fn reference_to(index: usize) -> RowRef
     requires { index < 2 ^ 32 }
     ensures { result.slot ≡ index }

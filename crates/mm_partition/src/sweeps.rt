@@ -1,4 +1,4 @@
-//! One slot in all columns.
+//! Changes of one slot in all columns.
 ghost use Rattle.std.specs.Prelude.{◌≡◌, ◌≢◌, ◌+◌, ◌<◌, ◌≤◌, ℕ, OnOk, All, length};
 ghost use Rattle.mm_partition.specs.Cells.{types_of, row_of, Fits, IsEmptied, RowsExchanged, size_of};
 ghost use Rattle.mm_partition.specs.Types.{HasTypes};
@@ -7,7 +7,8 @@ use crate::columns::Column;
 use mm_value::Value;
 use std::alloc::AllocError;
 
-/// Makes room for at least `n` more slots in each column. `AllocError` where memory is refused; the cells stay in any case.
+/// Reserves capacity for at least `n` more slots in each column. Fails with `AllocError` if an allocation fails. The cells are unchanged in
+/// any case.
 pub fn reserve_each(columns: &mut Vec<Column>, n: usize) -> Result<(), AllocError>
     ensures types { types_of columns.new.items ≡ types_of columns.old.items }
     ensures rows { (k : ℕ) → row_of columns.new.items k ≡ row_of columns.old.items k }
@@ -21,7 +22,7 @@ pub fn reserve_each(columns: &mut Vec<Column>, n: usize) -> Result<(), AllocErro
     Ok(())
 }
 
-/// Appends a slot at this index with these values, which are gone afterwards.
+/// Appends a slot with this index, and moves these values there.
 pub fn push_each(columns: &mut Vec<Column>, index: usize, values: &mut [Value])
     requires room { All (Fits index 1) columns.old.items }
     requires typed { HasTypes (types_of columns.old.items) values.old }
@@ -35,7 +36,7 @@ pub fn push_each(columns: &mut Vec<Column>, index: usize, values: &mut [Value])
     }
 }
 
-/// Puts these values into a slot, and what stood there into their place.
+/// Exchanges the values in a slot with these values.
 pub fn swap_each(columns: &mut Vec<Column>, index: usize, values: &mut [Value])
     requires within { All (λ c. index < size_of c) columns.old.items }
     requires typed { HasTypes (types_of columns.old.items) values.old }
@@ -50,7 +51,7 @@ pub fn swap_each(columns: &mut Vec<Column>, index: usize, values: &mut [Value])
     }
 }
 
-/// Lets what stands in two slots change places.
+/// Exchanges the values in two slots.
 pub fn exchange_each(columns: &mut Vec<Column>, a: usize, b: usize)
     requires a { All (λ c. a < size_of c) columns.old.items }
     requires b { All (λ c. b < size_of c) columns.old.items }
@@ -63,7 +64,7 @@ pub fn exchange_each(columns: &mut Vec<Column>, a: usize, b: usize)
     }
 }
 
-/// Drops the texts of a slot, whose cells of texts are empty then.
+/// Drops the texts of a slot: its text cells become empty.
 pub fn clear_each(columns: &mut Vec<Column>, index: usize)
     requires { All (λ c. index < size_of c) columns.old.items }
     ensures types { types_of columns.new.items ≡ types_of columns.old.items }
@@ -76,7 +77,7 @@ pub fn clear_each(columns: &mut Vec<Column>, index: usize)
     }
 }
 
-/// Drops the slots from a place on in each column, and capacity that is left over.
+/// Removes the slots from index `n` on in each column, and frees excess capacity.
 pub fn truncate_each(columns: &mut Vec<Column>, n: usize)
     requires { All (λ c. n ≤ size_of c) columns.old.items }
     ensures types { types_of columns.new.items ≡ types_of columns.old.items }

@@ -1,4 +1,4 @@
-//! One column of texts.
+//! Columns of texts.
 ghost use Rattle.std.specs.Prelude.{◌≡◌, ◌+◌, ◌<◌, ◌≤◌, ◌++◌, ◌∷◌, [], length, map, OnOk, IfOk, slice_get, Some, slice_set, slice_index_or, swap, take};
 ghost use Rattle.std.specs.Option.{ForSome};
 ghost use Rattle.std.specs.Vec.{vec_capacity};
@@ -10,8 +10,8 @@ use std::alloc::{AllocError, Global};
 use std::marker::Model;
 use std::mem;
 
-/// The texts of a column, a cell for each slot, and their prefixes if they are kept: numbers by which most texts
-/// are put in order without a look at them.
+/// The texts of a column, a cell for each slot, and their prefixes if they are stored. A prefix is a number that orders most texts without
+/// reading them.
 #[derive(Drop)]
 pub struct TextColumn {
     texts: Vec<Text>,
@@ -29,7 +29,7 @@ impl Model for TextColumn {
 }
 
 impl TextColumn {
-    /// No texts, and no prefixes of them. It takes no memory.
+    /// Returns an empty column without prefixes. Allocates nothing.
     pub fn new(alloc: Global) -> Self
         ensures { result.texts ≡ [] }
     {
@@ -39,7 +39,7 @@ impl TextColumn {
         }
     }
 
-    /// Makes room for at least `n` texts more. `AllocError` where memory is refused; the texts stay in any case.
+    /// Reserves capacity for at least `n` more texts. Fails with `AllocError` if an allocation fails. The texts are unchanged in any case.
     pub fn reserve(&mut self, n: usize) -> Result<(), AllocError>
         ensures texts { self.new.texts ≡ self.old.texts }
         ensures room { self.old.room ≤ self.new.room }
@@ -65,7 +65,7 @@ impl TextColumn {
         self.texts.push_reserved(text);
     }
 
-    /// Puts a text into a cell, and what stood there into its place.
+    /// Exchanges the text in a cell with `text`.
     pub fn swap(&mut self, index: usize, text: &mut Text)
         requires { index < length self.old.texts }
         ensures texts { self.new.texts ≡ slice_set self.old.texts index text.old }
@@ -81,7 +81,7 @@ impl TextColumn {
         }
     }
 
-    /// Lets the texts of two cells change places.
+    /// Exchanges the texts in two cells.
     pub fn exchange(&mut self, a: usize, b: usize)
         requires a { a < length self.old.texts }
         requires b { b < length self.old.texts }
@@ -97,7 +97,7 @@ impl TextColumn {
         }
     }
 
-    /// Drops the text in a cell, which is empty then.
+    /// Drops the text in a cell, which becomes empty.
     pub fn clear(&mut self, index: usize)
         requires { index < length self.old.texts }
         ensures texts { self.new.texts ≡ slice_set self.old.texts index [] }
@@ -107,7 +107,7 @@ impl TextColumn {
         self.swap(index, &mut text);
     }
 
-    /// Drops the texts from a place on, and capacity that is left over.
+    /// Removes the texts from index `n` on, and frees excess capacity.
     pub fn truncate(&mut self, n: usize)
         ensures texts { self.new.texts ≡ take n self.old.texts }
         ensures room { length self.new.texts ≤ self.new.room }
@@ -121,7 +121,7 @@ impl TextColumn {
         }
     }
 
-    /// The text in a cell.
+    /// Returns the text in a cell.
     #[inline(always)]
     pub fn text(&self, index: usize) -> &Text
         requires { index < length self.now.texts }
@@ -130,7 +130,7 @@ impl TextColumn {
         &self.texts[index]
     }
 
-    /// The prefixes of the texts, if they are kept.
+    /// Returns the prefixes of the texts, if they are stored.
     pub fn prefixes(&self) -> Option<&[u64]>
         ensures { ForSome result (λ prefixes. prefixes.now ≡ map prefix_of self.now.texts) }
     {
@@ -140,7 +140,7 @@ impl TextColumn {
         }
     }
 
-    /// Keeps the prefixes from now on. `AllocError` where memory is refused; then they are kept as before.
+    /// Stores the prefixes from now on. Fails with `AllocError` if an allocation fails; then nothing changes.
     pub fn track(&mut self, alloc: Global) -> Result<(), AllocError>
         ensures texts { self.new.texts ≡ self.old.texts }
         ensures room { self.old.room ≤ self.new.room }
@@ -153,7 +153,7 @@ impl TextColumn {
         Ok(())
     }
 
-    /// Drops the prefixes, if they are kept.
+    /// Drops the prefixes, if they are stored.
     pub fn untrack(&mut self)
         ensures texts { self.new.texts ≡ self.old.texts }
         ensures room { self.old.room ≤ self.new.room }
@@ -162,7 +162,7 @@ impl TextColumn {
     }
 }
 
-/// The prefixes of these texts, with room for so many in all. `AllocError` where memory is refused.
+/// Returns the prefixes of these texts, in a vector with this capacity. Fails with `AllocError` if an allocation fails.
 fn prefixes_of(alloc: Global, texts: &[Text], room: usize) -> Result<Vec<u64>, AllocError>
     requires { length texts.now ≤ room }
     ensures items { IfOk result (λ prefixes. prefixes.items ≡ map prefix_of texts.now) }

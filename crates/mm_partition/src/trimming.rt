@@ -1,12 +1,12 @@
-//! Slots and capacity that are given back.
+//! Giving back slots and capacity.
 ghost use Rattle.std.specs.Prelude.{◌≡◌, ◌≤◌, MatchBool, length, min, take};
 ghost use Rattle.std.specs.Vec.{vec_capacity};
 ghost use Rattle.mm_partition.specs.Stored.{IsFreeStack, IsCut, EndsFree, EndsTaken};
 
 use crate::slots::State;
 
-/// Drops the highest slots that are free, up to the highest one that has a row, and takes them off the stack. The lowest slots are
-/// given out first afterwards, so that more of the highest come to be free.
+/// Removes the free slots after the highest slot with a row, from the states and from the stack. Afterwards the lowest free slot is reused
+/// first, so that later calls find more free slots at the end.
 pub fn drop_highest(states: &mut Vec<State>, free: &mut Vec<u32>)
     requires { IsFreeStack states.old.items free.old.items }
     ensures stack { IsFreeStack states.new.items free.new.items }
@@ -26,15 +26,15 @@ pub fn drop_highest(states: &mut Vec<State>, free: &mut Vec<u32>)
     free.reverse();
 }
 
-/// Whether the last slot is free.
+/// Returns whether the last slot is free.
 fn ends_free(states: &[State]) -> bool
     ensures { MatchBool result (EndsFree states.now) (EndsTaken states.now) }
 {
     matches!(states.last(), Some(State::Free))
 }
 
-/// Frees capacity of a vector that needs this much, where it has more than an eighth over that. It keeps a sixteenth over it, so that a
-/// few elements more need no other block. Where memory for a smaller block is refused, the vector keeps the block that it has.
+/// Frees capacity of a vector if it exceeds `needed` by more than an eighth. Keeps a sixteenth above `needed`, so that a few more elements
+/// need no allocation. If the allocation of a smaller block fails, the vector keeps its block.
 pub fn give_back<T>(items: &mut Vec<T>, needed: usize)
     ensures items { items.new.items ≡ items.old.items }
     ensures room { min needed (vec_capacity items.old) ≤ vec_capacity items.new }
@@ -44,7 +44,7 @@ pub fn give_back<T>(items: &mut Vec<T>, needed: usize)
     }
 }
 
-/// Drops the elements from a place on, and capacity that is left over.
+/// Removes the elements from index `n` on, and frees excess capacity.
 pub fn cut<T: Drop>(items: &mut Vec<T>, n: usize)
     ensures items { items.new.items ≡ take n items.old.items }
     ensures room { length items.new.items ≤ vec_capacity items.new }

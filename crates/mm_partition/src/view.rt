@@ -1,4 +1,4 @@
-//! Rows where they stand.
+//! Rows read in place.
 ghost use Rattle.std.specs.Prelude.{◌≡◌, true};
 ghost use Rattle.mm_partition.specs.Places.{holds_row, content_at, row_in};
 ghost use Rattle.mm_partition.specs.Types.{HasTypes};
@@ -7,11 +7,11 @@ use crate::rows::Partitions;
 use mm_value::{AsRow, Row, ValueRef};
 use std::alloc::{AllocError, Global};
 
-/// A row of partitions to read, where it stands.
+/// A stored row, read in place.
 #[derive(Clone, Copy)]
 pub struct RowView<'a> {
     pub(crate) rows: &'a Partitions,
-    /// Where the slot of the row lies among all slots.
+    /// The index of the row's slot.
     pub(crate) index: usize,
     ghost taken: { holds_row (content_at rows.now index) ≡ true },
     ghost typed: { HasTypes rows.now.types (row_in (content_at rows.now index)) },
@@ -23,7 +23,7 @@ impl<'a> RowView<'a> {
     ghost use Rattle.mm_value.specs.Views.{value_of};
     ghost use Rattle.mm_partition.specs.Views.{viewed};
 
-    /// How many values it has.
+    /// Returns the number of values.
     #[inline(always)]
     pub fn len(&self) -> usize
         ensures { result ≡ length (viewed self.now) }
@@ -31,7 +31,7 @@ impl<'a> RowView<'a> {
         self.rows.width()
     }
 
-    /// The value at a position, counted from 0.
+    /// Returns the value at a position, from 0.
     #[inline(always)]
     pub fn value(&self, i: usize) -> ValueRef<'a>
         requires { i < length (viewed self.now) }
@@ -40,7 +40,7 @@ impl<'a> RowView<'a> {
         self.rows.cell(self.index, i)
     }
 
-    /// The value at a position, counted from 0, if the row has one there.
+    /// Returns the value at a position, from 0, or `None` past the end of the row.
     #[inline(always)]
     pub fn get(&self, i: usize) -> Option<ValueRef<'a>>
         ensures { option_map value_of result ≡ slice_get (viewed self.now) i }
@@ -52,7 +52,7 @@ impl<'a> RowView<'a> {
         }
     }
 
-    /// A row of the same values. `AllocError` where memory is refused for the list of them or for a text.
+    /// Returns a copy of the row. Fails with `AllocError` if the allocation of the list of values or of a text fails.
     pub fn copy(&self, alloc: Global) -> Result<Row, AllocError>
         ensures ok { IfOk result (λ row. row ≡ viewed self.now) }
     {

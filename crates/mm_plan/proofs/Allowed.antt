@@ -1,4 +1,4 @@
--- The steps that are chosen are among those that a query allows.
+-- A query allows the chosen steps.
 use Rattle.std.proofs.Common.{◌≡◌, inl, inr, ◌⊎◌, ⊎_elim, ℕ, zero, suc, ◌+◌, ◌<◌, Bool, true, false, cond, List, [], ◌∷◌, ◌++◌, length, get_or, take, Option}
 use Rattle.std.proofs.Common.{Some, None, refl, sym, ap, ◌∙◌, subst, append_assoc, append-nil, arith}
 use Rattle.std.specs.Prelude.{◌==◌, ◌&&◌, ℤ, pos, slice_get}
@@ -35,9 +35,9 @@ use Rattle.mm_store.specs.Tables.{IsAt, Tables, key_at}
 use Rattle.mm_store.specs.declared.index_ref.IndexRef.{IndexRef}
 use Rattle.mm_value.specs.declared.values.Value.{Value}
 
--- ---- what is chosen
+-- ---- chosen values
 
--- It holds of what each of them gives.
+-- The property holds for the value of each of these options that has one.
 abbrev pub AllGive : {X : Type 0} → (X → Type 0) → List (Option X) → Type 0
 AllGive P [] = Unit {0}
 AllGive {X} P (o ∷ os) = ((x : X) → o ≡ Some x → P x) × AllGive P os
@@ -70,7 +70,7 @@ module _ {X Y : Type 0} where
   followed f None y e = cc
   followed f (Some x) y e = (x, refl, e)
 
--- The atom that gives what the first of some gives.
+-- The first step that is chosen is chosen for an atom.
 pub first_from_told : (give : ℕ → Atom FieldPlace → Option Step) (n : ℕ) (atoms : List (Atom FieldPlace)) (s : Step) → first_from give n atoms ≡ Some s
     → (i : ℕ) × (own : Atom FieldPlace) × (slice_get atoms i ≡ Some own) × (give (n + i) own ≡ Some s)
 first_from_told give n [] s e = cc
@@ -110,7 +110,7 @@ first_is_tree stored column index found =
     let told = subst (IsFirstSuch IsTree stored column) found (tree_told stored column) in
     told.1
 
--- What is found as a tree is one.
+-- An index that is found as a tree is a tree.
 is_tree_at : (store : Tables) (table column : ℕ) (index : IndexRef) → tree_at store table column ≡ Some index → IsTree index
 is_tree_at store table column index found =
     let (stored, at, is) = followed (first_tree column) (slice_get store.tables table) index found in
@@ -121,7 +121,7 @@ first_is_hash stored column index found =
     let told = subst (IsFirstSuch IsHash stored column) found (hash_told stored column) in
     told.1
 
--- So is what is found as a HASH index.
+-- An index that is found as a HASH index is one.
 is_hash_at : (store : Tables) (table column : ℕ) (index : IndexRef) → hash_at store table column ≡ Some index → IsHash index
 is_hash_at store table column index found =
     let (stored, at, is) = followed (first_hash column) (slice_get store.tables table) index found in
@@ -189,7 +189,7 @@ module _ (store : Tables) (atoms : List (Atom FieldPlace)) (table : ℕ) (stored
 -- ---- further tables
 
 module _ (place : ℕ) where
-  -- The field of a key is of an earlier table, ..
+  -- The field of a key belongs to an earlier table.
   between_earlier : (left right : FieldPlace) (by : ℤ) (key : JoinKey) → key_between place left right by ≡ Some key → key.field.place < place
   between_earlier left right by key e =
       elim (of_side place left right by key e) [
@@ -202,7 +202,7 @@ module _ (place : ℕ) where
   beside_earlier left (Column right) key e = between_earlier left right (pos 0) key e
   beside_earlier left (Shifted right by) key e = between_earlier left right by key e
 
-  -- .. and a plain column adds nothing to it.
+  -- The key of a plain column adds 0.
   beside_plain : (left : FieldPlace) (right : Operand FieldPlace) (key : JoinKey) → is_plain right ≡ true → key_beside place left right ≡ Some key
       → added key.shift ≡ pos 0
   beside_plain left (Literal value) key plain e = cc
@@ -309,7 +309,7 @@ module _ (store : Tables) (atoms : List (Atom FieldPlace)) where
       let rest : length (steps_behind store atoms (outers ++ table ∷ []) tables) ≡ length tables = as_many (outers ++ table ∷ []) tables in
       ap suc rest
 
-  -- The step at a place is that of the table there.
+  -- The step at a position is that of the table there.
   pub step_at : (outers tables : List ℕ) (place table : ℕ) (own : Step) → slice_get tables place ≡ Some table
       → slice_get (steps_behind store atoms outers tables) place ≡ Some own → step_for store atoms (outers ++ take place tables) table ≡ own
   step_at outers [] place table own at is = cc
@@ -332,6 +332,6 @@ module _ (store : Tables) (atoms : List (Atom FieldPlace)) where
       subst (Joins store atoms (first ∷ take place tables) table) (step_at [] (first ∷ tables) (suc place) table own at is)
       (next_joins store atoms (first ∷ take place tables) table)
 
-  -- They are steps that the query allows.
+  -- The query allows all chosen steps.
   pub allowed : (tables : List ℕ) → AreSteps store atoms tables (steps_of store atoms tables)
   allowed tables = record { each = as_many [] tables; first = reaches_first tables; further = joins_further tables }

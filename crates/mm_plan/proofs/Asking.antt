@@ -1,4 +1,4 @@
--- What the key of an atom asks for.
+-- The requirements of the keys of atoms.
 use Rattle.std.proofs.Common.{◌≡◌, ◌≢◌, ◌⊎◌, inl, inr, ℕ, ◌<◌, ◌==◌, ◌&&◌, ℤ, Bool, true, false, cond, nat_lt, List, [], ◌∷◌, Option, Some, None, length}
 use Rattle.std.proofs.Common.{refl, sym, ap, ◌∙◌, arith}
 use Rattle.std.proofs.lemmas.Bool.{and_parts}
@@ -35,27 +35,27 @@ module _ (place : ℕ) (left right : FieldPlace) (by : ℤ) where
   abbrev either_key : Bool → Bool → Option JoinKey
   either_key on_left on_right = cond on_left (Some left_key) (cond on_right (Some right_key) None)
 
-  -- A column on the left side asks for the field on the right one, ..
+  -- A column on the left side requires the value of the field on the right side.
   pub key_left : left.place ≡ place → right.place < place → key_between place left right by ≡ Some left_key
   key_left own before =
       let here : is_left ≡ true = grind (arith, nat_tests, own, before) in
       ap (λ b. either_key b is_right) here
 
-  -- .. and one on the right side the other way round.
+  -- A column on the right side requires the value of the field on the left side.
   pub key_right : right.place ≡ place → left.place < place → key_between place left right by ≡ Some right_key
   key_right own before =
       let not_left : is_left ≡ false = grind (arith, nat_tests, own, before) in
       let here : is_right ≡ true = grind (arith, nat_tests, own, before) in
       ap (λ b. either_key b is_right) not_left ∙ ap (λ b. either_key false b) here
 
-  -- Nothing else does.
+  -- An atom without a field of the table has no key.
   pub key_neither : left.place ≢ place → right.place ≢ place → key_between place left right by ≡ None
   key_neither not_left not_right =
       let on_left : is_left ≡ false = grind (arith, nat_tests, not_left) in
       let on_right : is_right ≡ false = grind (arith, nat_tests, not_right) in
       ap (λ b. either_key b is_right) on_left ∙ ap (λ b. either_key false b) on_right
 
-  -- A key is of one of the sides.
+  -- A key is for the left field or for the right one.
   abbrev pub IsOfSide : JoinKey → Type 0
   IsOfSide key = ((left.place ≡ place) × (right.place < place) × (key ≡ left_key)) ⊎ ((right.place ≡ place) × (left.place < place) × (key ≡ right_key))
 
@@ -71,7 +71,7 @@ module _ (place : ℕ) (left right : FieldPlace) (by : ℤ) where
           inr (grind (arith, nat_tests, parts.0), grind (arith, nat_tests, parts.1), sym (same_Some right_key key given))
       by_sides false false test other given = absurd (none-some key given)
 
--- Only an equality has a key, ..
+-- Only an equality has a key.
 pub only_equal : (place : ℕ) (atom : Atom FieldPlace) (key : JoinKey) → key_of place atom ≡ Some key → atom.comparison ≡ Equal
 only_equal place atom key is = by atom.comparison is
   where
@@ -82,7 +82,7 @@ only_equal place atom key is = by atom.comparison is
     by Greater given = absurd (none-some key given)
     by GreaterOrEqual given = absurd (none-some key given)
 
--- .. and where an atom alone is asked, its key is.
+-- A single atom requires its key.
 pub key_asks : (atom : Atom FieldPlace) (outers : List ℕ) (key : JoinKey) → key_of (length outers) atom ≡ Some key → IsJoin (atom ∷ []) outers key
 key_asks atom outers key is = by atom.right refl (beside ∙ is)
   where

@@ -1,4 +1,4 @@
--- What the calls of a view find is what the steps of a query are chosen by.
+-- The view finds the indexes, keys and references that the rules use.
 use Rattle.std.proofs.Common.{◌≡◌, ◌≢◌, ◌↔◌, ℕ, ◌<◌, ◌≤◌, Bool, true, false, cond, List, [], ◌∷◌, length, get_or, Option, Some, None, refl, sym, ap, ◌∙◌}
 use Rattle.std.proofs.Common.{subst, arith}
 use Rattle.std.specs.Prelude.{◌==◌, ◌&&◌, IfNone, IfSome, IsTrue, nat_lt, position}
@@ -31,7 +31,7 @@ use Rattle.mm_link.proofs.Referring.{agree}
 
 -- ---- the index that was created first
 
--- There is one where the order of creation tells those of which it holds apart.
+-- At most one index with a property was created first, if the order of creation distinguishes all indexes that have it.
 module _ (Holds : IndexRef → Type 0) (apart : (a b : IndexRef) → Holds a → Holds b → created_before a ≡ created_before b → a ≡ b) (stored : StoredRows)
     (column : ℕ) where
   same_first : (a b : Option IndexRef) → IsFirstSuch Holds stored column a → IsFirstSuch Holds stored column b → a ≡ b
@@ -63,7 +63,7 @@ any_of : {X : Type 0} (xs : List X) (place : ℕ) → place < length xs → X
 any_of [] place within = absurd (omega arith)
 any_of (x ∷ xs) place within = x
 
--- What is found at the first place that passes, ..
+-- The index at the first position that passes is on the column and of the kind.
 module _ (column : ℕ) (k : IndexKind) (indexes : List Index) where
   abbrev front : ℕ
   front = position_or_len (is_on column k) indexes
@@ -90,7 +90,7 @@ module _ (column : ℕ) (k : IndexKind) (indexes : List Index) where
   past true is none = cc
   past false is none = grind (arith, nat_tests)
 
-  -- .. and that there is none where none passes.
+  -- If no position passes, no index is on the column and of the kind.
   none_on : position (is_on column k) indexes ≡ None → (place : ℕ) → HasIndex indexes place column k → ⊥
   none_on none place has =
       let d : Index = any_of indexes place has.0 in
@@ -129,15 +129,15 @@ module _ (stored : StoredRows) (column : ℕ) where
   tree_by false is =
       tree_of (λ own. false≢true (sym is ∙ eq-eqb column stored.key own)) (position (is_on column kind.Tree) stored.indexes) (sought kind.Tree)
 
-  -- The first tree is one on the column, and created before all others.
+  -- The first tree is a tree on the column, created before all others.
   pub tree_told : IsFirstSuch IsTree stored column (first_tree column stored)
   tree_told = tree_by (column == stored.key) refl
 
-  -- The same of the first HASH index.
+  -- The first HASH index is a HASH index on the column, created before all others.
   pub hash_told : IsFirstSuch IsHash stored column (first_hash column stored)
   hash_told = hash_of (position (is_on column kind.Hash) stored.indexes) (sought kind.Hash)
 
--- ---- tables at places
+-- ---- tables at positions
 
 module _ (store : Tables) (table : ℕ) (within : table < length store.tables) where
   stored_there : (stored : StoredRows) × IsAt store table stored
@@ -167,34 +167,34 @@ module _ (store : Tables) (table : ℕ) (within : table < length store.tables) w
 
 -- ---- references
 
--- The test of a reference tells what it is to tell, ..
+-- If the test of a reference passes, the column refers only to the table.
 pub refers_told : (store : Tables) (from column to : ℕ) → refers_only store (record { from = from; column = column; to = to }) ≡ true
     → IsReference store.links from column to
 refers_told store from column to =
     (tells_only store.links from column to (refers_only store (record { from = from; column = column; to = to })) refl).0
 
--- .. and what tells the same is the test.
+-- A test that decides whether the column refers only to the table is the test of the reference.
 pub refers_is : (store : Tables) (from column to : ℕ) (b : Bool) → (IsTrue b ↔ IsReference store.links from column to)
     → b ≡ refers_only store (record { from = from; column = column; to = to })
 refers_is store from column to b told =
     let own = tells_only store.links from column to (refers_only store (record { from = from; column = column; to = to })) refl in
     agree b (refers_only store (record { from = from; column = column; to = to })) (λ is. own.1 (told.0 is)) (λ is. told.1 (own.0 is))
 
--- ---- keys that are referred to
+-- ---- keys of tables, and references to them
 
 module _ (store : Tables) (outers : List ℕ) (table : ℕ) (key : JoinKey) (within : table < length store.tables) (own : ℕ)
     (told : (stored : StoredRows) → IsAt store table stored → own ≡ stored.key) where
   abbrev refers : Bool
   refers = refers_only store (record { from = get_or outers key.field.place 0; column = key.field.column; to = table })
 
-  -- Where the key's column is the table's key, the test of the reference decides, ..
+  -- If the key's column is the table's key, the test of the reference decides.
   pub referred : key.column ≡ own → (b : Bool) → (IsTrue b ↔ IsReference store.links (get_or outers key.field.place 0) key.field.column table)
       → b ≡ is_referred store outers table key
   referred is b tells =
       refers_is store (get_or outers key.field.place 0) key.field.column table b tells
       ∙ sym (ap (λ test. test && refers) (eq-eqb key.column (key_at store.tables table) (is ∙ key_at_is store table within own told)))
 
-  -- .. and else it is not referred to.
+  -- If the key's column is another one, the test fails.
   pub not_referred : key.column ≢ own → (key.column == own) ≡ is_referred store outers table key
   not_referred differs =
       apart own (λ is. is)

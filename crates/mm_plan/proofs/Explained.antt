@@ -1,4 +1,4 @@
--- The lines of the steps that are chosen for a query are its plan.
+-- The lines of the chosen steps of a query are its plan.
 use Rattle.std.proofs.Common.{◌≡◌, ℕ, ◌<◌, ◌≤◌, List, length, map, Some, None, sym, ap, ◌∙◌, subst}
 use Rattle.std.specs.List.{All}
 use Rattle.std.specs.Prelude.{slice_get}

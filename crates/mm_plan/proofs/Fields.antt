@@ -1,4 +1,4 @@
--- What the names of a query stand for, where nothing refuses it and the store keeps the catalog's tables.
+-- Names of a query and their positions, if nothing refuses the query and the store keeps the catalog's tables.
 use Rattle.std.proofs.Common.{◌≡◌, ⊎_elim, ℕ, zero, suc, ◌+◌, ◌<◌, Bool, true, false, cond, not, ◌&&◌, List, [], ◌∷◌, length, get_or, Option, Some, None}
 use Rattle.std.proofs.Common.{refl, sym, ap, ◌∙◌, subst, arith}
 use Rattle.std.specs.Prelude.{◌==◌, find, is_none, nat_lt, position, slice_get}
@@ -30,14 +30,14 @@ use Rattle.mm_schema.specs.declared.index.IndexKind.{IndexKind}
 use Rattle.mm_schema.specs.declared.index.IndexKind.TheVariants as kind
 use Rattle.mm_schema.specs.declared.table.Table.{Table}
 
--- ---- places of names
+-- ---- positions of names
 
 pub there : {X : Type 0} (xs : List X) (place : ℕ) → place < length xs → (x : X) × (slice_get xs place ≡ Some x)
 there [] place within = absurd (omega arith)
 there (x ∷ xs) zero within = (x, refl)
 there (x ∷ xs) (suc place) within = there xs place (omega arith)
 
--- A test that none passes fails at each.
+-- A test that no element passes fails for each.
 pub fails_at : {X : Type 0} (p : X → Bool) (xs : List X) (place : ℕ) (x : X) → list_any p xs ≡ false → slice_get xs place ≡ Some x → p x ≡ false
 fails_at p [] place x none at = cc
 fails_at p (y ∷ ys) zero x none at = ap p (sym (same_Some y x at)) ∙ (or_parts (p y) (list_any p ys) none).0
@@ -60,7 +60,7 @@ eq_suc m n = ⊎_elim
     ne_eqb (suc m) (suc n) (λ is. let one : m ≡ n = omega (arith, is) in false≢true (sym other ∙ eq-eqb m n one)) ∙ sym other)
     (cases_Bool (m == n))
 
--- Names are one just where they stand at one place.
+-- Names are equal exactly if they are at the same position.
 module _ {X : Type 0} (name : X → List ℕ) (xs : List X) (a b : List ℕ) (i j : ℕ) (d : X)
     (at_a : position (λ x. same_name a (name x)) xs ≡ Some i) (at_b : position (λ x. same_name b (name x)) xs ≡ Some j) where
   same_from_place : (i == j) ≡ true → same_name a b ≡ true
@@ -110,7 +110,7 @@ none_of_all (c ∷ cs) place column none at = ⊎_elim
     by zero at plain later = ap is_key (sym (same_Some c column at)) ∙ plain
     by (suc n) at plain later = later n at
 
--- Of the columns the key alone is the key.
+-- Only the key column is at the key's position.
 pub key_alone : (columns : List Column) (place : ℕ) (column : Column) → key_count columns ≡ 1 → slice_get columns place ≡ Some column
     → (place == key_place columns) ≡ is_key column
 key_alone [] place column one at = cc
@@ -166,11 +166,11 @@ module _ (columns : List Column) (name : List ℕ) (k : ℕ) (at : column_place 
   front_is (e ∷ ds) [] are = absurd are
   front_is (e ∷ ds) (x ∷ xs) are = λ i. cond (not (serves_is e x are.0 i)) (1 + front_is ds xs are.1 i) 0
 
-  -- The index of a kind on a column that was created first is at one place by its column and by its name.
+  -- The first index of a kind on a column is at the same position by its column and by its name.
   pub place_is : (ds : List IndexDef) (xs : List Index) → AreIndexes columns ds xs → position (is_on k own) xs ≡ position (serves own name) ds
   place_is ds xs are = λ i. cond (nat_lt (front_is ds xs are i) (as_many columns ds xs are i)) (Some (front_is ds xs are i)) None
 
--- Its name is the one of what is found.
+-- The name at this position is the name of the definition that is found.
 module _ (test : IndexDef → Bool) (ds : List IndexDef) where
   some_name : (n : ℕ) (o : Option IndexDef) → slice_get ds n ≡ o → n < length ds
       → Some (option_map_or (λ (d : IndexDef). d.name) o []) ≡ option_map (λ (d : IndexDef). d.name) o
@@ -227,7 +227,7 @@ module _ (schema : Schema) (relations : List StoredRows) (are : AreOf schema.tab
   pub stands : lacks_table item.table schema ≡ false → Stands schema relations item
   stands has = stands_by (table_place item.table schema) refl has
 
--- What a field stands for.
+-- The column that a field refers to, and its position.
 pub record IsField (schema : Schema) (relations : List StoredRows) (from : List FromItem) (field : FieldName) : Type 0 where
   pub place : ℕ
   pub item : FromItem
@@ -305,14 +305,14 @@ module _ {schema : Schema} {relations : List StoredRows} {from : List FromItem} 
         ∙ ap (λ (o : Option ℕ). unwrap_or o 0) own.number_is) i;
   }
 
-  -- Its column by name is the one at its place.
+  -- The column of this name is the column at the field's position.
   pub column_found : option_and_then (λ (table : Table). column_named field.column table.definition.columns) (table_of schema from field.alias)
       ≡ Some own.column
   column_found =
       ap (option_and_then (λ (table : Table). column_named field.column table.definition.columns)) table_is
       ∙ (find_at_place (λ (column : Column). same_name field.column column.name) own.of.table.definition.columns own.number own.number_is ∙ own.column_is)
 
--- The places of the tables of FROM.
+-- The positions of the tables of FROM.
 pub table_at : (schema : Schema) (relations : List StoredRows) (from : List FromItem) (place : ℕ) (item : FromItem) (of : Stands schema relations item)
     → slice_get from place ≡ Some item → get_or (places_in schema from) place 0 ≡ of.place
 table_at schema relations from place item of at =

@@ -1,4 +1,4 @@
--- The way to the rows of the first table.
+-- The access path of the first table.
 use Rattle.std.proofs.Common.{◌≡◌, ◌≢◌, ℕ, zero, suc, ◌<◌, List, [], ◌∷◌, ◌++◌, Some, None, get_or, length, take, refl, sym, ap, ◌∙◌, subst, arith}
 use Rattle.std.proofs.lemmas.Option.{same_Some, slice_get-get_or, slice_get_within}
 use Rattle.std.specs.List.{count_by}
@@ -22,14 +22,14 @@ use Rattle.mm_store.specs.declared.index_ref.IndexRef.{IndexRef}
 use Rattle.mm_templist.specs.Combos.{Combos}
 use Rattle.mm_value.specs.declared.values.Value.{Value}
 
--- A way to the rows of the first table at which its step looks.
+-- An access path of the first table that reads the rows of its step.
 pub record Takes (store : Tables) (atoms : List (Atom FieldPlace)) (tables : List ℕ) (steps : List Step) (way : Access) : Type 0 where
   pub served : (table : ℕ) (stored : StoredRows) → slice_get tables 0 ≡ Some table → IsAt store table stored → IsServed stored way
   pub asked : Asks atoms way
   pub along : (own : Step) → slice_get steps 0 ≡ Some own → (row : List Value) → is_along way row ≡ may_look atoms 0 own [] row
 
 module _ (store : Tables) (atoms : List (Atom FieldPlace)) where
-  -- What a tree merge with the second table goes by.
+  -- The requirements of a tree merge with the second table.
   abbrev MergesBehind : ℕ → IndexRef → IndexRef → JoinKey → Type 0
   MergesBehind t outer inner key = (first : ℕ) × (t ∷ [] ≡ first ∷ []) × HasIndexAt store first key.field.column outer × IsTree outer
 
@@ -45,12 +45,12 @@ module _ (store : Tables) (atoms : List (Atom FieldPlace)) where
         are.further 0 (get_or (t ∷ rest) 1 0) (step.TreeMerge outer inner atom) second at in
         (own, key, there, has, (first, same, on, tree))
 
-    -- It has a key, ..
+    -- A tree merge has a key.
     pub merge_key : (tables : List ℕ) → AreSteps store atoms tables steps → 0 < length tables → HasKey atoms 1 atom (λ key. Unit {0})
     merge_key [] are some = absurd (omega (arith, some))
     merge_key (t ∷ rest) are some = let has = merges t rest are in (has.0, has.1, has.2, has.3, tt)
 
-    -- .. and so the first table may be walked along its tree.
+    -- Before a tree merge, the first table may be read along its tree.
     pub walk_takes : (tables : List ℕ) → AreSteps store atoms tables steps → slice_get steps 0 ≡ Some step.Scan
         → (key : JoinKey) → HasKey atoms 1 atom (λ k. k ≡ key) → Takes store atoms tables steps (access.Range outer key.field.column None None)
     walk_takes tables are scans key is = record {
@@ -68,7 +68,7 @@ module _ (store : Tables) (atoms : List (Atom FieldPlace)) where
             let place : table ≡ first = same_Some table first (sym there ∙ ap Some (first_of t first same)) in
             (on stored (subst (λ n. IsAt store n stored) place here), tree)
 
-  -- Else it is reached as its own step says.
+  -- Otherwise the first table is read as its own step says.
   pub step_takes : (tables : List ℕ) (steps : List Step) → AreSteps store atoms tables steps → (own : Step) → slice_get steps 0 ≡ Some own → (way : Access)
       → ((stored : StoredRows) → Reaches stored atoms own → IsServed stored way) → Asks atoms way
       → ((row : List Value) → is_along way row ≡ may_look atoms 0 own [] row) → Takes store atoms tables steps way
@@ -78,13 +78,13 @@ module _ (store : Tables) (atoms : List (Atom FieldPlace)) where
     along = λ s s_at row. along row ∙ ap (λ (s : Step). may_look atoms 0 s [] row) (same_Some own s (sym at ∙ s_at));
   }
 
--- It looks at as many rows.
+-- The access path reads as many rows as the step.
 pub as_many_along : (store : Tables) (atoms : List (Atom FieldPlace)) (tables : List ℕ) (steps : List Step) (way : Access) → Takes store atoms tables steps way
     → (own : Step) → slice_get steps 0 ≡ Some own → (rows : List (List Value))
     → count_by (is_along way) rows ≡ count_by (may_look atoms 0 own []) rows
 as_many_along store atoms tables steps way takes own at rows = λ i. count_by (λ row. takes.along own at row i) rows
 
--- The tables of a list that is begun are the first ones.
+-- The tables of an `IsBegun` list are the first ones of the query.
 pub first_tables : (store : Tables) (query : BoundQuery) (tables : List ℕ) (list : Combos) → IsBegun store query tables list
     → take (length list.tables) tables ≡ list.tables
 first_tables store query tables list begun = ap (take (length list.tables)) begun.first ∙ front list.tables begun.rest
@@ -93,7 +93,7 @@ first_tables store query tables list begun = ap (take (length list.tables)) begu
     front [] rest = refl
     front (t ∷ first) rest = ap (λ ts. t ∷ ts) (front first rest)
 
--- Behind a list of the first tables the step of the next one may join it.
+-- The step of the next table may join it to a list of the first tables.
 pub join_allowed : (store : Tables) (query : BoundQuery) (tables : List ℕ) (steps : List Step) (list : Combos) → AreSteps store query.atoms tables steps
     → IsBegun store query tables list → length list.tables ≢ 0 → (table : ℕ) (own : Step) → slice_get tables (length list.tables) ≡ Some table
     → slice_get steps (length list.tables) ≡ Some own → Joins store query.atoms list.tables table own

@@ -1,4 +1,4 @@
--- The references of the rows of one table that meet atoms.
+-- The references of the rows of one table that satisfy atoms.
 use Rattle.std.proofs.Common.{◌≡◌, ℕ, Bool, List, [], ◌∷◌, Some, length, get_or, refl, sym, ap, ◌∙◌, subst}
 use Rattle.std.specs.List.{count_by, filter, list_any}
 use Rattle.std.specs.List.Sorted.{IsPermutation}
@@ -34,7 +34,7 @@ use Rattle.mm_link.proofs.Referring.{agree}
 moved : (xs ys : List RowRef) → IsPermutation xs ys → (x : RowRef) → IsIn x xs → IsIn x ys
 moved xs ys there x here = IsIn-from_Contains ys x (Contains-permutation xs ys x there (Contains-from_IsIn xs x here))
 
--- The references of a relation among some are those that pass a test, where these are.
+-- The references of a relation among these are those that pass a test, if these are the references that pass it.
 among_passing : (p : RowRef → Bool) (refs : List RowRef) (stored : StoredRows) → IsPermutation refs (filter p stored.refs)
     → among refs stored ≡ filter p stored.refs
 among_passing p refs stored same =
@@ -52,7 +52,7 @@ among_passing p refs stored same =
     (test_from_same x x refl)))
 
 module _ (store : Tables) (table : ℕ) (stored : StoredRows) (here : IsAt store table stored) (atoms : List (Atom FieldPlace)) where
-  -- Those that match are those of the rows that meet the atoms.
+  -- The matching references are those of the rows that satisfy the atoms.
   pub matching_is : matching store table atoms [] stored.refs ≡ meeting atoms stored
   matching_is = λ i. filter (λ at. none_fails atoms (Some (row_here store table stored here at i) ∷ [])) stored.refs
 
@@ -60,11 +60,11 @@ module _ (store : Tables) (table : ℕ) (stored : StoredRows) (here : IsAt store
     are : IsPermutation refs (meeting atoms stored)
     are = subst (IsPermutation refs) matching_is same
 
-    -- The references of the relation that are among them are those of the rows that meet the atoms.
+    -- The references of the relation among these are those of the rows that satisfy the atoms.
     pub among_meeting : among refs stored ≡ meeting atoms stored
     among_meeting = among_passing (λ at. meets atoms (row_at (slot_at stored.places) at)) refs stored are
 
-    -- There are as many as rows meet the atoms.
+    -- There are as many references as rows that satisfy the atoms.
     pub refs_counted : length refs ≡ count_by (meets atoms) (rows_at store.tables table)
     refs_counted =
         sym (length_permutation refs (meeting atoms stored) are)
@@ -73,7 +73,7 @@ module _ (store : Tables) (table : ℕ) (stored : StoredRows) (here : IsAt store
         ∙ length-filter (meets atoms) (rows_of stored)
         ∙ ap (λ o. count_by (meets atoms) (option_map_or rows_of o [])) (sym here)
 
--- The rows that lie along a way are those at which its step may look.
+-- The rows along an access path are the rows that its step may read.
 pub looked_at : (atoms : List (Atom FieldPlace)) (own : Step) (way : Access)
     → ((row : List Value) → is_along way row ≡ may_look atoms 0 own [] row) → (rows : List (List Value))
     → count_by (is_along way) rows ≡ count_by (may_look atoms 0 own []) rows

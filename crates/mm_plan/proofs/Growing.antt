@@ -1,4 +1,4 @@
--- Combinations of the first tables of a query that all go on.
+-- Combinations of the first tables of a query that are all part of a result.
 use Rattle.std.proofs.Common.{◌≡◌, ℕ, zero, suc, ◌+◌, ◌<◌, ◌≤◌, Bool, true, false, cond, ◌&&◌, nat_lt, List, [], ◌∷◌, ◌++◌, Option, Some, None, All, get_or}
 use Rattle.std.proofs.Common.{length, map, append_assoc, refl, sym, ap, ◌∙◌, subst, arith}
 use Rattle.std.specs.List.{filter, flat_map, list_all}
@@ -30,9 +30,9 @@ Row = List Value
 none_below : (n : ℕ) → n < 0 → ⊥
 none_below n less = omega (arith, less)
 
--- ---- an atom that is decided stays as it is
+-- ---- an atom that is decided stays decided
 
--- the field that an operand names, if it names one, is of the first tables
+-- the field that an operand names, if any, belongs to the first tables
 abbrev right_first : ℕ → Operand FieldPlace → Bool
 right_first tables right = option_map_or (λ (field : FieldPlace). nat_lt field.place tables) (column_of right) true
 
@@ -69,7 +69,7 @@ module _ (c : List Row) (row : Row) where
       let parts = and_parts (names_first (length c) atom) (list_all (names_first (length c)) atoms) first in
       λ i. same_holds atom parts.0 i && same_fits atoms parts.1 i
 
--- Where an atom names the first tables alone, it does so of more.
+-- An atom that names only the first tables names only the first ones of more tables.
 module _ (few many : ℕ) (more : few ≤ many) where
   wider : (n : ℕ) → nat_lt n few ≡ true → nat_lt n many ≡ true
   wider n less = lt-ltb n many (let below = ltb-true n few less in omega (arith, below, more))
@@ -88,10 +88,10 @@ module _ (few many : ℕ) (more : few ≤ many) where
       (and_from (nat_lt atom.left.place many) (right_first many atom.right) (wider atom.left.place sides.0) (wider_right atom.right sides.1))
       (all_wider atoms parts.1)
 
--- ---- a combination of more tables
+-- ---- a combination of one more table
 
 module _ {X : Type 0} where
-  -- so long is a combination with an element of one list more
+  -- the combination has one element more than there are lists
   abbrev IsOneLonger : List (List X) → List X → Type 0
   IsOneLonger lists c = length c ≡ suc (length lists)
 
@@ -110,7 +110,7 @@ module _ {X : Type 0} where
           (each long xs)
 
 module _ (atoms : List (Atom FieldPlace)) where
-  -- With a row of the next table it fits as it did, ..
+  -- A combination that fits still fits with a row of the next table.
   some_behind : (next : List Row) (outer : List Row) → 0 < length next → list_all (names_first (length outer)) atoms ≡ true
       → fits atoms outer ≡ true → 0 < length (fitting_behind atoms next outer)
   some_behind [] outer some first fit = absurd (none_below 0 some)
@@ -118,7 +118,7 @@ module _ (atoms : List (Atom FieldPlace)) where
       subst (λ b. 0 < length (cond b ((outer ++ row ∷ []) ∷ fitting_behind atoms next outer) (fitting_behind atoms next outer)))
       (sym (same_fits outer row atoms first ∙ fit)) (omega (arith))
 
-  -- .. so there are no fewer with the next table than without, ..
+  -- So there are no fewer fitting combinations with the next table than without it.
   no_fewer : (tables : ℕ) (next : List Row) → 0 < length next → list_all (names_first tables) atoms ≡ true
       → (cs : List (List Row)) → All (λ c. length c ≡ tables) cs
       → length (filter (fits atoms) cs) ≤ length (flat_map (fitting_behind atoms next) (filter (fits atoms) cs))
@@ -148,7 +148,7 @@ module _ (atoms : List (Atom FieldPlace)) where
   length-one_more : (lists : List (List Row)) (next : List Row) → length (lists ++ next ∷ []) ≡ length lists + 1
   length-one_more lists next = length-append lists (next ∷ [])
 
-  -- .. and with all that are left.
+  -- There are also no fewer with all tables that are left.
   no_fewer_at_last : (lists later : List (List Row)) → list_all (names_first (length lists)) atoms ≡ true → All (λ rows. 0 < length rows) later
       → length (fitting atoms lists) ≤ length (fitting atoms (lists ++ later))
   no_fewer_at_last lists [] first some =
@@ -160,7 +160,7 @@ module _ (atoms : List (Atom FieldPlace)) where
       (All-tail (λ (rows : List Row). 0 < length rows) next later some) in
       subst (λ ls. length (fitting atoms lists) ≤ length (fitting atoms ls)) (append_assoc lists (next ∷ []) later) (omega (arith, here, rest))
 
--- Of the rows of the tables of a store.
+-- This holds for the rows of the tables of a store.
 pub no_fewer_of : (store : Tables) (atoms : List (Atom FieldPlace)) (first later : List ℕ) → list_all (names_first (length first)) atoms ≡ true
     → HaveRows store later
     → length (fitting atoms (map (rows_at store.tables) first)) ≤ length (fitting atoms (map (rows_at store.tables) (first ++ later)))
@@ -175,7 +175,7 @@ no_fewer_of store atoms first later named rows =
     length_rows [] = refl
     length_rows (t ∷ tables) = ap (λ n. suc n) (length_rows tables)
 
--- A table with so many rows has one.
+-- A table whose number of rows is not 0 has a row.
 pub has_row : (store : Tables) (table count : ℕ) → table < length store.tables
     → ((stored : StoredRows) → IsAt store table stored → count ≡ length (rows_of stored)) → (count ≡ 0 → ⊥) → 0 < length (rows_at store.tables table)
 has_row store table count there counted some =

@@ -1,4 +1,4 @@
--- Joining the tables of a query, one after another.
+-- Joins of the tables of a query, one after another.
 use Rattle.std.proofs.Common.{◌≡◌, ◌≢◌, ◌⊎◌, inl, inr, IfErr, IfOk, IsPermutation, Result, Ok, Err, ℕ, suc, ◌+◌, ◌*◌, ◌<◌, ◌≤◌, Bool, true, false, cond}
 use Rattle.std.proofs.Common.{nat_lt, List, [], ◌∷◌, ◌++◌, Some, None, All, drop, length, map, get_or, take, append_assoc, refl, sym, ap, ◌∙◌, subst, arith}
 use Rattle.std.proofs.lemmas.Bool.Decides.{nat_tests}
@@ -32,9 +32,9 @@ use Rattle.mm_value.specs.declared.refusal.Refusal.TheVariants.{Memory, ResultTo
 use Rattle.mm_value.specs.declared.values.Value.{Value}
 use Rattle.mm_schema.specs.Rows.{most_rows}
 
--- ---- the table that comes next
+-- ---- the next table
 
--- The first tables, the one behind them, and those behind that one.
+-- The tables of a query are the first ones, the next one, and the later ones.
 pub record Splits (store : Tables) (first tables : List ℕ) : Type 0 where
   pub next : ℕ
   pub later : List ℕ
@@ -72,7 +72,7 @@ splits store first tables all (next ∷ later) is more = record {
   there = last_there store first next later (subst (All (λ t. t < length store.tables)) is all);
 }
 
--- ---- how many there are
+-- ---- numbers of combinations
 
 at_most_each : (outers next found most : ℕ) → found ≤ outers * next → outers ≤ most → next ≤ most_rows → found ≤ most * most_rows
 at_most_each outers next found most given few_outers few_next =
@@ -83,11 +83,11 @@ module _ (store : Tables) (query : BoundQuery) where
   abbrev lists_of : List ℕ → List (List (List Value))
   lists_of tables = map (rows_at store.tables) tables
 
-  -- There is a projected row for each combination that fits.
+  -- The result has a row for each fitting combination.
   length-bag : (tables : List ℕ) → length (bag_of query (lists_of tables)) ≡ length (fitting query.atoms (lists_of tables))
   length-bag tables = length-map (fitting query.atoms (lists_of tables)) (projected query)
 
-  -- A list of them all has as many.
+  -- A list of the fitting combinations has as many.
   pub as_many : (list : Combos) → AreFitting store query.atoms list → length (bag_of query (lists_of list.tables)) ≡ length list.combos
   as_many list fits =
       length-bag list.tables
@@ -98,7 +98,7 @@ module _ (store : Tables) (query : BoundQuery) where
     abbrev found : List (List (List Value))
     found = joined query.atoms (combo_rows store list) (rows_at store.tables next)
 
-    -- What a join with the next table gives are those that fit with it.
+    -- A join with the next table finds the combinations that fit with it.
     pub fits_behind : IsPermutation found (fitting query.atoms (lists_of (list.tables ++ next ∷ [])))
     fits_behind = subst (λ lists. IsPermutation found (fitting query.atoms lists)) (sym (map-append (rows_at store.tables) list.tables (next ∷ [])))
         (joined_fitting query.atoms (lists_of list.tables) (combo_rows store list) (rows_at store.tables next) fits)
@@ -107,12 +107,12 @@ module _ (store : Tables) (query : BoundQuery) where
     as_many_behind = length-bag (list.tables ++ next ∷ [])
         ∙ length_permutation found (fitting query.atoms (lists_of (list.tables ++ next ∷ []))) fits_behind
 
-    -- So the last join is refused where the query is.
+    -- So the last join is refused exactly if the query is.
     pub due_behind : first_refusal (size_conditions (bag_of query (lists_of (list.tables ++ next ∷ [])))) ≡ first_refusal (cap_conditions most_rows found)
     due_behind = ap (λ n. cond (nat_lt most_rows n) (Some ResultTooLarge) None) as_many_behind
 
     module _ (few : length (rows_at store.tables next) ≤ most_rows) (bounded : length list.combos ≤ most_combinations (length list.tables)) where
-      -- With one table more there are at most so many, ..
+      -- With one more table the number of combinations stays within this bound.
       pub bounded_behind : length found ≤ most_combinations (length list.tables) * most_rows
       bounded_behind =
           let given = length-joined query.atoms (combo_rows store list) (rows_at store.tables next) in
@@ -120,14 +120,14 @@ module _ (store : Tables) (query : BoundQuery) where
           at_most_each (length (combo_rows store list)) (length (rows_at store.tables next)) (length found) (most_combinations (length list.tables)) given
           (subst (λ n. n ≤ most_combinations (length list.tables)) (sym outers) bounded) few
 
-      -- .. which no join of three tables refuses.
+      -- A join of at most three tables is within the bound, so it is not refused.
       pub none_refused : length list.tables < 3 → first_refusal (cap_conditions 18446744073709551615 found) ≡ None
       none_refused short =
           let most = few_of_three (length list.tables) (most_combinations (length list.tables)) short (omega (arith)) in
           let not_more : nat_lt 18446744073709551615 (length found) ≡ false = grind (arith, nat_tests, bounded_behind, most) in
           ap (λ b. cond b (Some ResultTooLarge) None) not_more
 
--- The rows at a place are those of the relation there.
+-- The table at a position has as many rows as its relation.
 pub few_at : (store : Tables) (place : ℕ) (stored : StoredRows) → IsAt store place stored → length stored.refs ≤ most_rows
     → length (rows_at store.tables place) ≤ most_rows
 few_at store place stored at few =
@@ -137,7 +137,7 @@ few_at store place stored at few =
 
 -- ---- the combination of no tables
 
--- No atom is false of it.
+-- No atom is false for it.
 pub none_fails_yet : (atoms : List (Atom FieldPlace)) → none_fails atoms [] ≡ true
 none_fails_yet [] = refl
 none_fails_yet (atom ∷ atoms) = none_fails_yet atoms
@@ -167,7 +167,7 @@ front_there : (P : ℕ → Type 0) (first rest : List ℕ) → All P (first ++ r
 front_there P [] rest all = All-nil P
 front_there P (t ∷ first) rest all = All-cons P t first (All-head P t (first ++ rest) all) (front_there P first rest (All-tail P t (first ++ rest) all))
 
--- More are refused where fewer are.
+-- If fewer combinations are refused, more are refused too.
 more_refused : (few many : ℕ) (refusal : Refusal) → few ≤ many → cond (nat_lt most_rows few) (Some ResultTooLarge) None ≡ Some refusal
     → cond (nat_lt most_rows many) (Some ResultTooLarge) None ≡ Some refusal
 more_refused few many refusal more due = by (nat_lt most_rows few) refl due
@@ -185,11 +185,11 @@ module _ (store : Tables) (query : BoundQuery) (tables : List ℕ) (list : Combo
   pub split : Splits store list.tables tables
   split = splits store list.tables tables all begun.rest begun.first (λ same. omega (arith, left, same))
 
-  -- It is the table behind those of the list.
+  -- The next table is the one after those of the list.
   pub next_is : get_or tables (length list.tables) 0 ≡ split.next
   next_is = ap (λ ts. get_or ts (length list.tables) 0) split.is ∙ behind_is list.tables split.next split.later
 
-  -- The tables of the list are there.
+  -- The tables of the list exist.
   pub outers_there : All (λ t. t < length store.tables) list.tables
   outers_there = front_there (λ t. t < length store.tables) list.tables begun.rest (subst (All (λ t. t < length store.tables)) begun.first all)
 
@@ -199,7 +199,7 @@ module _ (store : Tables) (query : BoundQuery) (tables : List ℕ) (list : Combo
   few_next : length (rows_at store.tables split.next) ≤ most_rows
   few_next = subst (λ t. length (rows_at store.tables t) ≤ most_rows) next_is few_rows
 
-  -- Where no table is left behind it, the join is refused as the query is, ..
+  -- If no table is left after the next one, the join is refused as the query is.
   due_at_last : split.later ≡ []
       → first_refusal (size_conditions (bag_of query (map (rows_at store.tables) tables))) ≡ first_refusal (cap_conditions most_rows given)
   due_at_last none =
@@ -210,7 +210,7 @@ module _ (store : Tables) (query : BoundQuery) (tables : List ℕ) (list : Combo
   length_one_more : length (list.tables ++ split.next ∷ []) ≡ length list.tables + 1
   length_one_more = length-append list.tables (split.next ∷ [])
 
-  -- .. where each combination goes on, the query has no fewer, ..
+  -- If each combination is part of one in the result, the result is not smaller.
   due_before : list_all (names_first (length list.tables + 1)) query.atoms ≡ true → HaveRows store split.later
       → (refusal : Refusal) → first_refusal (cap_conditions most_rows given) ≡ Some refusal
       → first_refusal (size_conditions (bag_of query (map (rows_at store.tables) tables))) ≡ Some refusal
@@ -226,11 +226,11 @@ module _ (store : Tables) (query : BoundQuery) (tables : List ℕ) (list : Combo
       ap (λ ts. length (fitting query.atoms (map (rows_at store.tables) ts))) whole ∙ sym (length-bag store query tables) in
       more_refused (length given) (length (bag_of query (map (rows_at store.tables) tables))) refusal (omega (arith, more, here, all)) due
 
-  -- .. and else it is refused nothing.
+  -- Otherwise the join is not refused.
   none_before : length list.tables + 1 ≢ length tables → first_refusal (cap_conditions 18446744073709551615 given) ≡ None
   none_before more = none_refused store query list begun.fitting split.next few_next begun.bounded (omega (arith, left, short, more))
 
-  -- What refuses a join refuses the query.
+  -- A refusal of the join is the refusal of the query.
   pub refused : (cap : ℕ) → IsCap store query.atoms tables (length list.tables + 1) cap → (result : Result Combos Refusal)
       → AnswersDue (first_refusal (cap_conditions cap given)) result
       → IfErr result (λ refusal. (first_refusal (size_conditions (bag_of query (map (rows_at store.tables) tables))) ≡ Some refusal) ⊎ (refusal ≡ Memory))
@@ -244,11 +244,11 @@ module _ (store : Tables) (query : BoundQuery) (tables : List ℕ) (list : Combo
       let more : length list.tables + 1 ≢ length tables = λ same. lost (inl (drop_all (length list.tables + 1) tables (omega (arith, same)))) in
       absurd (none_is_some refusal (sym (none_before more) ∙ (ap (λ n. first_refusal (cap_conditions n given)) (sym is) ∙ due)))
 
-  -- So many a list may have where each goes on.
+  -- The list is within the limit if each of its combinations is part of one in the result.
   abbrev pub IsWithin : Type 0
   IsWithin = NoneLost store query.atoms (length list.tables + 1) split.later → length given ≤ most_rows
 
-  -- A join that is not refused keeps to that.
+  -- A join that is not refused is within this limit.
   pub within : (cap : ℕ) → IsCap store query.atoms tables (length list.tables + 1) cap → (result : Result Combos Refusal)
       → AnswersDue (first_refusal (cap_conditions cap given)) result → IfOk result (λ next. IsWithin)
   within cap is (Err refusal) due = tt
@@ -256,7 +256,7 @@ module _ (store : Tables) (query : BoundQuery) (tables : List ℕ) (list : Combo
   within cap (inr (is, lost)) (Ok next) due =
       λ none. absurd (lost (subst (NoneLost store query.atoms (length list.tables + 1)) (sym split.behind) none))
 
-  -- What it gives has the combinations of one table more.
+  -- The result of a join has the combinations of one more table.
   pub goes_on : (result : Result Combos Refusal) → IfOk result (λ next. IsWithin)
       → IfOk result (λ next. IsPermutation (combo_rows store next) given) → IfOk result (λ next. All (AreLive store next.tables) next.combos)
       → IfOk result (λ next. next.tables ≡ list.tables ++ split.next ∷ []) → IfOk result (λ next. next.fields ≡ query.fields)
@@ -280,7 +280,7 @@ module _ (store : Tables) (query : BoundQuery) (tables : List ℕ) (list : Combo
         capped = λ none. subst (λ n. n ≤ most_rows) (sym count) (few (subst (λ n. NoneLost store query.atoms n split.later) one none));
       }
 
--- What holds of a list for each further table holds of it for this one.
+-- A property for each further table holds for this one.
 pub of_next : (P : ℕ → Type 0) (Q : ℕ → Combos → Type 0) (table : ℕ) → P table → (result : Result Combos Refusal)
     → IfOk result (λ l. (t : ℕ) → P t → Q t l) → IfOk result (λ l. Q table l)
 of_next P Q table is (Ok l) holds = holds table is
@@ -288,7 +288,7 @@ of_next P Q table is (Err refusal) holds = tt
 
 -- ---- the first and the last list
 
--- Joins begin with the combination of no tables, ..
+-- The joins begin with the combination of no tables.
 pub begins : (store : Tables) (query : BoundQuery) (tables : List ℕ)
     → IsBegun store query tables (record { tables = []; fields = query.fields; combos = [] ∷ [] })
 begins store query tables = record {
@@ -301,7 +301,7 @@ begins store query tables = record {
   capped = λ none. omega (arith);
 }
 
--- .. and where no table is left, the query is not refused.
+-- If no table is left, the query is not refused.
 pub none_left : (store : Tables) (query : BoundQuery) (tables : List ℕ) (list : Combos) → IsBegun store query tables list
     → length tables ≤ length list.tables → first_refusal (size_conditions (bag_of query (map (rows_at store.tables) tables))) ≡ None
 none_left store query tables list begun none = by begun.rest refl begun.first
@@ -343,7 +343,7 @@ module _ (store : Tables) (query : BoundQuery) (tables : List ℕ) (all : All (�
       (few_next store query tables unit none_yet all short some few_rows) none_yet.bounded in
       omega (arith, most)
 
-  -- A list of the rows of the first table that fit is what joins go on from.
+  -- Joins can continue from a list of the rows of the first table that fit.
   pub first_begun : (list : Combos) → AreFitting store query.atoms list → All (AreLive store list.tables) list.combos → list.tables ≡ take 1 tables
       → list.fields ≡ query.fields → IsBegun store query tables list
   first_begun list fits live at fields =

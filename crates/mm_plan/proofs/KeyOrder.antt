@@ -1,4 +1,4 @@
--- References that are sorted by their keys, each once, are in the relation's order.
+-- References sorted by their keys, each once, are in the order of the relation.
 use Rattle.std.proofs.Common.{◌≡◌, ℕ, suc, ◌+◌, ◌<◌, Bool, true, false, cond, ◌||◌, List, [], ◌∷◌, length, get_or, Option, Some, None, ◌⊎◌, inl, inr, map}
 use Rattle.std.proofs.Common.{refl, sym, ap, ◌∙◌, subst, arith, add-one}
 use Rattle.std.specs.Prelude.{slice_get, IsPermutation}
@@ -72,13 +72,13 @@ module _ {X : Type 0} (p : X → Bool) where
       by true is (inr there) later = later there
       by false is there later = later there
 
--- ---- of several that are one, one is left
+-- ---- consecutive equal elements, once
 
 there_still : (z : RowRef) (x : RowRef) (rest : List RowRef) (b : Bool) → IsIn z rest → IsIn z (cond b rest (x ∷ rest))
 there_still z x rest true here = here
 there_still z x rest false here = inr here
 
--- each is among them, but the one before if it comes first
+-- each is among them, unless it is first and equals the one before
 first_kept : (z x : RowRef) (rest : List RowRef) (before : Option RowRef) (b : Bool) → x ≡ z → is_again before x ≡ b
     → (before ≡ Some z) ⊎ IsIn z (cond b rest (x ∷ rest))
 first_kept z x rest None true same again = absurd (false≢true again)
@@ -121,7 +121,7 @@ module _ (stored : StoredRows) (always : IsTable stored) where
   abbrev by_key : RowRef → RowRef → Ordering
   by_key = refs_by stored.key stored.key (slot_at stored.places)
 
-  -- each comes behind the one before it, or is the same
+  -- each is after the one before it, or equals it
   abbrev Climbs : RowRef → List RowRef → Type 0
   Climbs x [] = Unit {0}
   Climbs x (y ∷ ys) = ((x ≡ y) ⊎ (by_key x y ≡ Less)) × Climbs y ys
@@ -193,7 +193,7 @@ module _ (stored : StoredRows) (always : IsTable stored) where
   moved xs ys there at here = IsIn-from_Contains ys at (Contains-permutation xs ys at there (Contains-from_IsIn xs at here))
 
   module _ (refs : List RowRef) (live : All (HasRow now) refs) (ats : List RowRef) (same : IsPermutation ats refs) where
-    -- References in strict order are those of the relation that are among them.
+    -- References in strict order are the relation's references that are among them.
     strictly_in_order : IsStrictlySortedBy by_key (once None ats) → once None ats ≡ among refs stored
     strictly_in_order order =
         same_from_elements (refs_by_total stored.key stored.key now) (once None ats) (among refs stored) order (among_in_order refs)
@@ -207,7 +207,7 @@ module _ (stored : StoredRows) (always : IsTable stored) where
         let (x, among_refs, is) = some_among (same_ref z) refs passes in
         all_once ats z (moved refs ats (IsPermutation-sym ats refs same) z (subst (λ r. IsIn r refs) (sym (same_from_test z x is)) among_refs)))
 
-  -- So are sorted references, each once, ..
+  -- Sorted references, each once, are the relation's references that are among them.
   pub once_in_order : (refs : List RowRef) → All (HasRow now) refs → (sorted : List Keyed) → All (IsKeyed stored) sorted
       → IsSortedByKey (λ (row : Keyed). value_of row.key) value_cmp sorted → IsPermutation (map (λ (row : Keyed). row.at) sorted) refs
       → once None (map (λ (row : Keyed). row.at) sorted) ≡ among refs stored
@@ -219,7 +219,7 @@ module _ (stored : StoredRows) (always : IsTable stored) where
       (omega (arith, within, length-map sorted (λ (row : Keyed). row.at)))) in
       strictly_in_order refs live ats same (sorted_once sorted keys order live_sorted)
 
-  -- .. and one alone.
+  -- At most one reference is in the order of the relation.
   pub few_in_order : (refs : List RowRef) → All (HasRow now) refs → length refs < 2 → refs ≡ among refs stored
   few_in_order [] live few = strictly_in_order [] live [] (IsPermutation-refl []) (IsStrictlySortedBy-nil (refs_by_total stored.key stored.key now))
   few_in_order (x ∷ []) live few = strictly_in_order (x ∷ []) live (x ∷ []) (IsPermutation-refl (x ∷ [])) (sorted_from_rises x [] tt)

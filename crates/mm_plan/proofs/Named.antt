@@ -1,4 +1,4 @@
--- The steps of a query, by names, are its plan.
+-- The names of the steps of a query are its plan.
 use Rattle.std.proofs.Common.{◌≡◌, ℕ, zero, suc, ◌+◌, ◌<◌, Bool, true, false, cond, not, List, [], ◌∷◌, length, get_or, map, Option, Some, None, refl, sym}
 use Rattle.std.proofs.Common.{ap, ◌∙◌, subst, arith}
 use Rattle.std.specs.Prelude.{◌==◌, find, nat_lt, position, slice_get}
@@ -47,7 +47,7 @@ use Rattle.mm_store.specs.Tables.{Tables}
 use Rattle.mm_store.specs.declared.index_ref.IndexRef.{IndexRef}
 use Rattle.mm_store.specs.declared.index_ref.IndexRef.TheVariants as index
 
--- ---- choosing and naming
+-- ---- choices and names
 
 module _ {S L : Type 0} (name : S → L) where
   pub first_there_named : (xs : List (Option S)) → option_map name (first_there xs) ≡ first_there (map (option_map name) xs)
@@ -69,7 +69,7 @@ module _ {S L : Type 0} (name : S → L) where
       first_there_named (b ∷ []) ∙ (alone (option_map name b) ∙ (rest ∙ ap (λ o. first_there (o ∷ ls)) here))
   one_more (Some s) b l ls here rest = ap (λ o. first_there (o ∷ ls)) here
 
--- What the first atom gives that gives something is named as what is given by names.
+-- The step that is chosen for the first atom is named as the line that the rules choose by names.
 module _ (name : Step → PlanLine) (place : FieldName → FieldPlace) (give : ℕ → Atom FieldPlace → Option Step) (line_of : Atom FieldName → Option PlanLine) where
   pub first_named : (n : ℕ) (atoms : List (Atom FieldName))
       → ((i at : ℕ) (atom : Atom FieldName) → at ≡ n + i → slice_get atoms i ≡ Some atom → option_map name (give at (mapped_atom place atom)) ≡ line_of atom)
@@ -90,7 +90,7 @@ module _ {X Y Z : Type 0} (g : Y → Z) (f : X → Y) where
 
 -- ---- tables of FROM
 
--- Each alias of FROM stands at its own place.
+-- The alias of each item of FROM is at its own position.
 module _ (from : List FromItem) where
   first_alias : (items : List FromItem) (place : ℕ) (item : FromItem) → has_duplicate_aliases items ≡ false → slice_get items place ≡ Some item
       → position_or_len (λ (x : FromItem). same_name item.alias x.alias) items ≡ place
@@ -142,7 +142,7 @@ module _ (schema : Schema) (store : Tables) (from : List FromItem) (kept : AreKe
         ∙ (name_found (serves k field.column) table.indexes
         ∙ sym (ap (option_and_then (λ (t : Table). option_map (λ (d : IndexDef). d.name) (find (serves k field.column) t.indexes))) (table_is own))))
 
-    -- Its HASH index goes by one name, ..
+    -- The HASH index on the field's column has the same name by position and by name.
     pub hash_named : {Y : Type 0} (make : List ℕ → Y) (name : IndexRef → Y) → ((n : ℕ) → name (index.Hash n) ≡ make (index_at names own.place n))
         → option_map name (hash_at store own.of.place own.number) ≡ option_map make (hash_on schema from field)
     hash_named {Y} make name agree =
@@ -166,7 +166,7 @@ module _ (schema : Schema) (store : Tables) (from : List FromItem) (kept : AreKe
             (All-get_or (λ (t : Table). key_count t.definition.columns ≡ 1) schema.tables own.of.place table
             (slice_get_within schema.tables own.of.place table own.of.table_is) keys)
 
-    -- .. and so does its tree.
+    -- The tree on the field's column has the same name by position and by name.
     pub tree_is_named : {Y : Type 0} (make : IndexId → Y) (name : IndexRef → Y) → name index.Key ≡ make id.Key
         → ((n : ℕ) → name (index.Tree n) ≡ make (id.Named (index_at names own.place n)))
         → option_map name (tree_at store own.of.place own.number) ≡ option_map make (tree_on schema from field)
@@ -196,7 +196,7 @@ module _ (schema : Schema) (store : Tables) (from : List FromItem) (kept : AreKe
     pub field_is : field_named names (record { place = own.place; column = own.number }) ≡ field
     field_is = λ i. record { alias = alias_name i; column = column_name i }
 
-    -- It is of the table at a place just where its alias is that one's.
+    -- The field belongs to the table at a position exactly if it has the table's alias.
     pub is_here : (place : ℕ) (item : FromItem) → has_duplicate_aliases from ≡ false → slice_get from place ≡ Some item
         → (own.place == place) ≡ is_of item.alias field
     is_here place item duplicates at =
@@ -206,7 +206,7 @@ module _ (schema : Schema) (store : Tables) (from : List FromItem) (kept : AreKe
   -- ---- the first table
 
   module _ (duplicates : has_duplicate_aliases from ≡ false) (item : FromItem) (at : slice_get from 0 ≡ Some item) (of : Stands schema store.tables item) where
-    -- A field that is compared with a value, by what is found on it.
+    -- A field that is compared with a value, by the indexes on it.
     module _ {X : Type 0} (give : ℕ → Option IndexRef) (on : FieldName → Option X) (name : IndexRef → PlanLine) (make : X → PlanLine) (field : FieldName)
         (own : IsField schema store.tables from field) (agree : own.place ≡ 0 → option_map name (give own.number) ≡ option_map make (on field)) where
       pub compared : (right : Operand FieldName)

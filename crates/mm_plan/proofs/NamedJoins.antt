@@ -1,4 +1,4 @@
--- The steps of further tables, by names, are their lines.
+-- The names of the steps of further tables are their lines.
 use Rattle.std.proofs.Common.{◌≡◌, ⊎_elim, ℕ, zero, suc, ◌+◌, ◌*◌, ◌<◌, ◌≤◌, Bool, true, false, cond, not, ◌&&◌, ◌||◌, List, [], ◌∷◌, ◌++◌, length, get_or}
 use Rattle.std.proofs.Common.{map, Option, Some, None, refl, sym, ap, ◌∙◌, subst, append_assoc, arith}
 use Rattle.std.specs.Prelude.{◌==◌, ℤ, nat_lt, pos, slice_get}
@@ -78,7 +78,7 @@ lt_suc m n = ⊎_elim
     (λ (is : nat_lt m n ≡ false). let above = ltb-false m n is in past (suc m) (suc n) (omega (arith, above)) ∙ sym is)
     (cases_Bool (nat_lt m n))
 
--- An alias is one of those before a place just where it stands before it.
+-- An alias is among those before a position exactly if its own position is before it.
 module _ (alias : List ℕ) (rest : List FromItem) where
   abbrev is_alias : FromItem → Bool
   is_alias item = same_name alias item.alias
@@ -97,7 +97,7 @@ module _ (alias : List ℕ) (rest : List FromItem) where
       by false later = (let one : 1 + position_or_len is_alias (earlier ++ rest) ≡ suc (position_or_len is_alias (earlier ++ rest)) = omega arith in
           ap (λ n. nat_lt n (length (item ∷ earlier))) one) ∙ (lt_suc (position_or_len is_alias (earlier ++ rest)) (length earlier) ∙ later)
 
--- What the first of the filtered gives is what the first that gives something does.
+-- The first result of a filtered list is the first result of the two functions in sequence.
 module _ {A B C : Type 0} (h : A → Option B) (g : B → Option C) where
   pub given_filtered : (xs : List A) → first_given g (filter_map h xs) ≡ first_given (λ a. option_and_then g (h a)) xs
   given_filtered [] = refl
@@ -223,7 +223,7 @@ module _ (schema : Schema) (store : Tables) (kept : AreKept schema store) (keys 
     here : (field : FieldName) (own : IsOwn field) → (own.place == q) ≡ is_of item.alias field
     here field own = is_here schema store query.from kept keys field own q item duplicates at
 
-    -- A join equality by places and by names.
+    -- A join equality by positions and by names.
     pub record Matches (plain : Bool) (key : JoinKey) (equality : JoinEquality) : Type 0 where
       pub own : IsOwn equality.own
       pub own_here : own.place ≡ q
@@ -317,7 +317,7 @@ module _ (schema : Schema) (store : Tables) (kept : AreKept schema store) (keys 
         by_test true = sides_paired atom.left atom.right own others
         by_test false = tt
 
-    -- A rule by places and by names.
+    -- A rule by positions and by names.
     module _ (rule : JoinRule) (line_of : JoinEquality → Option PlanLine)
         (agree : (i : ℕ) (right : Operand FieldPlace) (key : JoinKey) (equality : JoinEquality) → key_by atoms q i ≡ Some key
         → Matches (is_plain right) key equality

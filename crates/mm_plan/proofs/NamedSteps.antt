@@ -1,4 +1,4 @@
--- The steps of a query that nothing refuses are, by names, its plan.
+-- The names of the steps of a query that nothing refuses are its plan.
 use Rattle.std.proofs.Common.{◌≡◌, ℕ, Bool, false, length, map, Option, Some, None, sym, ap, ◌∙◌}
 use Rattle.std.specs.Prelude.{slice_get}
 use Rattle.std.specs.List.{AllByRecursion, list_any}

@@ -1,4 +1,4 @@
--- What the lines of a plan name is in the catalog.
+-- The names in the lines of a plan are in the catalog.
 use Rattle.std.proofs.Common.{◌≡◌, inl, inr, ℕ, zero, suc, ◌<◌, ◌≤◌, false, List, [], ◌∷◌, get_or, length, take, Option, Some, None, refl, sym, ap, ◌∙◌}
 use Rattle.std.proofs.Common.{subst, arith}
 use Rattle.std.specs.List.{All, list_any}
@@ -43,7 +43,7 @@ module _ (schema : Schema) (store : Tables) (from : List FromItem) (kept : AreKe
   so_many : length (places_in schema from) ≡ length from
   so_many = length-map from (λ (item : FromItem). unwrap_or (table_place item.table schema) 0)
 
-  -- The table at a place in FROM is in the catalog, and in the store.
+  -- The table at a position in FROM is in the catalog, and in the store.
   record IsThere (place : ℕ) : Type 0 where
     item : FromItem
     item_is : slice_get from place ≡ Some item
@@ -76,7 +76,7 @@ module _ (schema : Schema) (store : Tables) (from : List FromItem) (kept : AreKe
         let many = as_many own.of.table.definition.columns own.of.table.indexes own.of.stored.indexes own.of.kept.indexes in
         holds_there (λ table. number < length table.indexes) (omega (arith, inside, many))
 
-    -- An index of the relation is one of the table.
+    -- An index of the relation is an index of the table.
     index_there : (index : IndexRef) → ((stored : StoredRows) → IsAt store (table_in place) stored → (column : ℕ) × IsIndexOn stored column index)
         → IsIndexThere names place index
     index_there index.Key on = tt
@@ -89,7 +89,7 @@ module _ (schema : Schema) (store : Tables) (from : List FromItem) (kept : AreKe
     hash_there (index.Tree number) is on = absurd is
     hash_there (index.Hash number) is on = index_there (index.Hash number) on
 
-  -- So is a field within.
+  -- A field within the tables of FROM exists in the catalog.
   field_there : (field : FieldPlace) → IsFieldWithin schema from field → IsFieldThere names field
   field_there field inside = by (slice_get from field.place) refl inside
     where
@@ -107,7 +107,7 @@ module _ (schema : Schema) (store : Tables) (from : List FromItem) (kept : AreKe
 
   -- ---- keys
 
-  -- What a key asks of its table and of an earlier one are fields within.
+  -- The key's column and field are within the tables of FROM.
   abbrev AreSidesWithin : ℕ → JoinKey → Type 0
   AreSidesWithin place key = IsFieldWithin schema from (record { place = place; column = key.column }) × IsFieldWithin schema from key.field
 
@@ -182,7 +182,7 @@ module _ (schema : Schema) (store : Tables) (from : List FromItem) (kept : AreKe
     front_alone [] n first is = cc
     front_alone (t ∷ some) n first is = ap (λ ts. get_or ts 0 0) is
 
-    -- What the lines of the steps name is there.
+    -- The names in the lines of the steps exist.
     pub names_there : (steps : List Step) → AreSteps store atoms (places_in schema from) steps → (place : ℕ) (own : Step) → slice_get steps place ≡ Some own
         → AreNamesThere names atoms place own
     names_there steps are zero own is =

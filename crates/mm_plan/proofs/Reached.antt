@@ -1,4 +1,4 @@
--- A test of the store's references tells what a column of the catalog refers to.
+-- The test of the store's references decides which table a column of the catalog refers to.
 use Rattle.std.proofs.Common.{◌≡◌, ℕ, zero, suc, ◌+◌, ◌<◌, Bool, true, false, not, ◌&&◌, ◌||◌, List, [], ◌∷◌, map, Option, Some, None, refl, sym, ap, ◌∙◌}
 use Rattle.std.proofs.Common.{arith}
 use Rattle.std.specs.Prelude.{◌==◌, slice_get}
@@ -29,7 +29,7 @@ or_last : (a b : Bool) → b ≡ false → (a || b) ≡ a
 or_last true b is = refl
 or_last false b is = is
 
--- A test of the references of one column that looks at where they lead.
+-- A test of the references of one column that depends only on their targets.
 module _ (schema : Schema) (from column : ℕ) (leads : ℕ → Bool) where
   abbrev passes : Reference → Bool
   passes r = ((from == r.from) && (column == r.column)) && leads r.to
@@ -44,7 +44,7 @@ module _ (schema : Schema) (from column : ℕ) (leads : ℕ → Bool) where
       (ap (λ b. (b && (column == r.0)) && leads (unwrap_or (table_place r.1 schema) 0)) (ne_eqb from place differ))
       ∙ other_table place rs differ
 
-  -- Behind the column there is none of it.
+  -- After the column there are no references of it.
   past_column : (at : ℕ) (columns : List Column) → column < at → list_any passes (map (reference_at schema from) (references_from at columns)) ≡ false
   past_column at [] behind = refl
   past_column at (c ∷ cs) behind = by (target_of c) (past_column (at + 1) cs (omega (arith, behind)))
@@ -121,7 +121,7 @@ one_and_not : (b : Bool) → (b && not (not b)) ≡ b
 one_and_not true = refl
 one_and_not false = refl
 
--- The references tell a column that refers to a table just where it refers to the table's name.
+-- The references say that a column refers to a table exactly if the column refers to the table's name.
 module _ (schema : Schema) (store : Tables) (links : store.links ≡ all_references schema) (from column to : ℕ) (name : List ℕ) (table : Table) (own : Column)
     (found : slice_get schema.tables from ≡ Some table) (has : slice_get table.definition.columns column ≡ Some own)
     (agree : (target : List ℕ) → target_of own ≡ Some target → (to == unwrap_or (table_place target schema) 0) ≡ same_name name target) where

@@ -1,4 +1,4 @@
--- What is left to read of a plan, step by step.
+-- The remaining reads of a plan, step by step.
 use Rattle.std.proofs.Common.{◌≡◌, ℕ, ◌+◌, ◌≤◌, cond, List, [], ◌∷◌, ◌++◌, Some, length, map, take, drop, add-one, sym, ap, ◌∙◌, arith}
 use Rattle.std.specs.List.{count_by}
 use Rattle.std.specs.Prelude.{slice_get}
@@ -29,7 +29,7 @@ one_more xs place x at =
     ∙ ap (λ y. take place xs ++ y ∷ []) (get_or_from_slice_get xs place x x at)
 
 module _ (atoms : List (Atom FieldPlace)) where
-  -- The next step takes its part of what is left.
+  -- The next step takes its part of the remaining reads.
   pub turn : (rows : ℕ → List (List Value)) (tables : List ℕ) (steps : List Step) (place table : ℕ) (own : Step)
       → slice_get tables place ≡ Some table → slice_get steps place ≡ Some own
       → steps_reads atoms (map rows (take place tables)) (drop place steps) (map rows (drop place tables))
@@ -48,7 +48,7 @@ module _ (atoms : List (Atom FieldPlace)) where
       before : map rows (take place tables) ++ rows table ∷ [] ≡ map rows (take (place + 1) tables)
       before = sym (map-append rows (take place tables) (table ∷ [])) ∙ ap (map rows) (sym (one_more tables place table at_table))
 
-  -- What a step reads behind the combinations of a list it reads behind those that fit.
+  -- A step reads as many rows after the combinations of a list as after the fitting ones.
   pub as_fitting : (store : Tables) (list : Combos) (tables : List ℕ) → AreFitting store atoms list → list.tables ≡ tables
       → (place : ℕ) (own : Step) (rows : List (List Value))
       → step_reads atoms place own rows (fitting atoms (map (rows_at store.tables) tables)) ≡ step_reads atoms place own rows (combo_rows store list)
@@ -57,11 +57,11 @@ module _ (atoms : List (Atom FieldPlace)) where
       ∙ ap (λ n. reads_once own rows + n)
       (sum_by-IsPermutation (reads_each atoms place own rows) (combo_rows store list) (fitting atoms (map (rows_at store.tables) list.tables)) fits)
 
-  -- Before the first table there is the combination of no rows alone, ..
+  -- Before the first table there is only the combination of no rows.
   pub alone : fitting atoms [] ≡ [] ∷ []
   alone = ap (λ b. cond b ([] ∷ []) []) (none_fails_yet atoms)
 
-  -- .. behind which its step reads what it may look at.
+  -- After this combination, the first step reads the rows that it may read.
   pub first_reads : (stored : StoredRows) (own : Step) (rows : List (List Value)) → Reaches stored atoms own
       → count_by (may_look atoms 0 own []) rows ≤ step_reads atoms 0 own rows ([] ∷ [])
   first_reads stored step.Scan rows reached = omega (arith)

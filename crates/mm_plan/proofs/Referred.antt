@@ -11,7 +11,7 @@ use Rattle.mm_query.specs.declared.bound_query.FieldPlace.{FieldPlace}
 use Rattle.mm_value.specs.declared.values.Value.TheVariants.{Int}
 use Rattle.std.specs.Prelude.{map, Some}
 
--- Such a key asks for the field's own value.
+-- A key without a shift requires the field's own value.
 pub unshifted : (atoms : List (Atom FieldPlace)) (outers : List ℕ) (key : JoinKey) (column : ℕ) → key.column ≡ column → added key.shift ≡ pos 0
     → IsJoin atoms outers key → IsJoin atoms outers (plain_key column key.field)
 unshifted atoms outers key column is none asked = λ rows row wide fits.

@@ -1,4 +1,4 @@
--- The ends that atoms set for a column of the first table.
+-- The bounds that atoms set for a column of the first table.
 use Rattle.std.proofs.Common.{◌≡◌, ℕ, suc, ◌==◌, ◌&&◌, Bool, true, false, not, cond, List, [], ◌∷◌, Option, Some, None, get_or, map, refl, sym, ap, ◌∙◌, arith}
 use Rattle.std.proofs.lemmas.Bool.{and_parts}
 use Rattle.std.proofs.lemmas.Option.{get_or_from_slice_get, none-some, same_Some, slice_get_within}
@@ -29,12 +29,12 @@ literal_is (Literal v) value is = ap Literal (same_Some v value is)
 literal_is (Column field) value is = absurd (none-some value is)
 literal_is (Shifted field by) value is = absurd (none-some value is)
 
--- The atoms have one that sets the end: it is false of all values on this side.
+-- One of the atoms sets the bound: it is false for all values on this side.
 abbrev pub SetsEnd : Ordering → ℕ → List (Atom FieldPlace) → Value → Type 0
 SetsEnd beyond column atoms value = (comparison : Comparison) × (stands comparison beyond ≡ false) × Contains atoms (compares column comparison value)
 
 module _ (beyond : Ordering) (column : ℕ) where
-  -- An atom that sets an end compares the column with it, ..
+  -- An atom that sets a bound compares the column with it.
   pub one_end : (atom : Atom FieldPlace) (value : Value) → end_of beyond column atom ≡ Some value
       → (comparison : Comparison) × (stands comparison beyond ≡ false) × (atom ≡ compares column comparison value)
   one_end atom value is = by ((atom.left.place == 0) && (atom.left.column == column) && not (stands atom.comparison beyond)) refl is
@@ -53,7 +53,7 @@ module _ (beyond : Ordering) (column : ℕ) where
             λ i. record { left = record { place = place i; column = own i }; comparison = atom.comparison; right = literal_is atom.right value is i },
           )
 
-  -- .. so the first that sets one is among those that do.
+  -- So one of the atoms sets the first bound.
   pub first_end_set : (atoms : List (Atom FieldPlace)) (value : Value) → first_given (end_of beyond column) atoms ≡ Some value
       → SetsEnd beyond column atoms value
   first_end_set [] value is = absurd (none-some value is)
@@ -70,7 +70,7 @@ module _ (beyond : Ordering) (column : ℕ) where
           (one.0, one.1, (0, omega (arith), one.2))
       by later None sets is = behind (later is)
 
--- The ends are what a range along the column may go by.
+-- The bounds are valid for a range along the column.
 pub low_end_set : (atoms : List (Atom FieldPlace)) (column : ℕ) (end : Option Value) → end ≡ low_end atoms column → IsLow atoms column end
 low_end_set atoms column None is = tt
 low_end_set atoms column (Some value) is = first_end_set Less column atoms value (sym is)
@@ -79,18 +79,18 @@ pub high_end_set : (atoms : List (Atom FieldPlace)) (column : ℕ) (end : Option
 high_end_set atoms column None is = tt
 high_end_set atoms column (Some value) is = first_end_set Greater column atoms value (sym is)
 
--- The atom at a place is among the atoms.
+-- The atom at a position is among the atoms.
 pub contains_at : (atoms : List (Atom FieldPlace)) (place : ℕ) (atom : Atom FieldPlace) → slice_get atoms place ≡ Some atom → Contains atoms atom
 contains_at atoms place atom at = (place, slice_get_within atoms place atom at, get_or_from_slice_get atoms place atom atom at)
 
 module _ (stored : StoredRows) (atoms : List (Atom FieldPlace)) (index : IndexRef) (place : ℕ) (reached : Reaches stored atoms (step.Range index place)) where
-  -- The atom that a range goes by is there, ..
+  -- The atom of a range exists.
   range_atom : (d : Atom FieldPlace) → slice_get atoms place ≡ Some (get_or atoms place d)
   range_atom d =
       let (column, comparison, value, at, on, tree) = reached in
       at ∙ ap Some (sym (get_or_from_slice_get atoms place (compares column comparison value) d at))
 
-  -- .. and the rows between the ends for its column are those at which the range may look.
+  -- The rows between the bounds on its column are those that the range may read.
   pub range_along : (d : Atom FieldPlace) (own : Step) → own ≡ step.Range index place → (low high : Option Value)
       → low ≡ low_end atoms (get_or atoms place d).left.column → high ≡ high_end atoms (get_or atoms place d).left.column
       → (row : List Value) → lies_between (get_or atoms place d).left.column low high row ≡ may_look atoms 0 own [] row

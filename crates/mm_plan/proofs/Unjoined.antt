@@ -20,12 +20,12 @@ use Rattle.mm_query.specs.declared.atom.Atom.{Atom}
 use Rattle.mm_query.specs.declared.bound_query.FieldPlace.{FieldPlace}
 use Rattle.mm_store.specs.Tables.{Tables}
 
--- None of them gives anything.
+-- Each of these options is `None`.
 abbrev AllNone : {X : Type 0} → List (Option X) → Type 0
 AllNone [] = Unit {0}
 AllNone (o ∷ os) = (o ≡ None) × AllNone os
 
--- What is chosen behind all others is so only where none of them gives anything.
+-- The default is chosen only if each option is `None`.
 none_given : {X : Type 0} (P : X → Type 0) (os : List (Option X)) (d : X) → (P d → ⊥) → AllGive P os → unwrap_or (first_there os) d ≡ d → AllNone os
 none_given P [] d not all is = tt
 none_given P (Some x ∷ os) d not all is = absurd (not (subst P is (all.0 x refl)))
@@ -51,7 +51,7 @@ module _ (store : Tables) (atoms : List (Atom FieldPlace)) (outers : List ℕ) (
   abbrev IsOther : Step → Type 0
   IsOther own = own ≢ step.NestedLoops
 
-  -- No rule gives nested loops.
+  -- No rule chooses nested loops.
   rule_is_other : (rule : JoinRule) (place : ℕ) (own : Atom FieldPlace) (key : JoinKey) (s : Step)
       → join_rule rule store atoms outers table place own.right key ≡ Some s → IsOther s
   rule_is_other join.Precomputed place own key s e = λ nested.
@@ -98,7 +98,7 @@ module _ (store : Tables) (atoms : List (Atom FieldPlace)) (outers : List ℕ) (
       no_key (0 + i) (key_of (length outers) (get_or atoms i d))
       (none_from (joined_by join.BuiltHash store atoms outers table) 0 atoms none.1.1.1.1.0 i (get_or atoms i d) (slice_get-get_or atoms i d within))
 
--- No table stands before the first.
+-- No table is before the first.
 none_earlier : (own : Atom FieldPlace) → key_of 0 own ≡ None
 none_earlier own = by (key_of 0 own) refl
   where
@@ -108,7 +108,7 @@ none_earlier own = by (key_of 0 own) refl
         let before = beside_earlier 0 own.left own.right key (guarded (is_equality own.comparison) (key_beside 0 own.left own.right) key is).1 in
         absurd (omega (arith, before))
 
--- Nested loops are chosen only where no atom is a join equality of the table.
+-- Nested loops are chosen only if no atom is a join equality of the table.
 pub only_without_key : (store : Tables) (atoms : List (Atom FieldPlace)) (tables : List ℕ) (place : ℕ)
     → slice_get (steps_of store atoms tables) place ≡ Some step.NestedLoops → All (λ own. key_of place own ≡ None) atoms
 only_without_key store atoms tables zero is = λ i d within. none_earlier (get_or atoms i d)

@@ -7,13 +7,13 @@ use Rattle.mm_store.specs.Tables.{Tables}
 use Rattle.mm_templist.specs.Combos.{AreLive, Combos}
 use Rattle.mm_schema.specs.Rows.{most_rows}
 
--- The most combinations of so many tables, of which each has at most 1,048,576 rows.
+-- The most combinations of this many tables, each with at most 1,048,576 rows.
 abbrev pub most_combinations : ℕ → ℕ
 most_combinations zero = 1
 most_combinations (suc tables) = most_combinations tables * most_rows
 
--- The list has the fitting combinations of the first of these tables; it may be joined to the rest, and where each of them is part
--- of one that fits the query it is not larger than that may be.
+-- The list has the fitting combinations of the first of these tables and can be joined to the rest. If each of its combinations is part of
+-- one that fits the query, the list is within the limit of a result.
 pub record IsBegun (store : Tables) (query : BoundQuery) (tables : List ℕ) (list : Combos) : Type 0 where
   pub rest : List ℕ
   pub first : tables ≡ list.tables ++ rest

@@ -1,4 +1,4 @@
--- Rows that meet atoms, and references in the order of their keys.
+-- Rows that satisfy atoms, and references in the order of their keys.
 use Rattle.std.specs.Prelude.{◌≡◌, Bool, true, false, List, [], ◌∷◌, Option, Some, None, cond, filter, slice_get}
 use Rattle.std.specs.List.{list_any}
 use Rattle.mm_value.specs.Views.{value_of}
@@ -16,11 +16,11 @@ use Rattle.mm_store.specs.declared.index_ref.IndexRef.TheVariants.{Key}
 use Rattle.mm_value.specs.declared.row_ref.RowRef.{RowRef}
 use Rattle.mm_value.specs.declared.values.Value.{Value}
 
--- The row, alone in its combination, fails none of the atoms.
+-- The row, as a combination of one table, fails no atom.
 abbrev pub meets : List (Atom FieldPlace) → List Value → Bool
 meets atoms row = none_fails atoms (Some row ∷ [])
 
--- The references of the rows of a relation that meet atoms, in key order.
+-- The references of the rows of a relation that satisfy atoms, in key order.
 abbrev pub meeting : List (Atom FieldPlace) → StoredRows → List RowRef
 meeting atoms stored = filter (λ at. meets atoms (row_at (slot_at stored.places) at)) stored.refs
 
@@ -34,16 +34,16 @@ finds_in_key_order step.Scan = true
 finds_in_key_order (step.Range Key atom) = true
 finds_in_key_order _ = false
 
--- The key is that of the row where it stands.
+-- The key is the value of the referenced row in the key column.
 abbrev pub IsKeyed : StoredRows → Keyed → Type 0
 IsKeyed stored row = slice_get (row_at (slot_at stored.places) row.at) stored.key ≡ Some (value_of row.key)
 
--- The reference is the one before it.
+-- The reference equals the previous one.
 abbrev pub is_again : Option RowRef → RowRef → Bool
 is_again None at = false
 is_again (Some other) at = same_ref other at
 
--- References, and one of several that follow each other and are one.
+-- The references, with consecutive equal ones once.
 abbrev pub once : Option RowRef → List RowRef → List RowRef
 once before [] = []
 once before (at ∷ refs) = cond (is_again before at) (once (Some at) refs) (at ∷ once (Some at) refs)

@@ -1,4 +1,4 @@
--- Joins of further tables that leave out no combination.
+-- The maximum number of combinations of a query's first tables.
 use Rattle.std.specs.Prelude.{◌≡◌, ◌⊎◌, ℕ, ◌<◌, ◌&&◌, Bool, true, List, [], All, drop, length, nat_lt}
 use Rattle.std.specs.List.{list_all}
 use Rattle.std.specs.Option.{option_map_or}
@@ -8,7 +8,7 @@ use Rattle.mm_query.specs.declared.bound_query.FieldPlace.{FieldPlace}
 use Rattle.mm_store.specs.Tables.{Tables, rows_at}
 use Rattle.mm_schema.specs.Rows.{most_rows}
 
--- The atom names fields of the first so many tables alone.
+-- The atom names only fields of the first tables, this many.
 abbrev pub names_first : ℕ → Atom FieldPlace → Bool
 names_first tables atom =
     nat_lt atom.left.place tables && option_map_or (λ (field : FieldPlace). nat_lt field.place tables) (column_of atom.right) true
@@ -17,13 +17,13 @@ names_first tables atom =
 abbrev pub HaveRows : Tables → List ℕ → Type 0
 HaveRows store tables = All (λ table. 0 < length (rows_at store.tables table)) tables
 
--- Each combination of the first so many tables that fits so far is part of one that fits the query: no table is left, or no atom names a
--- field of those that are, and each of them has a row.
+-- Each fitting combination of the first tables is part of one that fits the query. This holds if no table is left, or if each table that is
+-- left has a row and no atom names it.
 abbrev pub NoneLost : Tables → List (Atom FieldPlace) → ℕ → List ℕ → Type 0
 NoneLost store atoms tables later = (later ≡ []) ⊎ ((list_all (names_first tables) atoms ≡ true) × HaveRows store later)
 
--- So many combinations the first so many tables of a query may have: as many as the query where each goes on, and just where some may not
--- go on as many as may be.
+-- The maximum number of combinations of the first tables: the limit of a result if each is part of a combination in it, and otherwise
+-- unlimited.
 abbrev pub IsCap : Tables → List (Atom FieldPlace) → List ℕ → ℕ → ℕ → Type 0
 IsCap store atoms tables first cap =
     ((cap ≡ most_rows) × NoneLost store atoms first (drop first tables))

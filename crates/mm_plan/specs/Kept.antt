@@ -1,4 +1,4 @@
--- How a store keeps the tables of a catalog: beside each of them a relation.
+-- A store keeps the tables of a catalog, each as a relation.
 use Rattle.std.specs.Prelude.{◌≡◌, All, List, [], ◌∷◌, Some, map}
 use Rattle.mm_indexed.specs.Index.{column_of, kind_of}
 use Rattle.mm_indexed.specs.Kept.{StoredRows}
@@ -17,12 +17,12 @@ use Rattle.mm_store.specs.Tables.{Tables}
 abbrev pub instance_of : List StoredRows → Instance
 instance_of stored = map rows_of stored
 
--- The index is on the column that is named, and of the kind.
+-- The index is on the named column, and of the defined kind.
 pub record IsIndex (columns : List Column) (definition : IndexDef) (index : Index) : Type 0 where
   pub column : column_place definition.column columns ≡ Some (column_of index)
   pub kind : kind_of index ≡ definition.kind
 
--- The indexes are those that are defined, in the same order.
+-- The indexes are the defined ones, in the same order.
 abbrev pub AreIndexes : List Column → List IndexDef → List Index → Type 0
 AreIndexes columns [] [] = Unit {0}
 AreIndexes columns (d ∷ ds) (x ∷ xs) = IsIndex columns d x × AreIndexes columns ds xs
@@ -35,15 +35,15 @@ pub record IsOf (table : Table) (stored : StoredRows) : Type 0 where
   pub types : stored.places.types ≡ map (λ (c : Column). c.col_type) table.definition.columns
   pub indexes : AreIndexes table.definition.columns table.indexes stored.indexes
 
--- There is a relation for each table and no others.
+-- There is exactly one relation for each table.
 abbrev pub AreOf : List Table → List StoredRows → Type 0
 AreOf [] [] = Unit {0}
 AreOf (t ∷ ts) (r ∷ rs) = IsOf t r × AreOf ts rs
 AreOf [] (r ∷ rs) = ⊥
 AreOf (t ∷ ts) [] = ⊥
 
--- There is a relation for each table; the store's references are those of the catalog's columns, and each is to another table
--- that is there, which is older.
+-- There is exactly one relation for each table, and the store has the catalog's references. Each refers to another table that exists and is
+-- older.
 pub record AreKept (schema : Schema) (store : Tables) : Type 0 where
   pub relations : AreOf schema.tables store.tables
   pub links : store.links ≡ all_references schema
@@ -51,6 +51,6 @@ pub record AreKept (schema : Schema) (store : Tables) : Type 0 where
   pub others : RefersToOthers schema
   pub back : RefersBack [] schema.tables
 
--- Just one column of each table is its key.
+-- Each table has exactly one key column.
 abbrev pub HaveOneKey : List Table → Type 0
 HaveOneKey tables = All (λ table. key_count table.definition.columns ≡ 1) tables

@@ -20,8 +20,8 @@ use mm_store::View;
 use mm_templist::{Descriptor, TempList};
 use std::alloc::{AllocError, Global};
 
-/// The rows of the first table of a query that fit so far, found by its step. For a tree merge with the second table they are
-/// found along the first table's tree, so in the order of that walk. `AllocError` where memory is refused.
+/// Returns the combinations of the first table's rows that fit so far, found by the table's step. Before a tree merge with the second table
+/// the rows are found along the first table's tree, in its order. Fails with `AllocError` if an allocation fails.
 pub(crate) fn begin<'a>(
     alloc: Global,
     view: &mut View<'_>,
@@ -56,7 +56,7 @@ pub(crate) fn begin<'a>(
     Ok(select(alloc, view, descriptor, atoms, access)?)
 }
 
-/// The way to the rows of the first table that a step takes.
+/// Returns the access path of a step of the first table.
 pub(crate) fn access_by(atoms: &[Atom<FieldPlace>], step: Step) -> Access<'_>
     requires { (stored : StoredRows) × Reaches stored atoms.now step }
     ensures served { (stored : StoredRows) → Reaches stored atoms.now step → IsServed stored result }

@@ -1,4 +1,4 @@
-//! How large the list of a query's first tables may grow before the query is refused.
+//! The maximum number of combinations of a query's first tables.
 ghost use Rattle.std.specs.Prelude.{◌≡◌, ℕ, ◌<◌, ◌≤◌, ◌↔◌, All, IsTrue, drop, length};
 ghost use Rattle.std.specs.List.{list_all};
 ghost use Rattle.mm_plan.specs.Growing.{HaveRows, IsCap, names_first};
@@ -6,7 +6,7 @@ ghost use Rattle.mm_plan.specs.Growing.{HaveRows, IsCap, names_first};
 use mm_query::{Atom, FieldPlace, MAX_COMBINATIONS};
 use mm_store::View;
 
-/// Whether an atom names fields of the first so many tables alone.
+/// Returns whether an atom names only fields of the first `tables` tables.
 fn names_first(atom: &Atom<FieldPlace>, tables: usize) -> bool
     ensures { result ≡ names_first tables atom.now }
 {
@@ -17,14 +17,14 @@ fn names_first(atom: &Atom<FieldPlace>, tables: usize) -> bool
     atom.left.place < tables && is_right_first
 }
 
-/// Whether no atom names a field of another table than the first so many.
+/// Returns whether every atom names only fields of the first `tables` tables.
 fn all_name_first(atoms: &[Atom<FieldPlace>], tables: usize) -> bool
     ensures { result ≡ list_all (names_first tables) atoms.now }
 {
     atoms.iter().all(|atom| names_first(atom, tables))
 }
 
-/// Whether each of some tables has a row.
+/// Returns whether each of the tables has a row.
 fn have_rows(view: &View<'_>, tables: &[usize]) -> bool
     requires { All (λ table. table < length view.now.store.tables) tables.now }
     ensures { IsTrue result ↔ HaveRows view.now.store tables.now }
@@ -37,9 +37,9 @@ fn have_rows(view: &View<'_>, tables: &[usize]) -> bool
     true
 }
 
-/// How many combinations of the first so many tables of a query may fit so far. Where each of them goes on in the result, as behind
-/// the last table, no more than may be in that. So a product that is too large is refused as soon as it is, and not kept. Else any
-/// number may.
+/// Returns the maximum number of combinations of the first `first` tables. This is the limit of the result if no table is left, or if each
+/// combination is certainly part of one in the result. So a product that is too large is refused early and not stored. Otherwise the number
+/// is unlimited.
 pub(crate) fn cap_of(
     view: &View<'_>,
     atoms: &[Atom<FieldPlace>],

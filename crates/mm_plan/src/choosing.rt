@@ -23,21 +23,21 @@ pub enum FirstRule {
 /// A rule for a further table.
 #[derive(Clone, Copy)]
 pub enum JoinRule {
-    /// Its key is what a reference of an earlier table leads to.
+    /// The table's key is the target of a reference of an earlier table.
     Precomputed,
-    /// It is the second table, the first is scanned, and both columns have trees.
+    /// The table is the second one, the first is scanned, and both columns have trees.
     TreeMerge,
-    /// It is the second table, the first has less than half as many rows, and its column has a tree.
+    /// The table is the second one, the first has less than half as many rows, and the column has a tree.
     TreeJoin,
-    /// Its column has a HASH index.
+    /// The column has a HASH index.
     HashJoin,
-    /// It has a join equality.
+    /// The table has a join equality.
     BuiltHash,
 }
 
-/// The steps of a query whose tables stand at these places in the store, in FROM order: one for each. Of the atoms that fit a rule
-/// the first written is taken, and for it the index that was created first; the tree on the key counts as the first of its table
-/// (the access paths and join methods of Lehman and Carey, SIGMOD 1986). It looks at no row. `AllocError` where memory is refused.
+/// Returns the steps of a query, one for each table. `tables` has the positions of its tables in the store, in FROM order. Of the atoms
+/// that satisfy a rule, the first written is used, and for it the index created first. The tree on the key counts as the table's first.
+/// Reads no row. Fails with `AllocError` if an allocation fails. Lehman and Carey (SIGMOD 1986) describe the access paths and join methods.
 pub fn plan_steps(
     alloc: Global,
     view: &View<'_>,
@@ -59,7 +59,21 @@ pub fn plan_steps(
     Ok(steps)
 }
 
-/// What steps are chosen by: the tables as they are, and what a query asks.
+/// Returns the step of a query of one table, as [`plan_steps`] does, without a list.
+pub(crate) fn plan_alone(view: &View<'_>, query: &BoundQuery, tables: &[usize]) -> [Step; 1]
+    requires there { All (λ table. table < length view.now.store.tables) tables.now }
+    requires alone { length tables.now ≡ 1 }
+    ensures steps { result ≡ steps_of view.now.store query.now.atoms tables.now }
+    ensures allowed { AreSteps view.now.store query.now.atoms tables.now result }
+{
+    let chooser = Chooser {
+        view,
+        atoms: query.atoms.as_slice(),
+    };
+    [chooser.first_step(tables[0])]
+}
+
+/// The input of the rules: the current tables, and the atoms of a query.
 #[derive(Clone, Copy)]
 pub(crate) struct Chooser<'c, 'v> {
     pub view: &'c View<'v>,
@@ -67,9 +81,10 @@ pub(crate) struct Chooser<'c, 'v> {
 }
 
 impl Chooser<'_, '_> {
-    // The view says of an index that none of its kind was created before it. These calls say that it is the one which the rules find.
+    // The view's contract says that no index of the kind was created before the one returned. These functions show that it is the index of
+    // the rules.
 
-    /// The tree on a column of a table that was created first.
+    /// Returns the tree on a column of a table that was created first.
     fn tree_on(&self, table: usize, column: usize) -> Option<IndexRef>
         requires { table < length self.now.view.now.store.tables }
         ensures { result ≡ tree_at self.now.view.now.store table column }
@@ -77,7 +92,7 @@ impl Chooser<'_, '_> {
         self.view.tree_on(table, column)
     }
 
-    /// The HASH index on a column of a table that was created first.
+    /// Returns the HASH index on a column of a table that was created first.
     fn hash_on(&self, table: usize, column: usize) -> Option<IndexRef>
         requires { table < length self.now.view.now.store.tables }
         ensures { result ≡ hash_at self.now.view.now.store table column }
@@ -85,7 +100,7 @@ impl Chooser<'_, '_> {
         self.view.hash_on(table, column)
     }
 
-    /// How many rows a table has.
+    /// Returns the number of rows of a table.
     fn count_of(&self, table: usize) -> usize
         requires { table < length self.now.view.now.store.tables }
         ensures { result ≡ count_at self.now.view.now.store table }
@@ -93,7 +108,7 @@ impl Chooser<'_, '_> {
         self.view.len_of(table)
     }
 
-    /// The step of a table by the tables before it.
+    /// Returns the step of a table, given the tables before it.
     fn step_for(&self, outers: &[usize], table: usize) -> Step
         requires outers { All (λ outer. outer < length self.now.view.now.store.tables) outers.now }
         requires there { table < length self.now.view.now.store.tables }
@@ -110,7 +125,7 @@ impl Chooser<'_, '_> {
         }
     }
 
-    /// What a rule gives for the atom at a place.
+    /// Returns the step that a rule chooses for the atom at `place`, or `None` if the atom does not satisfy the rule.
     fn first_rule(
         &self,
         rule: FirstRule,
@@ -137,7 +152,7 @@ impl Chooser<'_, '_> {
         }
     }
 
-    /// What a rule gives for the first atom that fits it.
+    /// Returns the step that a rule chooses for the first atom that satisfies it.
     fn first_by(&self, rule: FirstRule, table: usize) -> Option<Step>
         requires { table < length self.now.view.now.store.tables }
         ensures { result ≡ first_from (first_rule rule self.now.view.now.store table) 0 self.now.atoms.now }
@@ -150,7 +165,7 @@ impl Chooser<'_, '_> {
         None
     }
 
-    /// The step of the first table.
+    /// Returns the step of the first table.
     pub(crate) fn first_step(&self, table: usize) -> Step
         requires { table < length self.now.view.now.store.tables }
         ensures { result ≡ first_step self.now.view.now.store self.now.atoms.now table }
@@ -168,18 +183,18 @@ impl Chooser<'_, '_> {
     }
 }
 
-/// A table of FROM behind others.
+/// A table of FROM other than the first.
 #[derive(Clone, Copy)]
 struct Further<'c, 'v> {
     chooser: Chooser<'c, 'v>,
-    /// The places in the store of the tables before it.
+    /// The positions in the store of the tables before this one.
     outers: &'c [usize],
-    /// Its own place in the store.
+    /// The table's position in the store.
     table: usize,
 }
 
 impl Further<'_, '_> {
-    /// Whether there is just one table before it, which is scanned.
+    /// Returns whether exactly one table precedes this one, and that table is scanned.
     fn follows_scan(&self) -> bool
         requires { All (λ outer. outer < length self.now.chooser.view.now.store.tables) self.now.outers.now }
         ensures { result ≡ follows_scan self.now.chooser.view.now.store self.now.chooser.atoms.now self.now.outers.now }
@@ -190,7 +205,7 @@ impl Further<'_, '_> {
         }
     }
 
-    /// Whether there is just one table before it, and twice that one's row count is below its own.
+    /// Returns whether exactly one table precedes this one, with less than half as many rows.
     fn follows_shorter(&self) -> bool
         requires outers { All (λ outer. outer < length self.now.chooser.view.now.store.tables) self.now.outers.now }
         requires there { self.now.table < length self.now.chooser.view.now.store.tables }
@@ -205,7 +220,7 @@ impl Further<'_, '_> {
         }
     }
 
-    /// Whether the key's column is its own key, and the key's field refers to it.
+    /// Returns whether the key's column is this table's key, and the key's field is a foreign key to this table only.
     fn is_referred(&self, key: JoinKey) -> bool
         requires there { self.now.table < length self.now.chooser.view.now.store.tables }
         requires earlier { key.field.place < length self.now.outers.now }
@@ -217,7 +232,7 @@ impl Further<'_, '_> {
             && view.refers_only_to(from, key.field.column, self.table)
     }
 
-    /// The step along the trees on both columns of a key.
+    /// Returns the tree merge along the trees on both columns of a key, or `None` if a tree is missing.
     fn merge_of(&self, place: usize, key: JoinKey) -> Option<Step>
         requires outers { All (λ outer. outer < length self.now.chooser.view.now.store.tables) self.now.outers.now }
         requires there { self.now.table < length self.now.chooser.view.now.store.tables }
@@ -234,7 +249,7 @@ impl Further<'_, '_> {
         })
     }
 
-    /// What a rule gives for the key of the atom at a place.
+    /// Returns the step that a rule chooses for the key of the atom at `place`.
     fn join_rule(
         &self,
         rule: JoinRule,
@@ -267,7 +282,7 @@ impl Further<'_, '_> {
         }
     }
 
-    /// What a rule gives for the atom at a place, if that is a join equality of the table.
+    /// Returns the step that a rule chooses for the atom at `place`, or `None` if the atom is not a join equality of the table.
     fn joined_by(&self, rule: JoinRule, place: usize, atom: &Atom<FieldPlace>) -> Option<Step>
         requires outers { All (λ outer. outer < length self.now.chooser.view.now.store.tables) self.now.outers.now }
         requires there { self.now.table < length self.now.chooser.view.now.store.tables }
@@ -278,7 +293,7 @@ impl Further<'_, '_> {
         self.join_rule(rule, place, &atom.right, key)
     }
 
-    /// What a rule gives for the first join equality of the table that fits it.
+    /// Returns the step that a rule chooses for the first join equality of the table that satisfies it.
     fn first_by(&self, rule: JoinRule) -> Option<Step>
         requires outers { All (λ outer. outer < length self.now.chooser.view.now.store.tables) self.now.outers.now }
         requires there { self.now.table < length self.now.chooser.view.now.store.tables }
@@ -293,7 +308,7 @@ impl Further<'_, '_> {
         None
     }
 
-    /// The step of the table.
+    /// Returns the step of the table.
     fn step(&self) -> Step
         requires outers { All (λ outer. outer < length self.now.chooser.view.now.store.tables) self.now.outers.now }
         requires there { self.now.table < length self.now.chooser.view.now.store.tables }
@@ -318,7 +333,7 @@ impl Further<'_, '_> {
     }
 }
 
-/// The column of the first table that an atom compares with a value.
+/// Returns the column of the first table that an atom compares with a literal.
 fn compared_column(atom: &Atom<FieldPlace>) -> Option<usize>
     ensures { result ≡ compared_column atom.now.left atom.now.right }
 {
@@ -328,7 +343,7 @@ fn compared_column(atom: &Atom<FieldPlace>) -> Option<usize>
     }
 }
 
-/// The column of the first table that an atom asks to be a value.
+/// Returns the column of the first table that an atom requires to equal a literal.
 fn equated_column(atom: &Atom<FieldPlace>) -> Option<usize>
     ensures { result ≡ equated_column atom.now }
 {
@@ -338,7 +353,7 @@ fn equated_column(atom: &Atom<FieldPlace>) -> Option<usize>
     }
 }
 
-/// The column of the first table that an atom asks to be on one side of a value.
+/// Returns the column of the first table that an atom requires to be above or below a literal.
 fn bounded_column(atom: &Atom<FieldPlace>) -> Option<usize>
     ensures { result ≡ bounded_column atom.now }
 {
@@ -348,14 +363,14 @@ fn bounded_column(atom: &Atom<FieldPlace>) -> Option<usize>
     }
 }
 
-/// Whether an operand is a column, and no shift of one.
+/// Returns whether an operand is a column without a shift.
 fn is_plain(operand: &Operand<FieldPlace>) -> bool
     ensures { result ≡ is_plain operand.now }
 {
     matches!(operand, Operand::Column(_))
 }
 
-/// Whether twice a count is below another one.
+/// Returns whether a count is less than half of another one.
 fn is_below_half(count: usize, other: usize) -> bool
     ensures { result ≡ nat_lt (2 * count) other }
 {

@@ -1,4 +1,4 @@
-//! The ends of a range of rows of the first table.
+//! The bounds of a range of rows of the first table.
 ghost use Rattle.std.specs.Prelude.{◌≡◌};
 ghost use Rattle.std.specs.Option.{option_copied};
 ghost use Rattle.mm_plan.specs.Steps.{end_of, high_end, low_end};
@@ -8,7 +8,8 @@ use mm_query::{Atom, FieldPlace, Operand};
 use mm_value::Value;
 use std::cmp::Ordering;
 
-/// The value with which an atom compares a column of the first table, where it is false of all values on one side of that one.
+/// Returns the literal with which an atom compares a column of the first table, if the atom is false for every value on the side `beyond`
+/// of it.
 fn end_of<'q>(beyond: Ordering, column: usize, atom: &'q Atom<FieldPlace>) -> Option<&'q Value>
     ensures { option_copied result ≡ end_of beyond column atom.now }
 {
@@ -22,7 +23,7 @@ fn end_of<'q>(beyond: Ordering, column: usize, atom: &'q Atom<FieldPlace>) -> Op
     }
 }
 
-/// The first end that the atoms set for a column of the first table on one side.
+/// Returns the first bound that the atoms set on one side for a column of the first table.
 fn first_end<'q>(
     beyond: Ordering,
     atoms: &'q [Atom<FieldPlace>],
@@ -38,14 +39,14 @@ fn first_end<'q>(
     None
 }
 
-/// The first lower end that the atoms set for a column of the first table.
+/// Returns the first lower bound that the atoms set for a column of the first table.
 pub(crate) fn low_end(atoms: &[Atom<FieldPlace>], column: usize) -> Option<&Value>
     ensures { option_copied result ≡ low_end atoms.now column }
 {
     first_end(Ordering::Less, atoms, column)
 }
 
-/// The first upper end that the atoms set for a column of the first table.
+/// Returns the first upper bound that the atoms set for a column of the first table.
 pub(crate) fn high_end(atoms: &[Atom<FieldPlace>], column: usize) -> Option<&Value>
     ensures { option_copied result ≡ high_end atoms.now column }
 {

@@ -13,9 +13,9 @@ use mm_schema::Catalog;
 use mm_store::View;
 use std::alloc::{AllocError, Global};
 
-/// The plan of a query that nothing refuses: a line for each table of FROM, in their order. Its tables stand at these places in the
-/// store, which keeps those of the catalog. The lines are the steps that are chosen for the query, by the names that stand in the
-/// catalog at their places. It looks at no row. `AllocError` where memory is refused.
+/// Returns the plan of a query that nothing refuses: a line for each table of FROM, in order. `tables` has the positions of the tables in
+/// the catalog and in the store. The lines are the chosen steps, with names from the catalog. Reads no row. Fails with `AllocError` if an
+/// allocation fails.
 pub fn explain(
     alloc: Global,
     view: &View<'_>,
@@ -39,7 +39,7 @@ pub fn explain(
     names.lines(alloc, query.atoms.as_slice(), steps.as_slice())
 }
 
-/// Law: exactly one column of each table of a catalog is its key. The call does nothing.
+/// Law: each table of a catalog has exactly one key column. The call does nothing.
 pub fn have_one_key(catalog: &Catalog)
     ensures { HaveOneKey catalog.now.tables }
 {

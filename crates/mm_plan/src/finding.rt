@@ -1,4 +1,4 @@
-//! The rows of one table that meet atoms.
+//! The rows of one table that satisfy atoms.
 ghost use Rattle.std.specs.Prelude.{◌≡◌, ◌+◌, ◌++◌, ◌<◌, ◌≤◌, [], ℕ, true, All, IfOk, IsOk, IsPermutation, None, OnOk, length, map};
 ghost use Rattle.std.specs.List.{count_by};
 ghost use Rattle.std.specs.List.Sorted.{IsSortedByKey};
@@ -22,16 +22,16 @@ use mm_templist::FoundRefs;
 use mm_value::{RowRef, ValueRef, compare};
 use std::alloc::{AllocError, Global};
 
-/// The key of a row, and the reference where the row stands.
+/// The key and the reference of a row.
 #[derive(Clone, Copy)]
 struct Keyed<'v> {
     key: ValueRef<'v>,
     at: RowRef,
 }
 
-/// The references of the rows of a table of which no atom is false, in key order. They are found by the step that a query of this
-/// table alone would take; where that goes by an index on another column than the key and finds several, each is looked at once more
-/// for its key. `AllocError` where memory is refused; a look-up by key asks for none.
+/// Returns the references of the rows of a table that make no atom false, in key order, found by the step of a query of this table alone.
+/// If that step does not return key order and finds several rows, each of them is read once more for its key. Fails with `AllocError` if an
+/// allocation fails; a look-up by key allocates nothing.
 pub fn find_rows(
     alloc: Global,
     view: &mut View<'_>,
@@ -57,9 +57,9 @@ pub fn find_rows(
     in_key_order(alloc, view, table, found)
 }
 
-/// Those of the given references that belong to the table, each once and in key order, whatever order they were given in. If
-/// there are several, each row is looked at once. `AllocError` where memory is refused; one reference asks for none. It takes
-/// O(m log m) comparisons for m references, and m where they are in key order.
+/// Returns those of the table's references that are among the given ones, each once and in key order. The given references may be in any
+/// order, with duplicates. Reads each row once if there are several. Fails with `AllocError` if an allocation fails; at most one reference
+/// needs no allocation. Makes O(m log m) comparisons for m references, and O(m) if they are already in key order.
 pub fn in_key_order(
     alloc: Global,
     view: &mut View<'_>,
@@ -84,8 +84,8 @@ pub fn in_key_order(
     Ok(refs)
 }
 
-/// The rows of these references, in their order, with what they have in the key's column. Each is looked at once. `AllocError` where
-/// memory is refused.
+/// Returns the given references in their order, each with the value of its row in the key column. Reads each row once. Fails with
+/// `AllocError` if an allocation fails.
 fn with_keys<'v>(
     alloc: Global,
     view: &mut View<'v>,
@@ -112,8 +112,7 @@ fn with_keys<'v>(
     Ok(rows)
 }
 
-/// Puts rows in the order of their keys. It takes no memory and O(m log m) comparisons for m rows, and m where they are in
-/// that order.
+/// Sorts rows by their keys. Allocates nothing. Makes O(m log m) comparisons for m rows, and O(m) if they are already sorted.
 fn sort_by_key(rows: &mut Vec<Keyed>)
     ensures permutation { IsPermutation rows.old.items rows.new.items }
     ensures sorted { IsSortedByKey (λ row. value_of row.key) value_cmp rows.new.items }
@@ -121,7 +120,7 @@ fn sort_by_key(rows: &mut Vec<Keyed>)
     rows.sort_unstable_by(|a, b| compare(&a.key, &b.key));
 }
 
-/// Whether the reference is the one before it.
+/// Returns whether the reference equals the previous one.
 fn is_again(before: Option<RowRef>, at: RowRef) -> bool
     ensures { result ≡ is_again before at }
 {
@@ -131,8 +130,8 @@ fn is_again(before: Option<RowRef>, at: RowRef) -> bool
     }
 }
 
-/// Appends the references of rows, in their order, and one of several that follow each other and are one. `AllocError` where memory
-/// is refused; then some may have been appended.
+/// Appends the references of rows in order, and consecutive equal references once. Fails with `AllocError` if an allocation fails; some
+/// references may have been appended then.
 fn append_once(rows: &[Keyed], refs: &mut FoundRefs) -> Result<(), AllocError>
     ensures { OnOk result (refs.new.items ≡ refs.old.items ++ once None (map (λ row. row.at) rows.now)) }
 {

@@ -6,7 +6,7 @@ ghost use Rattle.mm_plan.specs.Steps.{HasKey};
 use mm_join::{JoinKey, join_key};
 use mm_query::{Atom, FieldPlace};
 
-/// The key that the atom at a place has for the table at a place in FROM.
+/// Returns the key of an atom for the table at a position in FROM. The atom must be a join equality of that table.
 pub(crate) fn key_at(atoms: &[Atom<FieldPlace>], place: usize, atom: usize) -> JoinKey
     requires { HasKey atoms.now place atom (λ key. Unit {0}) }
     ensures is { HasKey atoms.now place atom (λ key. key ≡ result) }

@@ -1,4 +1,4 @@
-//! Laws of the steps that are chosen, of what their keys mean, and of their names.
+//! Laws of chosen steps, of their keys, and of their names.
 ghost use Rattle.std.specs.Prelude.{◌≡◌, ◌≢◌, ◌∷◌, ◌<◌, ℕ, ℤ, pos, All, List, [], None, Some, length, map, slice_get};
 ghost use Rattle.mm_join.specs.Equated.{IsJoin, plain_key};
 ghost use Rattle.mm_join.specs.Keys.{key_of};
@@ -20,9 +20,9 @@ ghost use Rattle.mm_schema.specs.Schema.{Schema};
 ghost use Rattle.mm_store.specs.Tables.{Tables};
 ghost use Rattle.mm_value.specs.declared.values.Value.{Value};
 
-/// `=` between a column of a table and one of an earlier table is a join equality of the table, whichever side each of them is on, with
-/// a shift and without one. It asks for the earlier field's value in the table's column. An atom that compares otherwise, that has a
-/// value on its right side, or of which neither side is of the table, is none.
+/// Law: `=` between a column of a table and one of an earlier table is a join equality of the table, in either order, with a shift or
+/// without. It requires the earlier field's value in the table's column. An atom with another comparison, with a literal on its right side,
+/// or without a field of the table is not a join equality.
 pub fn join_equalities_ask_for_earlier_values()
     ensures plain { (own earlier : FieldPlace) → earlier.place < own.place
         → key_of own.place (record { left = own; comparison = Equal; right = Column earlier }) ≡ Some (plain_key own.column earlier) }
@@ -44,15 +44,14 @@ pub fn join_equalities_ask_for_earlier_values()
         → key_of place (record { left = left; comparison = Equal; right = Column right }) ≡ None }
 {}
 
-/// The step that is chosen for a table goes by nested loops only where no atom is a join equality of the table.
+/// Law: nested loops are chosen for a table only if no atom is a join equality of the table.
 pub fn nested_loops_are_for_no_join_equality()
     ensures { (store : Tables) (atoms : List (Atom FieldPlace)) (tables : List ℕ) (place : ℕ)
         → slice_get (steps_of store atoms tables) place ≡ Some NestedLoops → All (λ atom. key_of place atom ≡ None) atoms }
 {}
 
-/// The steps of a query that nothing refuses are its plan, where the store keeps the tables of the catalog: with the alias of each
-/// table, and with the names of indexes, columns and fields that stand at the places in the catalog, they are the lines that the rules
-/// choose by names.
+/// Law: the chosen steps of a query that nothing refuses are its plan, if the store keeps the tables of the catalog. With aliases, and with
+/// the names of indexes, columns and fields at their positions in the catalog, the steps are the lines that the rules choose by names.
 pub fn steps_by_names_are_the_plan()
     ensures { (schema : Schema) (store : Tables) (query : Query) → AreKept schema store → HaveOneKey schema.tables
         → first_refusal (query_conditions query schema) ≡ None

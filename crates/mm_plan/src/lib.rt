@@ -1,7 +1,7 @@
-//! How a query is run: the steps by which its tables are reached, chosen by fixed rules (Lehman and Carey, SIGMOD 1986); its run by
-//! these steps; and its plan, which is the steps by their names.
+//! Query plans: a step for each table of a query, chosen by fixed rules (Lehman and Carey, SIGMOD 1986). The crate also executes the steps,
+//! and names them for EXPLAIN.
 //!
-//! A call that may take memory is handed the allocator; no other call takes any.
+//! Every public function that may allocate has a parameter for the allocator.
 #![tactic(auto)]
 
 mod beginning;

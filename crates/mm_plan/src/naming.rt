@@ -1,4 +1,4 @@
-//! Steps by names.
+//! The names of steps.
 ghost use Rattle.std.specs.Prelude.{◌≡◌, ℕ, ◌<◌, ◌≤◌, IfOk, length, slice_get};
 ghost use Rattle.mm_plan.specs.Naming.{AreNamesThere, IsColumnThere, IsFieldThere, IsIndexThere, alias_at, column_at, field_named, index_at, named, named_steps, names_in, tree_named};
 ghost use Rattle.mm_plan.specs.declared.step.Step.{Step as PlanStep};
@@ -11,18 +11,18 @@ use mm_schema::{Catalog, IndexId, Name};
 use mm_store::IndexRef;
 use std::alloc::{AllocError, Global};
 
-/// What the names of steps are read from.
+/// The source of names.
 #[derive(Clone, Copy)]
 pub struct Naming<'n> {
     pub catalog: &'n Catalog,
     pub from: &'n [FromItem],
-    /// The places of the tables of FROM in the catalog.
+    /// The positions of the tables of FROM in the catalog.
     pub tables: &'n [usize],
 }
 
 impl Naming<'_> {
-    /// The lines of a plan from its steps, of which each is that of the table at its place in FROM. Nothing is looked up by its
-    /// name. `AllocError` where memory is refused.
+    /// Returns the lines of a plan, one for each step. The step at a position is that of the table at this position in FROM. Looks up no
+    /// name. Fails with `AllocError` if an allocation fails.
     pub fn lines(
         &self,
         alloc: Global,
@@ -40,7 +40,7 @@ impl Naming<'_> {
         Ok(ItemList::new(lines))
     }
 
-    /// The line of the step of the table at a place in FROM.
+    /// Returns the line of the step of the table at a position in FROM.
     fn line(&self, atoms: &[Atom<FieldPlace>], place: usize, step: Step) -> PlanLine
         requires alias { place < length self.now.from.now }
         requires there { AreNamesThere (names_in self.now) atoms.now place step }
@@ -95,7 +95,7 @@ impl Naming<'_> {
         }
     }
 
-    /// The alias at a place in FROM.
+    /// Returns the alias at a position in FROM.
     fn alias_at(&self, place: usize) -> Name
         requires { place < length self.now.from.now }
         ensures { result ≡ alias_at (names_in self.now) place }
@@ -103,7 +103,7 @@ impl Naming<'_> {
         self.from[place].alias.copy()
     }
 
-    /// The name of a column of the table at a place in FROM.
+    /// Returns the name of a column of the table at a position in FROM.
     fn column_at(&self, place: usize, column: usize) -> Name
         requires { IsColumnThere (names_in self.now) place column }
         ensures { result ≡ column_at (names_in self.now) place column }
@@ -112,7 +112,7 @@ impl Naming<'_> {
         table.definition.columns.as_slice()[column].name.copy()
     }
 
-    /// The name of an index of the table at a place in FROM, by its place among those of the table.
+    /// Returns the name of an index of the table at a position in FROM. `number` is the index's position in the table.
     fn index_at(&self, place: usize, number: usize) -> Name
         requires { IsIndexThere (names_in self.now) place (Tree number) }
         ensures { result ≡ index_at (names_in self.now) place number }
@@ -121,7 +121,7 @@ impl Naming<'_> {
         table.indexes.as_slice()[number].name.copy()
     }
 
-    /// A tree of the table at a place in FROM.
+    /// Returns a tree of the table at a position in FROM: its name, or that it is on the key.
     fn tree_at(&self, place: usize, index: IndexRef) -> IndexId
         requires { IsIndexThere (names_in self.now) place index }
         ensures { result ≡ tree_named (names_in self.now) place index }
@@ -134,7 +134,7 @@ impl Naming<'_> {
         }
     }
 
-    /// A field by its alias and its column.
+    /// Returns the alias and the column name of a field.
     fn field(&self, field: FieldPlace) -> FieldName<Name>
         requires { IsFieldThere (names_in self.now) field }
         ensures { result ≡ field_named (names_in self.now) field }

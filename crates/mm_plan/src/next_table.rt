@@ -1,4 +1,4 @@
-//! The further tables of a query.
+//! The second and later tables of a query.
 ghost use Rattle.std.specs.Prelude.{◌≡◌, ◌⊎◌, ℕ, ◌+◌, ◌<◌, ◌≤◌, Some, length, map, slice_get, All, IfErr, IfOk};
 ghost use Rattle.mm_join.specs.Joined.{IsNext};
 ghost use Rattle.mm_join.specs.Joins.{CanJoin, Joins as IsJoined};
@@ -20,8 +20,8 @@ use mm_templist::{Descriptor, TempList};
 use mm_value::Refusal;
 use std::alloc::Global;
 
-/// Joins the next table of a query, by its step, to a list of the combinations of the tables before it. The refusals are those of the
-/// query.
+/// Joins the next table of a query, by its step, to a list of combinations of the tables before it. Fails with the refusal of the query, or
+/// with `Memory`.
 pub(crate) fn join_next<'a>(
     alloc: Global,
     view: &mut View<'_>,
@@ -59,7 +59,7 @@ pub(crate) fn join_next<'a>(
     join_by(alloc, view, &join, step)
 }
 
-/// What a join finds, by a step.
+/// Executes a join by a step.
 fn join_by<'a>(
     alloc: Global,
     view: &mut View<'_>,

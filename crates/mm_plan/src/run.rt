@@ -1,4 +1,4 @@
-//! Queries run over a store, by the steps of their plans.
+//! The execution of queries over a store.
 ghost use Rattle.std.specs.Prelude.{◌≡◌, ◌⊎◌, ℕ, ◌+◌, ◌<◌, ◌≤◌, Some, length, map, slice_get, take, All, IfErr, IfOk};
 ghost use Rattle.mm_plan.specs.Begun.{IsBegun};
 ghost use Rattle.mm_plan.specs.Choosing.{steps_of};
@@ -11,7 +11,7 @@ ghost use Rattle.mm_templist.specs.Combos.{AreLive};
 ghost use Rattle.mm_value.specs.declared.refusal.Refusal.TheVariants.{Memory};
 
 use crate::beginning::begin;
-use crate::choosing::plan_steps;
+use crate::choosing::{plan_alone, plan_steps};
 use crate::next_table::join_next;
 use crate::step::Step;
 use mm_query::BoundQuery;
@@ -20,9 +20,9 @@ use mm_templist::TempList;
 use mm_value::Refusal;
 use std::alloc::Global;
 
-/// The combinations of rows that fit a query, each once and in no promised order, found by the steps that are chosen for it; its
-/// tables stand at these places in the store, in FROM order. It looks at no more rows than these steps allow. `ResultTooLarge` where
-/// more than 1,048,576 combinations fit; `Memory` may come in its place and in that of success.
+/// Returns the combinations of rows that fit a query, each once and in no particular order, found by the chosen steps. `tables` has the
+/// positions of its tables in the store, in FROM order. Reads no more rows than the steps allow. Fails with `ResultTooLarge` if more than
+/// 1,048,576 combinations fit. If an allocation fails, the result may be `Memory` instead.
 pub fn run_query<'a>(
     alloc: Global,
     view: &mut View<'_>,
@@ -40,14 +40,18 @@ pub fn run_query<'a>(
         + plan_reads query.now.atoms (steps_of view.old.store query.now.atoms tables.entry.now) (map (rows_at view.old.store.tables) tables.entry.now) }
     ensures same { view.new.store ≡ view.old.store }
 {
+    if tables.len() == 1 {
+        let step = plan_alone(view, query, tables);
+        return run_plan(alloc, view, query, tables, &step);
+    }
     let steps = plan_steps(alloc, view, query, tables)?;
     run_plan(alloc, view, query, tables, steps.as_slice())
 }
 
-/// The combinations of rows that fit a query, each once and in no promised order; its tables stand at these places in the store, in
-/// FROM order. Each table in turn is joined by its step to the combinations of those before it, and of these only those are kept
-/// that fit so far. It looks at no more rows than the steps allow, `plan_reads`. `ResultTooLarge` where more than 1,048,576
-/// combinations fit; `Memory` may come in its place and in that of success.
+/// Returns the combinations of rows that fit a query, each once and in no particular order. `tables` has the positions of its tables in the
+/// store, in FROM order. Joins each table by its step to the combinations of the tables before it, and keeps those that fit so far. Reads
+/// no more rows than the steps allow (`plan_reads`). Fails with `ResultTooLarge` if more than 1,048,576 combinations fit. If an allocation
+/// fails, the result may be `Memory` instead.
 pub fn run_plan<'a>(
     alloc: Global,
     view: &mut View<'_>,
@@ -74,7 +78,7 @@ pub fn run_plan<'a>(
     Ok(list)
 }
 
-/// The combinations of one table more that fit so far, found by its step. The refusals are those of the query.
+/// Returns the combinations of one more table that fit so far, found by its step. Fails with the refusal of the query, or with `Memory`.
 fn run_step<'a>(
     alloc: Global,
     view: &mut View<'_>,

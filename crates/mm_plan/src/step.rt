@@ -1,47 +1,47 @@
 //! Steps of a plan.
 use mm_store::IndexRef;
 
-/// How a table of a query is reached (the access paths and join methods of Lehman and Carey, SIGMOD 1986). Atoms go by their places
-/// among those of the query, counted from 0.
+/// A step of a plan: the access path of the first table, or the join method of a further one (Lehman and Carey, SIGMOD 1986). `atom` is the
+/// position of an atom in the query, from 0.
 #[derive(Clone, Copy, Debug, Default, PartialEq, Eq)]
 pub enum Step {
-    /// The first table, by a look at each of its rows.
+    /// Reads each row of the first table.
     #[default]
     Scan,
-    /// The first table, by a look-up of the value that an atom asks for.
+    /// Looks up the value that an atom requires, in the first table.
     LookUp {
         index: IndexRef,
         atom: usize,
     },
-    /// The first table, along a tree on the column that an atom bounds, between the ends that the atoms set.
+    /// Walks along a tree of the first table on the column that an atom bounds, between the bounds of all atoms.
     Range {
         index: IndexRef,
         atom: usize,
     },
-    /// A further table, along the foreign key of an atom.
+    /// Follows the foreign key of an atom to a further table.
     Precomputed {
         atom: usize,
     },
-    /// The second table, along a tree, beside a walk along one of the first table.
+    /// Walks along trees of the first and the second table together.
     TreeMerge {
         outer: IndexRef,
         inner: IndexRef,
         atom: usize,
     },
-    /// A further table, by a search along a tree for each combination.
+    /// Searches a tree of a further table for each combination.
     TreeJoin {
         index: IndexRef,
         atom: usize,
     },
-    /// A further table, by a look-up in a HASH index for each combination.
+    /// Looks up each combination in a HASH index of a further table.
     HashJoin {
         index: IndexRef,
         atom: usize,
     },
-    /// A further table, by a look-up for each combination in a hash table that is built for it.
+    /// Builds a hash table of a further table, and looks up each combination in it.
     BuiltHash {
         atom: usize,
     },
-    /// A further table, by a look at each pair.
+    /// Compares each combination with each row of a further table.
     NestedLoops,
 }

@@ -1,4 +1,4 @@
--- What a bound change says of the change.
+-- A bound change in terms of the change.
 use Rattle.std.proofs.Common.{◌≡◌, ℕ, ◌&&◌, List, [], ◌∷◌, Some, filter, map, refl, sym, ap, ◌∙◌}
 use Rattle.mm_schema.specs.Rows.{additions}
 use Rattle.mm_schema.specs.Schema.{Schema, table_place}
@@ -18,7 +18,7 @@ use Rattle.mm_query.specs.declared.bound_query.FieldPlace.{FieldPlace}
 use Rattle.mm_query.specs.declared.command.Mutation.{Mutation}
 use Rattle.mm_query.specs.declared.command.Mutation.TheVariants as written
 
--- An operand and an atom of one table stand for the same at its only place, ..
+-- An operand and an atom of one table have the same values and truth at its only position, ..
 operand_at_first : (row : List Value) (operand : Operand ℕ)
     → operand_of (value_at (Some row ∷ [])) (mapped_operand at_first operand) ≡ operand_of (reads row) operand
 operand_at_first row (operand.Literal value) = refl
@@ -28,7 +28,7 @@ operand_at_first row (operand.Shifted column by) = refl
 pub holds_at_first : (row : List Value) (test : Atom ℕ) → holds (value_at (Some row ∷ [])) (mapped_atom at_first test) ≡ holds (reads row) test
 holds_at_first row test = ap (holds_of test.comparison (reads row test.left)) (operand_at_first row test.right)
 
--- .. so a row meets tests just where none of them fails there.
+-- .. so a row matches tests if and only if none of them fails there.
 pub meets_at_first : (tests : List (Atom ℕ)) (row : List Value) → none_fails (map (mapped_atom at_first) tests) (Some row ∷ []) ≡ meets tests row
 meets_at_first [] row = refl
 meets_at_first (test ∷ tests) row = λ i. holds_at_first row test i && meets_at_first tests row i
@@ -38,21 +38,21 @@ module _ (schema : Schema) where
       → meets (tests_for name schema tests) ≡ (λ (row : List Value). none_fails atoms (Some row ∷ []))
   met name tests atoms are i row = (sym (meets_at_first (tests_for name schema tests) row) ∙ ap (λ l. none_fails l (Some row ∷ [])) (sym are)) i
 
-  -- Its table's place is the place of the name that the change has.
+  -- The table's position is that of the name in the change.
   pub bound_place : (mutation : Mutation) (place : ℕ) (rows : List (List Value)) → Binds schema mutation (bound.Insert place rows)
       → table_place (changed_table mutation) schema ≡ Some place
   bound_place (written.Insert name tuples) place rows binds = binds.0
   bound_place (written.Update name assignments tests) place rows binds = absurd binds
   bound_place (written.Delete name tests) place rows binds = absurd binds
 
-  -- Its rows are the rows that come.
+  -- The rows are the new rows of the change.
   pub bound_pairs : (mutation : Mutation) (place : ℕ) (rows : List (List Value)) (state : State) → Binds schema mutation (bound.Insert place rows)
       → own_pairs mutation state ≡ additions rows
   bound_pairs (written.Insert name tuples) place rows state binds = ap additions (sym binds.1)
   bound_pairs (written.Update name assignments tests) place rows state binds = absurd binds
   bound_pairs (written.Delete name tests) place rows state binds = absurd binds
 
-  -- The rows of an UPDATE are changed by what its assignments and tests stand for, ..
+  -- An UPDATE changes the rows by its bound assignments and tests, ..
   pub update_place : (mutation : Mutation) (place : ℕ) (assignments : List (Assignment ℕ)) (tests : List (Atom FieldPlace))
       → Binds schema mutation (bound.Update place assignments tests) → table_place (changed_table mutation) schema ≡ Some place
   update_place (written.Insert name tuples) place assignments tests binds = absurd binds
@@ -72,7 +72,7 @@ module _ (schema : Schema) where
       (filter (met name written_tests tests binds.tests_placed i) (rows_in state name))
   update_pairs (written.Delete name written_tests) place assignments tests state same binds = absurd binds
 
-  -- .. and those of a DELETE go by its tests.
+  -- .. and a DELETE deletes them by its bound tests.
   pub delete_place : (mutation : Mutation) (place : ℕ) (tests : List (Atom FieldPlace)) → Binds schema mutation (bound.Delete place tests)
       → table_place (changed_table mutation) schema ≡ Some place
   delete_place (written.Insert name tuples) place tests binds = absurd binds

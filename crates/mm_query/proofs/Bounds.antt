@@ -1,4 +1,4 @@
--- A query that is bound: what refuses it, and what stands where.
+-- A bound query: its refusals, and its positions.
 use Rattle.std.proofs.Common.{◌≡◌, ℕ, ◌<◌, Bool, true, false, ◌||◌, List, [], ◌∷◌, Option, Some, None, is_none, length, refl, sym, ap, ◌∙◌}
 use Rattle.std.specs.List.{All, list_any}
 use Rattle.std.specs.Option.{unwrap_or}
@@ -29,7 +29,7 @@ turned false true a = refl
 turned false false true = refl
 turned false false false = refl
 
--- Where the tables are there, what is amiss with a query's form, its fields and its atoms refuses it.
+-- If all tables exist, the errors of a query's form, fields and atoms refuse it.
 module _ (schema : Schema) (query : Query) (catalog : Schema) (catalog_is : catalog ≡ schema) (from : List FromItem) (from_is : from ≡ query.from)
     (fields : List FieldName) (fields_are : fields ≡ query.fields) where
   abbrev with_fields : Faults → Faults
@@ -64,7 +64,7 @@ module _ (schema : Schema) (query : Query) (catalog : Schema) (catalog_is : cata
         too_many = exceeds_query_limits query;
       })))
 
--- The places of tables that are there lie within the catalog.
+-- The positions of tables that exist are within the catalog.
 pub places_within : (schema : Schema) (from : List FromItem) → are_missing schema from ≡ false
     → All (λ place. place < length schema.tables) (places_in schema from)
 places_within schema [] there = All-nil _

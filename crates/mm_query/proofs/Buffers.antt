@@ -1,4 +1,4 @@
--- A row that is put behind the others leaves these as they are.
+-- Appending a row changes no earlier row.
 use Rattle.std.proofs.Common.{◌≡◌, suc, ◌++◌, List, [], ◌∷◌, All, drop, length, map, take, refl, ap, ◌∙◌, arith, length-drop}
 use Rattle.std.proofs.Math.Seq.{drop-append_seam, take-length}
 use Rattle.std.proofs.lemmas.List.{drop-append-le, map-append, take-append-le}

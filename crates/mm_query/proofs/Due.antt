@@ -1,4 +1,4 @@
--- What refuses a command: by names that are there or are not, and by one list of conditions behind another.
+-- The refusals of a command: by names that exist or not, and by concatenated lists of conditions.
 use Rattle.std.proofs.Common.{◌≡◌, ℕ, Bool, true, false, List, [], ◌∷◌, ◌++◌, Some, None, is_none, slice_get, sym, ap, ◌∙◌, append_assoc}
 use Rattle.std.specs.Option.{option_map_or}
 use Rattle.mm_schema.specs.Refused.{first_refusal}
@@ -17,7 +17,7 @@ use Rattle.mm_query.specs.declared.command.Command.{Command}
 use Rattle.mm_query.specs.declared.command.Mutation.{Mutation}
 use Rattle.mm_query.specs.declared.reply.Reply.TheVariants.{Refused}
 
--- A name without a place is lacking.
+-- A name without a position is missing.
 pub lacks_nowhere : (name : List ℕ) (schema : Schema) → table_place name schema ≡ None → lacks_table name schema ≡ true
 lacks_nowhere name schema nowhere = ap is_none (no_table name schema nowhere)
 
@@ -26,11 +26,11 @@ module _ (name : List ℕ) (schema : Schema) (place : ℕ) (table : Table) (plac
   named : table_named name schema ≡ Some table
   named = table_at_place name schema place placed ∙ there
 
-  -- A name with a place is not lacking, ..
+  -- A name with a position is not missing, ..
   pub not_lacking : lacks_table name schema ≡ false
   not_lacking = ap is_none named
 
-  -- .. its table passes a test where the table at the place does, ..
+  -- .. its table passes a test if and only if the table at the position does, ..
   pub passes_at_place : (test : Table → Bool) → table_passes test name schema ≡ test table
   passes_at_place test = ap (λ t. option_map_or test t false) named
 
@@ -38,11 +38,11 @@ module _ (name : List ℕ) (schema : Schema) (place : ℕ) (table : Table) (plac
   pub key_at_place : key_named name schema ≡ key_place table.definition.columns
   key_at_place = ap (λ t. option_map_or (λ u. key_place u.definition.columns) t 0) named
 
--- A condition that holds refuses alone.
+-- A single condition that holds refuses.
 pub due_one : (holds : Bool) (refusal : Refusal) → holds ≡ true → first_refusal (record { holds = holds; refusal = refusal } ∷ []) ≡ Some refusal
 due_one holds refusal is = ap (λ b. first_refusal (record { holds = b; refusal = refusal } ∷ [])) is
 
--- What the catalog or the new values refuse is refused, ..
+-- A change refused by the catalog or by its new values is refused, ..
 pub due_in_front_of_rows : (mutation : Mutation) (state : State) (refusal : Refusal)
     → first_refusal (binding_conditions mutation state.schema ++ value_conditions mutation state) ≡ Some refusal
     → first_refusal (change_conditions mutation state) ≡ Some refusal
@@ -50,7 +50,7 @@ due_in_front_of_rows mutation state refusal h =
     ap first_refusal (sym (append_assoc (binding_conditions mutation state.schema) (value_conditions mutation state) _))
     ∙ due_in_front (binding_conditions mutation state.schema ++ value_conditions mutation state) _ refusal h
 
--- .. and what neither refuses by the rows or the standing queries, if at all.
+-- .. and otherwise only the rows or the standing queries may refuse it.
 pub due_behind_values : (mutation : Mutation) (state : State)
     → first_refusal (binding_conditions mutation state.schema ++ value_conditions mutation state) ≡ None
     → first_refusal (change_conditions mutation state)
@@ -60,12 +60,12 @@ due_behind_values mutation state none =
     ap first_refusal (sym (append_assoc (binding_conditions mutation state.schema) (value_conditions mutation state) _))
     ∙ due_behind (binding_conditions mutation state.schema ++ value_conditions mutation state) _ none
 
--- A command that is refused leaves the state, ..
+-- A refused command leaves the state unchanged, ..
 pub step-refused : (command : Command) (state : State) (refusal : Refusal) → first_refusal (conditions command state) ≡ Some refusal
     → step command state ≡ record { reply = Some (Refused refusal); state = state }
 step-refused command state refusal due = ap (λ d. unless_refused d state (record { reply = reply_to command state; state = state_after command state })) due
 
--- .. and one that nothing refuses is done.
+-- .. and any other command is executed.
 pub step-done : (command : Command) (state : State) → first_refusal (conditions command state) ≡ None
     → step command state ≡ record { reply = reply_to command state; state = state_after command state }
 step-done command state due = ap (λ d. unless_refused d state (record { reply = reply_to command state; state = state_after command state })) due

@@ -1,4 +1,4 @@
--- The names of a query, resolved by the places of its tables.
+-- The names of a query, resolved by the positions of its tables.
 use Rattle.std.proofs.Common.{◌≡◌, ℕ, ◌+◌, ◌<◌, ◌≤◌, ◌||◌, ◌⊎◌, Bool, true, false, List, [], ◌∷◌, ◌++◌, Option, Some, None, find, get_or, inl, inr, is_none}
 use Rattle.std.proofs.Common.{length, slice_get, take, refl, sym, ap, ◌∙◌, arith}
 use Rattle.std.specs.List.{list_any}
@@ -29,11 +29,11 @@ place_in schema item = unwrap_or (table_place item.table schema) 0
 -- ---- the tables of FROM
 
 module _ (schema : Schema) (from : List FromItem) (i : ℕ) (item : FromItem) (inside : i < length from) (is : item ≡ get_or from i item) where
-  -- An item whose table has no place is missing among all.
+  -- An item whose table has no position is missing.
   pub missed_among : table_place item.table schema ≡ None → list_any (is_missing schema) from ≡ true
   missed_among nowhere = list_any_at (is_missing schema) from i item inside (ap (is_missing schema) (sym is) ∙ ap is_none (no_table item.table schema nowhere))
 
-  -- One whose table has a place comes behind those that are there, ..
+  -- An item whose table has a position follows those that exist, ..
   pub there_more : (place : ℕ) → table_place item.table schema ≡ Some place → list_any (is_missing schema) (take i from) ≡ false
       → list_any (is_missing schema) (take (i + 1) from) ≡ false
   there_more place at so_far =
@@ -45,7 +45,7 @@ module _ (schema : Schema) (from : List FromItem) (i : ℕ) (item : FromItem) (i
       by (inl found) = ap is_none (table_at_place item.table schema place at ∙ found.2)
       by (inr past) = let inside = place_within item.table schema place at in let behind = past.0 in absurd (omega (arith, inside, behind))
 
-  -- .. and its place behind theirs.
+  -- .. and its position follows theirs.
   pub places_more : (places : List ℕ) (place : ℕ) → table_place item.table schema ≡ Some place → places ≡ places_in schema (take i from)
       → places ++ place ∷ [] ≡ places_in schema (take (i + 1) from)
   places_more places place at so_far =
@@ -58,7 +58,7 @@ module _ (schema : Schema) (from : List FromItem) (field : FieldName) where
   abbrev is_item : FromItem → Bool
   is_item item = same_name field.alias item.alias
 
-  -- What a field stands for whose alias has no place.
+  -- The resolution of a field whose alias has no position.
   module _ (nowhere : alias_place from field.alias ≡ None) where
     no_table_of : table_of schema from field.alias ≡ None
     no_table_of = ap (option_and_then (λ (item : FromItem). table_named item.table schema)) (find_nowhere is_item from nowhere)
@@ -104,7 +104,7 @@ module _ (schema : Schema) (from : List FromItem) (field : FieldName) where
         (ap (λ l. slice_get l i) places ∙ (slice_get-map (place_in schema) from i ∙ ap (option_map (place_in schema)) item_at.1))
         ∙ ap (λ o. unwrap_or o 0) place_at.1
 
-    -- An alias that is there has a place among the tables of the catalog, ..
+    -- An alias that exists has a position among the tables of the catalog, ..
     pub table_within : get_or tables i 0 < length schema.tables
     table_within = let within = place_within item_at.0.table schema place_at.0 place_at.1 in let same = read_at in omega (arith, within, same)
 
@@ -114,7 +114,7 @@ module _ (schema : Schema) (from : List FromItem) (field : FieldName) where
           ap (option_and_then (λ (item : FromItem). table_named item.table schema)) found
           ∙ (table_at_place item_at.0.table schema place_at.0 place_at.1 ∙ (ap (slice_get schema.tables) (sym read_at) ∙ is))
 
-      -- .. and the field stands for what its column stands for in the table there.
+      -- .. and the field resolves as its column does in the table there.
       pub placed_at : record { place = i; column = placed table.definition.columns field.column } ≡ placed_field schema from field
       placed_at = sym (λ j. record {
         place = unwrap_or (at j) 0;

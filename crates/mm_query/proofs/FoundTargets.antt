@@ -1,4 +1,4 @@
--- Rows that refer to other rows, and what a change of the rows referred to leaves of that.
+-- Rows that refer to other rows, before and after a change of the other rows.
 use Rattle.std.proofs.Common.{◌≡◌, ℕ, Bool, true, false, cond, not, ◌&&◌, ◌||◌, List, [], ◌∷◌, Some, None, find, slice_get, inl, inr, refl, sym, ap, ◌∙◌}
 use Rattle.std.specs.Cmp.Lexicographic.{options_total}
 use Rattle.std.specs.List.{list_any}
@@ -15,13 +15,13 @@ use Rattle.mm_schema.proofs.Duplicates.{Row}
 -- ---- elements that pass a test
 
 module _ {X : Type 0} (p : X → Bool) where
-  -- Where none of a list passes, each of its elements fails, ..
+  -- If no element of a list passes, each fails, ..
   pub none_among : (xs : List X) (x : X) → IsIn x xs → list_any p xs ≡ false → p x ≡ false
   none_among [] x here none = absurd here
   none_among (y ∷ ys) x (inl same) none = ap p (sym same) ∙ (or_parts (p y) (list_any p ys) none).0
   none_among (y ∷ ys) x (inr later) none = none_among ys x later (or_parts (p y) (list_any p ys) none).1
 
-  -- .. and the other way round.
+  -- .. and conversely.
   pub none_by_each : (xs : List X) → ((x : X) → IsIn x xs → p x ≡ false) → list_any p xs ≡ false
   none_by_each [] each = refl
   none_by_each (y ∷ ys) each = or_from _ _ (each y (inl refl)) (none_by_each ys (λ x later. each x (inr later)))
@@ -31,19 +31,19 @@ module _ {X : Type 0} (p : X → Bool) where
   some_first true y ys passes some later = (y, inl refl, passes)
   some_first false y ys fails some later = let found = later some in (found.0, inr found.1, found.2)
 
-  -- Where some of a list pass, there is one, ..
+  -- If some element of a list passes, one does, ..
   pub some_among : (xs : List X) → list_any p xs ≡ true → (x : X) × IsIn x xs × (p x ≡ true)
   some_among [] some = absurd (false≢true some)
   some_among (y ∷ ys) some = some_first (p y) y ys refl some (some_among ys)
 
-  -- .. and the other way round.
+  -- .. and conversely.
   pub some_by_one : (xs : List X) (x : X) → IsIn x xs → p x ≡ true → list_any p xs ≡ true
   some_by_one xs x here passes = elim (cases_Bool (list_any p xs)) [
     | inl some ↦ some
     | inr none ↦ absurd (false≢true (sym (none_among xs x here none) ∙ passes))
   ]
 
-  -- What is found is in the list and passes.
+  -- An element that is found is in the list and passes.
   pub found_among : (xs : List X) (x : X) → find p xs ≡ Some x → IsIn x xs × (p x ≡ true)
   found_among [] x found = cc
   found_among (y ∷ ys) x found = by (p y) refl found (found_among ys x)
@@ -54,7 +54,7 @@ module _ {X : Type 0} (p : X → Bool) where
 
 -- ---- rows that refer to others
 
--- A row that refers to one row refers to just those that have the same key.
+-- A row that refers to one row refers to exactly the rows with the same key.
 refers_alike : (column key : ℕ) (row target other : Row) → refers column key row target ≡ true
     → refers column key row other ≡ same_in_column key target other
 refers_alike column key row target other is =
@@ -62,7 +62,7 @@ refers_alike column key row target other is =
 
 module _ (column key : ℕ) (rows targets : List Row) (pairs : List Pair) (row : Row) (here : IsIn row rows)
     (kept : lose_targets column key rows pairs ≡ false) (target : Row) (refers_to_it : refers column key row target ≡ true) where
-  -- The target itself stays where no pair takes it, ..
+  -- The target is unchanged if no pair replaces it, ..
   target_stays : IsIn target targets → list_any (λ (p : Pair). goes key target p.0) pairs ≡ false
       → list_any (refers column key row) (changed key pairs targets) ≡ true
   target_stays among none =
@@ -82,7 +82,7 @@ module _ (column key : ℕ) (rows targets : List Row) (pairs : List Pair) (row :
   same_key true used none is = refl
   same_key false used none is = absurd (false≢true (sym none ∙ is))
 
-  -- .. and otherwise the row that comes for it has the same key.
+  -- .. and otherwise the new row has the same key.
   target_changes : (p : Pair) → IsIn p pairs → goes key target p.0 ≡ true → list_any (refers column key row) (changed key pairs targets) ≡ true
   target_changes (None, new) among went = absurd (false≢true went)
   target_changes (Some old, None) among went =
@@ -96,7 +96,7 @@ module _ (column key : ℕ) (rows targets : List Row) (pairs : List Pair) (row :
       (row_comes key pairs targets (Some old) new (Contains-from_IsIn {X = Pair} pairs (Some old, Some new) among)))
       (refers_alike column key row old new (refers_alike column key row target old refers_to_it ∙ went) ∙ same)
 
--- A row still refers to one of the changed rows where it referred to one before, and no pair takes away a key that is referred to.
+-- A row that referred to a row still refers to one after the change, if no pair removes a referenced key.
 pub refers_still : (column key : ℕ) (rows targets : List Row) (pairs : List Pair) (row : Row) → IsIn row rows → lose_targets column key rows pairs ≡ false
     → list_any (refers column key row) targets ≡ true → list_any (refers column key row) (changed key pairs targets) ≡ true
 refers_still column key rows targets pairs row here kept some =

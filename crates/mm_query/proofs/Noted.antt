@@ -1,4 +1,4 @@
--- What is noted of some names and then of further ones.
+-- Errors recorded for some names and then for others.
 use Rattle.std.proofs.Common.{◌≡◌, Bool, true, false, ◌||◌, refl}
 use Rattle.std.proofs.Math.Bool.{or_assoc}
 use Rattle.mm_query.specs.Faults.{noted}
@@ -12,22 +12,22 @@ or_true : (a : Bool) → (a || true) ≡ true
 or_true true = refl
 or_true false = refl
 
--- Where nothing is amiss, nothing is noted, ..
+-- Without an error, nothing is recorded, ..
 pub noted_none : (faults : Faults) → noted false false false faults ≡ faults
 noted_none faults i =
     record faults { column = or_false faults.column i; alias = or_false faults.alias i; mismatch = or_false faults.mismatch i }
 
--- .. a column that is missing is, ..
+-- .. a missing column is recorded, ..
 pub noted_column : (faults : Faults) → noted true false false faults ≡ record faults { column = true }
 noted_column faults i =
     record faults { column = or_true faults.column i; alias = or_false faults.alias i; mismatch = or_false faults.mismatch i }
 
--- .. and so is an alias.
+-- .. and so is a missing alias.
 pub noted_alias : (faults : Faults) → noted false true false faults ≡ record faults { alias = true }
 noted_alias faults i =
     record faults { column = or_false faults.column i; alias = or_true faults.alias i; mismatch = or_false faults.mismatch i }
 
--- What is noted first and what is noted then are noted at once.
+-- Errors recorded one after the other are recorded together.
 pub noted_twice : (c a m c' a' m' : Bool) (faults : Faults) → noted c' a' m' (noted c a m faults) ≡ noted (c || c') (a || a') (m || m') faults
 noted_twice c a m c' a' m' faults i = record faults {
   column = or_assoc faults.column c c' i;

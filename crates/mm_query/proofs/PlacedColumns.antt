@@ -1,4 +1,4 @@
--- Changes whose columns were resolved against their table.
+-- Changes whose columns are resolved against their table.
 use Rattle.std.proofs.Common.{◌≡◌, ℕ, false, cond, List, [], Option, Some, None, length, map, nat_lt, slice_get, sym, ap, subst, ◌∙◌}
 use Rattle.std.specs.List.{list_any}
 use Rattle.std.specs.Option.{option_map_or}
@@ -22,25 +22,25 @@ use Rattle.mm_query.proofs.Due.{lacks_nowhere, not_lacking}
 use Rattle.mm_query.proofs.Within.{assignments_within, tests_within}
 use Rattle.mm_schema.proofs.References.{first_none}
 
--- what refuses an UPDATE or a DELETE by the catalog
+-- the refusal of an UPDATE or a DELETE by the catalog
 abbrev due_of : List ℕ → Schema → List (Assignment (List ℕ)) → List (Atom (List ℕ)) → Option Refusal
 due_of name schema assignments tests = cond (lacks_table name schema) (Some NoSuchTable)
     (first_refusal (column_conditions (columns_named name schema) assignments tests))
 
--- Without a place there is no table, ..
+-- Without a position there is no table, ..
 pub refused_nowhere : (name : List ℕ) (schema : Schema) (assignments : List (Assignment (List ℕ))) (tests : List (Atom (List ℕ)))
     → table_place name schema ≡ None → due_of name schema assignments tests ≡ Some NoSuchTable
 refused_nowhere name schema assignments tests nowhere =
     ap (λ b. cond b (Some NoSuchTable) (first_refusal (column_conditions (columns_named name schema) assignments tests))) (lacks_nowhere name schema nowhere)
 
--- No column is missing where nothing is refused.
+-- If nothing is refused, no column is missing.
 pub none_missing : (columns : List Column) (assignments : List (Assignment (List ℕ))) (tests : List (Atom (List ℕ)))
     → None ≡ first_refusal (column_conditions columns assignments tests)
     → (list_any (assignment_lacks_column columns) assignments ≡ false) × (list_any (atom_lacks_column columns) tests ≡ false)
 none_missing columns assignments tests none =
     or_parts (list_any (assignment_lacks_column columns) assignments) (list_any (atom_lacks_column columns) tests) (first_none _ NoSuchColumn _ (sym none))
 
--- What is amiss with a change's form, its assignments and its tests refuses it, where its lists were read before.
+-- The errors of a change's form, assignments and tests refuse it, in terms of lists that were read before.
 module _ (columns : List Column) (tests read : List (Atom (List ℕ))) (read_is : read ≡ tests) where
   abbrev with_tests : Faults → Faults
   with_tests faults = noted (list_any (atom_lacks_column columns) tests) false
@@ -65,7 +65,7 @@ module _ (columns : List Column) (tests read : List (Atom (List ℕ))) (read_is 
   due_of_delete form all form_is all_is =
       ap (λ f. first_refusal (fault_conditions NameTaken f)) (all_is ∙ ap with_tests (form_is ∙ λ i. form_of [] (read_is i)))
 
--- .. and with a place the columns of the table there decide.
+-- .. and with a position the columns of the table there decide.
 module _ (name : List ℕ) (schema : Schema) (place : ℕ) (table : Table) (placed : table_place name schema ≡ Some place)
     (there : slice_get schema.tables place ≡ Some table) (columns : List Column) (columns_are : columns ≡ table.definition.columns) where
   pub columns_at_place : columns_named name schema ≡ columns

@@ -1,4 +1,4 @@
--- A query in which no condition holds names what is there.
+-- Everything that a query without refusals names exists.
 use Rattle.std.proofs.Common.{◌≡◌, ℕ, zero, suc, ◌-◌, ◌<◌, Bool, true, false, cond, ◌==◌, List, [], ◌∷◌, Option, Some, None, find, is_none, length, map}
 use Rattle.std.proofs.Common.{nat_lt, inl, inr, refl, sym, ap, ◌∙◌, subst, arith}
 use Rattle.std.specs.List.{All, AllByRecursion, list_any}
@@ -25,7 +25,7 @@ use Rattle.mm_query.specs.declared.query.Query.{Query}
 use Rattle.mm_query.proofs.FoundTargets.{found_among, none_among}
 use Rattle.mm_query.proofs.Within.{placed_within}
 
--- Where nothing is refused, no condition holds.
+-- If nothing is refused, no condition holds.
 pub none_hold : (cs : List Condition) → first_refusal cs ≡ None → AllByRecursion (λ c. c.holds ≡ false) cs
 none_hold [] e = tt
 none_hold (c ∷ cs) e = by c.holds refl e (none_hold cs)
@@ -76,7 +76,7 @@ module _ (schema : Schema) (from : List FromItem) (field : FieldName) where
     placed_at None at there = cc
     placed_at (Some i) at there = found_at i (find is_item from) at refl
 
-    -- A field whose alias, table and column are there is within.
+    -- A field whose alias, table and column exist is within its table.
     pub field_within : lacks_alias from field ≡ false → IsFieldWithin schema from (placed_field schema from field)
     field_within there = placed_at (alias_place from field.alias) refl there
 
@@ -121,7 +121,7 @@ positions_within fields n (p ∷ ps) is there =
     one zero e = cc
     one (suc q) e = let within = ltb-false (length fields) (suc q) (or_parts (suc q == 0) (nat_lt (length fields) (suc q)) e).1 in omega (arith, is, within)
 
--- A query in which no condition holds names what is there.
+-- Everything that a query without refusals names exists.
 pub query_within : (schema : Schema) (query : Query) → first_refusal (query_conditions query schema) ≡ None
     → IsQueryWithin schema (placed_query schema query)
 query_within schema query none =

@@ -1,4 +1,4 @@
--- What the plain evaluation finds is the bag of the query.
+-- The evaluation by the cross product finds the multiset of the query.
 use Rattle.std.proofs.Common.{◌≡◌, ℕ, ◌+◌, ◌≤◌, ◌<◌, Bool, true, false, cond, List, [], ◌∷◌, ◌++◌, Option, Some, None, get_or, length, map, nat_lt, take}
 use Rattle.std.proofs.Common.{refl, sym, ap, ◌∙◌, arith, append_assoc}
 use Rattle.std.specs.List.{filter, flat_map}
@@ -20,7 +20,7 @@ use Rattle.mm_query.specs.declared.bound_query.BoundQuery.{BoundQuery}
 abbrev Row : Type 0
 Row = List Value
 
--- ---- the bag
+-- ---- the multiset
 
 module _ {X Y : Type 0} where
   filter_map : (p : Y → Bool) (f : X → Y) (xs : List X) → filter p (map f xs) ≡ map f (filter (λ x. p (f x)) xs)
@@ -33,7 +33,7 @@ module _ {X Y : Type 0} where
       by false later = later
 
 module _ (query : BoundQuery) where
-  -- what fits of some combinations, behind rows that are there
+  -- the matches among some combinations, after given rows
   abbrev among : List Row → List (List Row) → List Row
   among front cs = map (values_of query.fields) (filter (none_fails query.atoms) (map (λ c. map Some (front ++ c)) cs))
 
@@ -52,7 +52,7 @@ module _ (query : BoundQuery) where
   last_found true rows = refl
   last_found false rows = refl
 
-  -- What is found behind some rows is what fits of the combinations of the lists.
+  -- The rows found after given rows are the matches among the combinations of the lists.
   found_is : (lists : List (List Row)) (front : List Row) → found_behind query (map Some front) lists ≡ among front (combinations lists)
   found_is [] front =
       last_found (none_fails query.atoms (map Some front)) (map Some front)
@@ -68,7 +68,7 @@ module _ (query : BoundQuery) where
           ∙ among_next front row (combinations lists))) i ++ each rows behind i)
           ∙ sym (among_append front (map (λ c. row ∷ c) (combinations lists)) (flat_map (λ row. map (λ c. row ∷ c) (combinations lists)) rows))
 
-  -- What is found from no rows on is the bag.
+  -- The rows found after no rows are the multiset.
   pub found_is_bag : (lists : List (List Row)) → found_behind query [] lists ≡ bag_of query lists
   found_is_bag lists =
       found_is lists []
@@ -85,14 +85,14 @@ pub none_by : (b : Bool) → cond b (Some ResultTooLarge) None ≡ None → b �
 none_by true e = cc
 none_by false e = refl
 
--- What is within the size has no refusal, and the other way round.
+-- Rows within the limit are not refused, and conversely.
 pub within_size : (rows : List Row) → length rows ≤ most_rows → first_refusal (size_conditions rows) ≡ None
 within_size rows small = ap (λ b. cond b (Some ResultTooLarge) None) (le-ltb most_rows (length rows) small)
 
 pub size_within : (rows : List Row) → first_refusal (size_conditions rows) ≡ None → length rows ≤ most_rows
 size_within rows none = ltb-false most_rows (length rows) (none_by (nat_lt most_rows (length rows)) none)
 
--- What refuses some rows by their number refuses any list that is as long.
+-- A refusal of rows by their number refuses any list that is at least as long.
 pub due_of_longer : (rows all : List Row) (refusal : Refusal) → length rows ≤ length all → first_refusal (size_conditions rows) ≡ Some refusal
     → first_refusal (size_conditions all) ≡ Some refusal
 due_of_longer rows all refusal longer due =
@@ -107,7 +107,7 @@ pub empty_by_length : {X : Type 0} (xs : List X) → length xs ≡ 0 → xs ≡ 
 empty_by_length [] none = refl
 empty_by_length (x ∷ xs) none = absurd (omega (arith, none))
 
--- A row that is put behind some others is read behind them.
+-- A row that is appended is read after the others.
 pub pushed_front : {R : Type 0} (row : R → Row) (old before after : List (Option R)) (last : Option R) → after ≡ before ++ last ∷ [] → before ≡ old
     → rows_read row after ≡ rows_read row old ++ option_map row last ∷ []
 pushed_front row old before after last pushed same =
@@ -115,13 +115,13 @@ pushed_front row old before after last pushed same =
 
 module _ (f : Row → List Row) (old : List Row) (rows : List Row) (i : ℕ) (row : Row) (inside : i < length rows) (is : row ≡ get_or rows i row)
     (found : List Row) (so_far : found ≡ old ++ flat_map f (take i rows)) where
-  -- What is found of the next row comes behind what was found.
+  -- The rows found for the next row follow those found before.
   pub found_next : found ++ f row ≡ old ++ flat_map f (take (i + 1) rows)
   found_next =
       ap (λ l. l ++ f row) so_far
       ∙ (flat_map_more f old (take i rows) row ∙ ap (λ l. old ++ flat_map f l) (ap (λ r. take i rows ++ r ∷ []) is ∙ sym (take_more rows i row inside)))
 
-  -- It is no longer than what is found of all rows.
+  -- They are no more than the rows found for all rows.
   pub next_is_part : length (found ++ f row) ≤ length (old ++ flat_map f rows)
   next_is_part =
       let part : length (flat_map f (take i rows)) + length (f (get_or rows i row)) ≤ length (flat_map f rows) = length-flat_map-take f rows i row inside in

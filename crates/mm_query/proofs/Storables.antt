@@ -1,4 +1,4 @@
--- Values that a program can have.
+-- Storable values.
 use Rattle.std.proofs.Common.{◌≤◌, ◌<◌, ℕ, List, length, pos, sym, subst, rules, ⊎_elim}
 use Rattle.std.specs.Prelude.{FitsSigned}
 use Rattle.std.specs.Int.{w64}
@@ -13,7 +13,7 @@ use Rattle.mm_query.specs.Atoms.{value_in}
 zero_fits : FitsSigned w64 (pos 0)
 zero_fits = search rules
 
--- What a row has in a column is such a value, where all its values are.
+-- The value of a row in a column is storable, if all values of the row are.
 pub value_in_storable : (column : ℕ) (row : List Value) → AreStorable row → IsStorable (value_in column row)
 value_in_storable column row all =
     ⊎_elim

@@ -1,4 +1,4 @@
--- Tuples against the columns of their table.
+-- Tuples and the columns of their table.
 use Rattle.std.proofs.Common.{◌≡◌, ℕ, ◌||◌, Bool, true, false, cond, not, List, [], ◌∷◌, Option, Some, None, zip, slice_get, refl, sym, ap, ◌∙◌}
 use Rattle.std.specs.List.{list_any}
 use Rattle.mm_schema.specs.Columns.{same_type}
@@ -14,7 +14,7 @@ use Rattle.mm_query.specs.Binding.{binding_conditions, has_other_length, has_typ
 use Rattle.mm_query.specs.declared.command.Mutation.TheVariants.{Insert}
 use Rattle.mm_query.proofs.Due.{lacks_nowhere, not_lacking, passes_at_place}
 
--- A value differs in type from its column exactly where some pair of a column and its value does.
+-- A value differs in type from its column if and only if some pair of a column and its value does.
 pub mismatch_in_pairs : (columns : List Column) (values : List Value)
     → has_type_mismatch columns values ≡ list_any (λ p. not (same_type p.0.col_type (type_of p.1))) (zip columns values)
 mismatch_in_pairs [] values = refl
@@ -25,14 +25,14 @@ mismatch_in_pairs (c ∷ cs) (v ∷ vs) = ap (λ b. not (same_type c.col_type (t
 abbrev first_of_three : Bool → Bool → Bool → Option Refusal
 first_of_three lacks mismatch length = cond lacks (Some NoSuchTable) (cond mismatch (Some TypeMismatch) (cond length (Some WrongNumberOfValues) None))
 
--- Without a place there is no table, ..
+-- Without a position there is no table, ..
 pub due_nowhere : (name : List ℕ) (schema : Schema) (tuples : List (List Value)) → table_place name schema ≡ None
     → first_refusal (binding_conditions (Insert name tuples) schema) ≡ Some NoSuchTable
 due_nowhere name schema tuples nowhere =
     ap (λ b. first_of_three b (table_passes (λ t. list_any (has_type_mismatch t.definition.columns) tuples) name schema)
     (table_passes (λ t. list_any (has_other_length t.definition.columns) tuples) name schema)) (lacks_nowhere name schema nowhere)
 
--- .. and with a place the tuples are tested against the columns of the table there, as they were read.
+-- .. and with a position the tuples are checked against the columns of the table there.
 module _ (name : List ℕ) (schema : Schema) (tuples : List (List Value)) (place : ℕ) (table : Table) (placed : table_place name schema ≡ Some place)
     (there : slice_get schema.tables place ≡ Some table) (columns : List Column) (read : List (List Value))
     (columns_are : columns ≡ table.definition.columns) (tuples_are : read ≡ tuples) where

@@ -1,4 +1,4 @@
--- What an UPDATE computes, and what refuses it.
+-- The values that an UPDATE computes, and its refusals.
 use Rattle.std.proofs.Common.{◌≡◌, ℕ, ◌<◌, suc, length, drop, get_or, add-one, Bool, true, false, cond, ◌||◌, List, [], ◌∷◌, ◌++◌, Some, None, refl, sym, ap}
 use Rattle.std.proofs.Common.{subst, ◌∙◌}
 use Rattle.std.specs.List.{All, find, list_any, slice_get}
@@ -13,7 +13,7 @@ use Rattle.mm_value.specs.declared.values.Value.{Value}
 use Rattle.mm_query.specs.Atoms.{is_past_range, range_conditions, updated_from, updated_value}
 use Rattle.mm_query.specs.declared.atom.Assignment.{Assignment}
 
--- What holds of all holds of the one that is found.
+-- A property of all elements holds of the one that is found.
 pub found_holds : {X : Type 0} (P : X → Type 0) (test : X → Bool) (xs : List X) (x : X) → All P xs → find test xs ≡ Some x → P x
 found_holds P test [] x all e = cc
 found_holds P test (y ∷ ys) x all e =
@@ -38,14 +38,14 @@ or_true true b c e = refl
 or_true false true c e = refl
 or_true false false c e = cc
 
--- No value is past the range where none of some is, nor the one behind them.
+-- No value is past the range if none of the earlier ones is, nor the last one.
 pub in_range_behind : (values : List Value) (value : Value) → list_any is_past_range values ≡ false
     → first_refusal (range_conditions (value ∷ [])) ≡ None → list_any is_past_range (values ++ value ∷ []) ≡ false
 in_range_behind values value front last =
     list_any-append is_past_range values (value ∷ [])
     ∙ or_false (list_any is_past_range values) (list_any is_past_range (value ∷ [])) front (due_none _ ArithmeticOutOfRange last)
 
--- Where a value is refused, all values of which it is one are.
+-- If a value is refused, so are all lists of values that contain it.
 pub refused_among : (front : List Value) (value : Value) (rest all : List Value) (refusal : Refusal) → front ++ value ∷ rest ≡ all
     → first_refusal (range_conditions (value ∷ [])) ≡ Some refusal → first_refusal (range_conditions all) ≡ Some refusal
 refused_among front value rest all refusal is due =

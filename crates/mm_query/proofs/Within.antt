@@ -1,4 +1,4 @@
--- The places of names that are there lie within the columns.
+-- The positions of names that exist are within the columns.
 use Rattle.std.proofs.Common.{◌≡◌, ℕ, ◌<◌, Bool, true, false, ◌||◌, List, [], ◌∷◌, Option, Some, None, get_or, is_none, length, map, refl, sym, ap, ◌∙◌}
 use Rattle.std.specs.List.{All, list_any}
 use Rattle.std.specs.Option.{option_map, unwrap_or}
@@ -20,7 +20,7 @@ pub neither : (a b : Bool) → (a || b) ≡ false → (a ≡ false) × (b ≡ fa
 neither true b e = cc
 neither false b e = (refl, e)
 
--- The type of the column of a name is found at its place.
+-- The type of the column with a name is that of the column at its position.
 module _ (columns : List Column) (name : List ℕ) where
   abbrev is_named : Column → Bool
   is_named column = same_name name column.name
@@ -36,7 +36,7 @@ module _ (columns : List Column) (name : List ℕ) where
       ∙ λ j. Some (get_or (sym same j) k column).col_type)
 
 module _ (columns : List Column) where
-  -- A name that is there has a place within them, ..
+  -- A name that exists has a position within the columns, ..
   pub placed_within : (name : List ℕ) → lacks_column columns name ≡ false → placed columns name < length columns
   placed_within name there =
       elim (column_place name columns)
@@ -45,7 +45,7 @@ module _ (columns : List Column) where
         | Some i ↦ λ e h. within_from_some (λ column. same_name name column.name) columns i e
       ] refl there
 
-  -- .. so an operand that names none that is missing reads within them, ..
+  -- .. so an operand without missing names reads within them, ..
   pub operand_within : (o : Operand (List ℕ)) → operand_lacks_column columns o ≡ false → IsWithin (length columns) (placed_operand columns o)
   operand_within (operand.Literal value) there = tt
   operand_within (operand.Column name) there = placed_within name there

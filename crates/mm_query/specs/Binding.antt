@@ -1,4 +1,4 @@
--- What refuses a change by the catalog alone, and what its names stand for.
+-- The refusals of a change that depend on the catalog alone, and the resolution of its names.
 use Rattle.std.specs.Prelude.{◌≡◌, ◌==◌, ℕ, Bool, false, not, ◌||◌, All, List, [], ◌∷◌, Some, length, map}
 use Rattle.std.specs.List.{list_any}
 use Rattle.mm_schema.specs.Columns.{same_type}
@@ -18,7 +18,7 @@ use Rattle.mm_query.specs.declared.bound_query.FieldPlace.{FieldPlace}
 use Rattle.mm_query.specs.declared.command.Mutation.{Mutation}
 use Rattle.mm_query.specs.declared.command.Mutation.TheVariants as written
 
--- Some value differs in type from its column, where it has one.
+-- A value differs in type from its column. Values without a column are ignored.
 abbrev pub has_type_mismatch : List Column → List Value → Bool
 has_type_mismatch [] values = false
 has_type_mismatch (c ∷ cs) [] = false
@@ -28,7 +28,7 @@ has_type_mismatch (c ∷ cs) (v ∷ vs) = not (same_type c.col_type (type_of v))
 abbrev pub has_other_length : List Column → List Value → Bool
 has_other_length columns values = not (length values == length columns)
 
--- What refuses a change by the catalog alone, in the one order.
+-- The conditions that refuse a change by the catalog alone, in the order of refusals.
 abbrev pub binding_conditions : Mutation → Schema → List Condition
 binding_conditions (written.Insert table tuples) schema =
     record { holds = lacks_table table schema; refusal = NoSuchTable }
@@ -40,11 +40,11 @@ binding_conditions (written.Update table assignments tests) schema =
 binding_conditions (written.Delete table tests) schema =
     record { holds = lacks_table table schema; refusal = NoSuchTable } ∷ column_conditions (columns_named table schema) [] tests
 
--- The assignments of a change of the table of a name, with places in place of the names of columns.
+-- The assignments of a change of a table, with positions of columns.
 abbrev pub assignments_for : List ℕ → Schema → List (Assignment (List ℕ)) → List (Assignment ℕ)
 assignments_for table schema assignments = map (placed_assignment (columns_named table schema)) assignments
 
--- Its tests with places in place of the names of columns.
+-- The tests of a change of a table, with positions of columns.
 abbrev pub tests_for : List ℕ → Schema → List (Atom (List ℕ)) → List (Atom ℕ)
 tests_for table schema tests = map (placed_atom (columns_named table schema)) tests
 
@@ -52,19 +52,19 @@ tests_for table schema tests = map (placed_atom (columns_named table schema)) te
 abbrev pub at_first : ℕ → FieldPlace
 at_first column = record { place = 0; column = column }
 
--- The same tests as the atoms of a query of that table alone.
+-- The tests of a change of a table, as atoms of a query of that table alone.
 abbrev pub atoms_for : List ℕ → Schema → List (Atom (List ℕ)) → List (Atom FieldPlace)
 atoms_for table schema tests = map (mapped_atom at_first) (tests_for table schema tests)
 
--- All columns that tests name are among the first ones of a row.
+-- The tests read only the first `width` columns of a row.
 abbrev pub TestsWithin : ℕ → List (Atom ℕ) → Type 0
 TestsWithin width tests = All (λ (t : Atom ℕ). ReadsWithin width t.left t.right) tests
 
--- All columns that the right sides of assignments name are among the first ones of a row.
+-- The right sides of the assignments read only the first `width` columns of a row.
 abbrev pub AssignmentsWithin : ℕ → List (Assignment ℕ) → Type 0
 AssignmentsWithin width assignments = All (λ (a : Assignment ℕ). IsWithin width a.source) assignments
 
--- An UPDATE that is bound: its table has this place, and its columns have these, which lie in the table. Its tests are atoms of a query.
+-- A bound UPDATE: the positions of its table and its columns, all within the table. Its tests are atoms of a query.
 pub record BindsUpdate (schema : Schema) (name : List ℕ) (assignments : List (Assignment (List ℕ))) (tests : List (Atom (List ℕ)))
     (place : ℕ) (placed : List (Assignment ℕ)) (asked : List (Atom FieldPlace)) : Type 0 where
   pub table : table_place name schema ≡ Some place
@@ -73,13 +73,13 @@ pub record BindsUpdate (schema : Schema) (name : List ℕ) (assignments : List (
   pub assignments_within : AssignmentsWithin (length (columns_named name schema)) placed
   pub tests_within : TestsWithin (length (columns_named name schema)) (tests_for name schema tests)
 
--- A DELETE that is bound.
+-- A bound DELETE.
 pub record BindsDelete (schema : Schema) (name : List ℕ) (tests : List (Atom (List ℕ))) (place : ℕ) (asked : List (Atom FieldPlace)) : Type 0 where
   pub table : table_place name schema ≡ Some place
   pub tests_placed : asked ≡ atoms_for name schema tests
   pub tests_within : TestsWithin (length (columns_named name schema)) (tests_for name schema tests)
 
--- The change with places in place of the names of its table and its columns.
+-- The bound form of a change: positions in place of the names of its table and columns.
 abbrev pub Binds : Schema → Mutation → BoundChange → Type 0
 Binds schema (written.Insert name tuples) (bound.Insert place rows) = (table_place name schema ≡ Some place) × (rows ≡ tuples)
 Binds schema (written.Update name assignments tests) (bound.Update place placed asked) = BindsUpdate schema name assignments tests place placed asked

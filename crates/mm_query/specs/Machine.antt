@@ -1,4 +1,4 @@
--- The machine that keeps only lists of rows: what refuses each command, what it answers, and the state that it leaves.
+-- The machine of row lists: for each command its refusals, its reply, and the next state.
 use Rattle.std.specs.Prelude.{ℕ, Bool, true, false, not, ◌&&◌, if◌then◌else◌, List, [], ◌∷◌, ◌++◌, Option, Some, None, length, map, nat_lt}
 use Rattle.std.specs.List.{list_any}
 use Rattle.std.specs.Option.{option_map, option_map_or}
@@ -35,7 +35,7 @@ use Rattle.mm_query.specs.declared.reply.Reply.TheVariants.{Done, Count, Rows, S
 
 -- ---- changes of the catalog
 
--- What refuses a change of the catalog outside a transaction, in the one order.
+-- The conditions that refuse a change of the catalog outside a transaction, in the order of refusals.
 abbrev pub definition_conditions : Definition → State → List Condition
 definition_conditions (define.Table definition) state = table_conditions definition state.schema
 definition_conditions (define.DropTable name) state = drop_table_conditions name state.schema
@@ -44,14 +44,14 @@ definition_conditions (define.DropIndex name) state = drop_index_conditions name
 definition_conditions (define.Watch watched) state = watch_conditions watched.name watched.query state
 definition_conditions (define.Unwatch name) state = unwatch_conditions name state
 
--- The change of the catalog concerns an index alone, and so no row.
+-- The change of the catalog creates or drops an index, so it changes no row.
 abbrev pub is_of_index : Definition → Bool
 is_of_index (define.Index index) = true
 is_of_index (define.DropIndex name) = true
 is_of_index _ = false
 
--- The state after a change of the catalog: a new table comes last and has no rows, a table that is dropped takes its rows with
--- it, and an index or a standing query leaves all rows as they are.
+-- The state after a change of the catalog. A new table is appended and has no rows, and a dropped table loses its rows. A change of an
+-- index or a standing query changes no row.
 abbrev pub after_definition : Definition → State → State
 after_definition (define.Table definition) state =
     record state { schema = with_table definition state.schema; rows = state.rows ++ [] ∷ [] }
@@ -64,40 +64,40 @@ after_definition (define.Unwatch name) state = after_unwatch name state
 
 -- ---- changes of rows
 
--- The rows of all tables once edits are made, those of one table after another.
+-- The rows of all tables after edits, which are made table by table.
 abbrev pub after_edits : List Table → List TableEdits → Instance → Instance
 after_edits tables [] rows = rows
 after_edits tables (edits ∷ others) rows = after_edits tables others (changed_instance tables (edits ∷ []) rows)
 
--- The state with the rows that a change makes of those that are there.
+-- The state after a change of rows.
 abbrev pub after_change : Mutation → State → State
 after_change mutation state = record state { rows = after_edits state.schema.tables (edits mutation state) state.rows }
 
--- Some row of a table has in a REF column a value that is no key of the table that the column refers to.
+-- A row of the table has a value in a REF column that is no key of the column's target.
 abbrev pub some_lacks_target : List ℕ → State → Bool
 some_lacks_target table state =
     list_any (λ (r : ℕ × List ℕ). list_any (lacks_target_row r.0 (key_named r.1 state.schema) (rows_in state r.1)) (rows_in state table))
     (references_of (columns_named table state.schema))
 
--- Some pair of a table takes away the key of a row that a row refers to which is there after the change. No table refers to itself,
--- so that row is one that the change leaves as it is.
+-- A pair deletes a row, or changes its key, while a row after the change refers to it. No table refers to itself, so the change leaves the
+-- referring row unchanged.
 abbrev pub is_referred_to : State → TableEdits → Bool
 is_referred_to after edits =
     list_any (λ (t : Table). list_any (λ (r : ℕ × List ℕ). same_name r.1 edits.table
     && lose_targets r.0 (key_named edits.table after.schema) (rows_in after t.definition.name) edits.pairs) (references_of t.definition.columns))
     after.schema.tables
 
--- Some pair of any table does.
+-- A pair of any table deletes a referenced row or changes its key.
 abbrev pub some_is_referred : List TableEdits → State → Bool
 some_is_referred edits after = list_any (is_referred_to after) edits
 
--- What refuses a change of a table by the rows after it, in the one order, where these are its edits.
+-- The conditions that refuse a change of a table by the rows after it, in the order of refusals.
 abbrev pub row_conditions : List ℕ → List TableEdits → State → List Condition
 row_conditions table edits after =
     table_rows_conditions (key_named table after.schema) (rows_in after table) (some_lacks_target table after) (some_is_referred edits after)
 
--- What refuses a change of rows, in the one order: first by the catalog alone, then by the values that it computes, then by the
--- rows of its table, and last by the standing queries.
+-- The conditions that refuse a change of rows, in the order of refusals. They depend on the catalog alone, then on the computed values, on
+-- the rows of its table, and on the standing queries.
 abbrev pub change_conditions : Mutation → State → List Condition
 change_conditions mutation state =
     binding_conditions mutation state.schema ++ (value_conditions mutation state
@@ -106,60 +106,60 @@ change_conditions mutation state =
 
 -- ---- rows by an index
 
--- The rows of an index's table, by the value in its column, and by key where these are equal.
+-- The rows of an index's table, ordered by the indexed column, then by key.
 abbrev pub index_rows : State → IndexDef → List (List Value)
 index_rows state index =
     in_order (rows_by (column_place_in index.table index.column state.schema) (key_named index.table state.schema)) (rows_in state index.table)
 
--- The rows of the table of the index of a name in that order, and none where there is no such index.
+-- The rows of the table of the index with a name in that order, or none if there is no such index.
 abbrev pub rows_by_index : State → List ℕ → List (List Value)
 rows_by_index state name = option_map_or (index_rows state) (index_named name state.schema) []
 
 -- ---- plans
 
--- The plan of a query by the catalog and the row counts of its tables as they are.
+-- The plan of a query for the current catalog and numbers of rows.
 abbrev pub plan_in : State → Query → List PlanLine
 plan_in state query = plan_of state.schema (map length state.rows) query
 
 -- ---- transactions
 
--- BEGIN keeps a copy of the rows.
+-- BEGIN saves a copy of the rows.
 abbrev pub after_begin : State → State
 after_begin state = record state { saved = Some (record { at_begin = state.rows; savepoints = [] }) }
 
--- COMMIT drops the copy, and those of the savepoints.
+-- COMMIT drops all saved copies.
 abbrev pub after_commit : State → State
 after_commit state = record state { saved = None }
 
--- ROLLBACK makes the copy the rows, and drops it, and those of the savepoints.
+-- ROLLBACK restores the rows at BEGIN, and drops all saved copies.
 abbrev pub after_rollback : State → State
 after_rollback state = record state { rows = option_map_or (λ (saved : Saved). saved.at_begin) state.saved state.rows; saved = None }
 
--- A transaction has at most so many savepoints.
+-- The maximum number of savepoints in a transaction.
 abbrev pub max_savepoints : ℕ
 max_savepoints = 64
 
--- SAVEPOINT keeps a further copy of the rows, under a name. Of two with one name the latest counts.
+-- SAVEPOINT saves another copy of the rows under a name. Of savepoints with one name the latest is used.
 abbrev pub after_savepoint : List ℕ → State → State
 after_savepoint name state = record state {
   saved = option_map (λ (saved : Saved). record saved { savepoints = record { name = name; rows = state.rows } ∷ saved.savepoints }) state.saved;
 }
 
--- The latest savepoint of a name, and those before it.
+-- The latest savepoint with a name, and all earlier savepoints.
 abbrev pub back_to : List ℕ → List Savepoint → List Savepoint
 back_to name [] = []
 back_to name (savepoint ∷ earlier) = if same_name name savepoint.name then savepoint ∷ earlier else back_to name earlier
 
--- The open transaction has no savepoint of a name.
+-- The open transaction has no savepoint with the name.
 abbrev pub lacks_savepoint : List ℕ → State → Bool
 lacks_savepoint name state = not (list_any (λ (savepoint : Savepoint). same_name name savepoint.name) (savepoints_of state))
 
--- The rows at the latest of some savepoints; where there is none, these.
+-- The rows at the latest savepoint, or the given rows if there is none.
 abbrev pub rows_at_latest : List Savepoint → Instance → Instance
 rows_at_latest [] rows = rows
 rows_at_latest (savepoint ∷ earlier) rows = savepoint.rows
 
--- ROLLBACK TO makes the copy of the latest savepoint of a name the rows, keeps it, and drops those of the later ones.
+-- ROLLBACK TO restores the rows at the latest savepoint with a name, keeps that savepoint, and drops all later ones.
 abbrev pub after_rollback_to : List ℕ → State → State
 after_rollback_to name state = record state {
   rows = rows_at_latest (back_to name (savepoints_of state)) state.rows;
@@ -168,8 +168,8 @@ after_rollback_to name state = record state {
 
 -- ---- the step
 
--- What refuses a command, in the one order. A change of the catalog is refused in a transaction, whatever else refuses it, but
--- for one of an index.
+-- The conditions that refuse a command, in the order of refusals. In a transaction, a change of the catalog other than of an index is
+-- refused as NotInTransaction, whatever else refuses it.
 abbrev pub conditions : Command → State → List Condition
 conditions Nothing state = []
 conditions (Define definition) state =
@@ -191,9 +191,9 @@ conditions (RollbackTo name) state =
     record { holds = not (has_transaction state); refusal = NoTransaction }
     ∷ record { holds = lacks_savepoint name state; refusal = NoSuchSavepoint } ∷ []
 
--- What a command answers that nothing refuses; an empty line has no reply. A change tells how many pairs its own table has,
--- SCAN gives the rows of its table in key order, SCAN INDEX those of its index's table in the order of the index, SELECT those of
--- its query, EXPLAIN the plan of its query, SHOW the rows of its standing query, and TABLES tells of the catalog.
+-- The reply to a command that is not refused; an empty line has none. A change replies with the number of its own table's pairs. SCAN and
+-- SCAN INDEX reply with the rows of a table, in key order or in the order of an index. SELECT and SHOW reply with the rows of a query or a
+-- standing query, EXPLAIN with a plan, and TABLES with the listing of the catalog.
 abbrev pub reply_to : Command → State → Option Reply
 reply_to Nothing state = None
 reply_to (Define definition) state = Some Done
@@ -210,7 +210,7 @@ reply_to Rollback state = Some Done
 reply_to (SetSavepoint name) state = Some Done
 reply_to (RollbackTo name) state = Some Done
 
--- The state that a command leaves that nothing refuses.
+-- The state after a command that is not refused.
 abbrev pub state_after : Command → State → State
 state_after Nothing state = state
 state_after (Define definition) state = after_definition definition state
@@ -227,16 +227,16 @@ state_after Rollback state = after_rollback state
 state_after (SetSavepoint name) state = after_savepoint name state
 state_after (RollbackTo name) state = after_rollback_to name state
 
--- What a command answers, if it has a reply, and the state after it.
+-- The reply to a command, if any, and the next state.
 pub record Outcome : Type 0 where
   pub reply : Option Reply
   pub state : State
 
--- A refusal is the reply, and the state stays.
+-- The refusal is the reply, and the state is unchanged.
 abbrev pub refused_outcome : Refusal → State → Outcome
 refused_outcome refusal state = record { reply = Some (Refused refusal); state = state }
 
--- A refusal that is due is the reply, and the state stays. Otherwise the command is done.
+-- The given outcome, unless there is a refusal: then that is the reply, and the state is unchanged.
 abbrev pub unless_refused : Option Refusal → State → Outcome → Outcome
 unless_refused (Some refusal) state outcome = record { reply = Some (Refused refusal); state = state }
 unless_refused None state outcome = outcome
@@ -246,7 +246,7 @@ abbrev pub step : Command → State → Outcome
 step command state =
     unless_refused (first_refusal (conditions command state)) state (record { reply = reply_to command state; state = state_after command state })
 
--- The state that some commands leave, done one after another.
+-- The state after commands in order.
 abbrev pub after_all : List Command → State → State
 after_all [] state = state
 after_all (command ∷ commands) state = after_all commands (step command state).state

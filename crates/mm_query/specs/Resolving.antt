@@ -1,4 +1,4 @@
--- What the names of a query stand for, and what refuses it by the catalog alone.
+-- The resolution of a query's names, and the refusals that depend on the catalog alone.
 use Rattle.std.specs.Prelude.{◌≡◌, ℕ, ◌-◌, ◌<◌, ◌==◌, Bool, false, ◌||◌, All, List, [], ◌∷◌, ◌++◌, Option, Some, None, find, is_none, length, map, nat_lt}
 use Rattle.std.specs.Prelude.{position, slice_get}
 use Rattle.std.specs.List.{list_any}
@@ -24,42 +24,42 @@ use Rattle.mm_query.specs.declared.query.Query.{Query}
 
 -- ---- tables
 
--- The places of the tables of FROM in the catalog's order of creation, and 0 for one that isn't there.
+-- The positions of the tables of FROM in the catalog's order of creation, or 0 for a table that does not exist.
 abbrev pub places_in : Schema → List FromItem → List ℕ
 places_in schema from = map (λ (item : FromItem). unwrap_or (table_place item.table schema) 0) from
 
 -- ---- fields
 
--- The place of an alias in FROM. Where it stands twice it means the first.
+-- The position of an alias in FROM: the first one if it occurs twice.
 abbrev pub alias_place : List FromItem → List ℕ → Option ℕ
 alias_place from alias = position (λ item. same_name alias item.alias) from
 
--- The table of an alias, where both are there.
+-- The table of an alias, if both exist.
 abbrev pub table_of : Schema → List FromItem → List ℕ → Option Table
 table_of schema from alias = option_and_then (λ item. table_named item.table schema) (find (λ item. same_name alias item.alias) from)
 
--- The type of a field, where its alias, its table and its column are there.
+-- The type of a field, if its alias, its table and its column exist.
 abbrev pub field_type : Schema → List FromItem → FieldName → Option ColType
 field_type schema from field = option_and_then (λ table. type_named table.definition.columns field.column) (table_of schema from field.alias)
 
--- A field's alias is not in FROM.
+-- FROM does not contain the field's alias.
 abbrev pub lacks_alias : List FromItem → FieldName → Bool
 lacks_alias from field = is_none (alias_place from field.alias)
 
--- A field's column is not in its table, which is there.
+-- The field's table exists, but has no such column.
 abbrev pub field_lacks_column : Schema → List FromItem → FieldName → Bool
 field_lacks_column schema from field = option_map_or (λ table. lacks_column table.definition.columns field.column) (table_of schema from field.alias) false
 
--- ---- places for names
+-- ---- positions of names
 
--- The place of a field's row and of its column, and 0 where one is not there.
+-- The positions of a field's table and column, each 0 if it does not exist.
 abbrev pub placed_field : Schema → List FromItem → FieldName → FieldPlace
 placed_field schema from field = record {
   place = unwrap_or (alias_place from field.alias) 0;
   column = option_map_or (λ table. placed table.definition.columns field.column) (table_of schema from field.alias) 0;
 }
 
--- A query with places in place of the names of fields; positions are counted from 0.
+-- A query with positions of its fields; positions of ORDER are counted from 0.
 abbrev pub placed_query : Schema → Query → BoundQuery
 placed_query schema query = record {
   distinct = query.distinct;
@@ -71,26 +71,26 @@ placed_query schema query = record {
 
 -- ---- conditions
 
--- The column that an operand names, if it is no value.
+-- The column of an operand, or `None` for a literal.
 abbrev pub column_of : {F : Type 0} → Operand F → Option F
 column_of (Literal value) = None
 column_of (Column column) = Some column
 column_of (Shifted column by) = Some column
 
--- Some field of an atom passes a test.
+-- A field of the atom passes the test.
 abbrev pub some_side : (FieldName → Bool) → Atom FieldName → Bool
 some_side test atom = test atom.left || option_map_or test (column_of atom.right) false
 
--- Some field that a query names passes a test.
+-- A field of the query passes the test.
 abbrev pub some_field : (FieldName → Bool) → Query → Bool
 some_field test query = list_any test query.fields || list_any (some_side test) query.atoms
 
--- Some alias stands twice.
+-- An alias occurs twice.
 abbrev pub has_duplicate_aliases : List FromItem → Bool
 has_duplicate_aliases [] = false
 has_duplicate_aliases (item ∷ items) = list_any (λ other. same_name item.alias other.alias) items || has_duplicate_aliases items
 
--- No field stands at the position.
+-- The position is 0 or exceeds the number of fields.
 abbrev pub lacks_position : List FieldName → ℕ → Bool
 lacks_position fields position = (position == 0) || nat_lt (length fields) position
 
@@ -99,7 +99,7 @@ abbrev pub exceeds_query_limits : Query → Bool
 exceeds_query_limits query =
     nat_lt 4 (length query.from) || nat_lt 16 (length query.fields) || nat_lt 16 (length query.atoms) || nat_lt 16 (length query.order)
 
--- What refuses a query by tables, columns and positions that are missing, in the one order.
+-- The conditions on missing tables, columns and positions, in the order of refusals.
 abbrev pub missing_conditions : Query → Schema → List Condition
 missing_conditions query schema =
     record { holds = list_any (λ (item : FromItem). lacks_table item.table schema) query.from; refusal = NoSuchTable }
@@ -109,7 +109,7 @@ missing_conditions query schema =
     }
     ∷ []
 
--- What refuses a query by its aliases and its types, in the one order.
+-- The conditions on aliases and types, in the order of refusals.
 abbrev pub ill_formed_conditions : Query → Schema → List Condition
 ill_formed_conditions query schema =
     record { holds = has_duplicate_aliases query.from; refusal = AliasTaken }
@@ -120,7 +120,7 @@ ill_formed_conditions query schema =
     }
     ∷ []
 
--- What refuses a query by the catalog alone, in the one order.
+-- The conditions that refuse a query by the catalog alone, in the order of refusals.
 abbrev pub query_conditions : Query → Schema → List Condition
 query_conditions query schema =
     missing_conditions query schema
@@ -128,22 +128,22 @@ query_conditions query schema =
     ++ record { holds = exceeds_query_limits query; refusal = TooMany }
     ∷ []
 
--- ---- what a query in which no condition holds reads
+-- ---- the fields of a query that is not refused
 
--- How many columns the table at a place of FROM has.
+-- The number of columns of the table at a position of FROM.
 abbrev pub width_at : Schema → List FromItem → ℕ → ℕ
 width_at schema from place = option_map_or (λ (item : FromItem). length (columns_named item.table schema)) (slice_get from place) 0
 
--- The field is a column of the table at its place.
+-- The field is a column of its table.
 abbrev pub IsFieldWithin : Schema → List FromItem → FieldPlace → Type 0
 IsFieldWithin schema from field = field.column < width_at schema from field.place
 
--- The fields of an atom are.
+-- All fields of the atom are columns of their tables.
 abbrev pub IsAtomWithin : Schema → List FromItem → Atom FieldPlace → Type 0
 IsAtomWithin schema from atom = IsFieldWithin schema from atom.left
     × ((field : FieldPlace) → column_of atom.right ≡ Some field → IsFieldWithin schema from field)
 
--- All that a query names is there.
+-- All tables, fields and positions of the query exist.
 pub record IsQueryWithin (schema : Schema) (query : BoundQuery) : Type 0 where
   pub tables : list_any (λ (item : FromItem). lacks_table item.table schema) query.from ≡ false
   pub fields : All (IsFieldWithin schema query.from) query.fields
@@ -152,18 +152,18 @@ pub record IsQueryWithin (schema : Schema) (query : BoundQuery) : Type 0 where
 
 -- ---- queries over a state
 
--- The combinations that fit a query, each as its projected row, over the rows of a state.
+-- The projected rows of the matching combinations in a state.
 abbrev pub bag_in : State → Query → List (List Value)
 bag_in state query = bag (placed_query state.schema query) (rows_in state)
 
--- What refuses a SELECT, in the one order.
+-- The conditions that refuse a SELECT, in the order of refusals.
 abbrev pub select_conditions : Query → State → List Condition
 select_conditions query state = query_conditions query state.schema ++ size_conditions (bag_in state query)
 
--- The rows that a bound query gives over the rows of a state, in their order.
+-- The rows that a bound query returns in a state, in order.
 abbrev pub answer_in : State → BoundQuery → List (List Value)
 answer_in state query = shown query (eval query (rows_in state))
 
--- The rows that a SELECT gives, in their order.
+-- The rows that a SELECT returns, in order.
 abbrev pub selected : Query → State → List (List Value)
 selected query state = answer_in state (placed_query state.schema query)

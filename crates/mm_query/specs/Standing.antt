@@ -1,4 +1,5 @@
--- Standing queries: what refuses that one is kept or dropped, what they show, and what refuses a change of rows because of them.
+-- Standing queries: the conditions on creating and dropping one, its rows, and the conditions that refuse a change of rows because of
+-- standing queries.
 use Rattle.std.specs.Prelude.{◌≡◌, ℕ, Bool, ◌||◌, if◌then◌else◌, All, List, [], ◌∷◌, ◌++◌, Option, Some, None, is_some, length, map, nat_le, nat_lt}
 use Rattle.std.specs.List.{list_any}
 use Rattle.std.specs.Option.{option_map_or}
@@ -18,34 +19,34 @@ use Rattle.mm_query.specs.declared.listing.Listing.{Listing}
 use Rattle.mm_query.specs.declared.query.FromItem.{FromItem}
 use Rattle.mm_query.specs.declared.query.Query.{Query}
 
--- ---- queries beside the catalog
+-- ---- bound queries of the catalog
 
--- The tables that a query reads, in the order of its FROM, each as often as it stands there.
+-- The tables that a query reads, in the order of FROM, with repetitions.
 abbrev pub tables_read : BoundQuery → List (List ℕ)
 tables_read query = map (λ (item : FromItem). item.table) query.from
 
--- Beside each standing query of the catalog stands its bound query, which reads the tables that the catalog says.
+-- There is one bound query for each standing query of the catalog, in the same order, and it reads the tables that the catalog lists.
 abbrev pub AreBeside : List StandingDef → List BoundQuery → Type 0
 AreBeside [] [] = Unit {0}
 AreBeside (standing ∷ others) (query ∷ queries) = (tables_read query ≡ standing.tables) × AreBeside others queries
 AreBeside [] (query ∷ queries) = ⊥
 AreBeside (standing ∷ others) [] = ⊥
 
--- The state has a bound query for each standing query, and no others.
+-- The state has one bound query for each standing query, and no others.
 abbrev pub HasQueries : State → Type 0
 HasQueries state = AreBeside state.schema.standing state.queries
 
--- All tables and columns that the standing queries name are there.
+-- All tables and columns of the standing queries exist.
 abbrev pub AreBound : State → Type 0
 AreBound state = All (IsQueryWithin state.schema) state.queries
 
--- The bound query of the standing query of a name.
+-- The bound query of the standing query with a name.
 abbrev pub query_named : List ℕ → List StandingDef → List BoundQuery → Option BoundQuery
 query_named name (standing ∷ others) (query ∷ queries) = if same_name name standing.name then Some query else query_named name others queries
 query_named name (standing ∷ others) [] = None
 query_named name [] queries = None
 
--- The bound queries of all standing queries but the one of a name; the others stay in order.
+-- The bound queries of all standing queries except the one with a name, in order.
 abbrev pub without_query : List ℕ → List StandingDef → List BoundQuery → List BoundQuery
 without_query name (standing ∷ others) (query ∷ queries) =
     if same_name name standing.name then without_query name others queries else query ∷ without_query name others queries
@@ -54,17 +55,17 @@ without_query name [] queries = []
 
 -- ---- the limit of combinations
 
--- Over the rows of a state too many combinations fit a query.
+-- Too many combinations match a query in a state.
 abbrev pub outgrows : State → BoundQuery → Bool
 outgrows state query = nat_lt most_rows (length (bag query (rows_in state)))
 
--- What refuses a change of rows because of the standing queries over the rows after it.
+-- The conditions that refuse a change of rows because of the standing queries after it.
 abbrev pub growth_conditions : State → List Condition
 growth_conditions after = record { holds = list_any (outgrows after) after.queries; refusal = StandingListTooLarge } ∷ []
 
--- ---- one more standing query
+-- ---- creation
 
--- What refuses that a query is kept under a name, in the one order: there are at most 32 standing queries.
+-- The conditions that refuse a new standing query, in the order of refusals. There are at most 32.
 abbrev pub watch_conditions : List ℕ → Query → State → List Condition
 watch_conditions name query state =
     missing_conditions query state.schema
@@ -74,7 +75,7 @@ watch_conditions name query state =
     ∷ record { holds = outgrows state (placed_query state.schema query); refusal = StandingListTooLarge }
     ∷ []
 
--- The state with a new standing query, which comes last and is bound once for all.
+-- The state after a standing query is appended. Its query is bound once.
 abbrev pub after_watch : List ℕ → Query → State → State
 after_watch name query state =
     let bound = placed_query state.schema query in
@@ -83,24 +84,24 @@ after_watch name query state =
       queries = state.queries ++ bound ∷ [];
     }
 
--- ---- a standing query dropped
+-- ---- dropping
 
--- What refuses that the standing query of a name is dropped, or shown.
+-- The conditions that refuse dropping or showing the standing query with a name.
 abbrev pub unwatch_conditions : List ℕ → State → List Condition
 unwatch_conditions name state = drop_standing_conditions name state.schema
 
--- The state without the standing query of a name; the others stay in order.
+-- The state without the standing query with a name; the others keep their order.
 abbrev pub after_unwatch : List ℕ → State → State
 after_unwatch name state =
     record state { schema = without_standing name state.schema; queries = without_query name state.schema.standing state.queries }
 
--- ---- what is shown
+-- ---- rows and listings
 
--- The rows that the standing query of a name shows: what its query gives over the rows now, in their order.
+-- The rows of the standing query with a name: those that its query returns in the current state, in order.
 abbrev pub shown_rows : List ℕ → State → List (List Value)
 shown_rows name state = option_map_or (answer_in state) (query_named name state.schema.standing state.queries) []
 
--- What is told of the catalog: each table and how many rows it has, and each standing query's name and how many rows it shows.
+-- The listing of the catalog: each table with its number of rows, and the name of each standing query with its number of rows.
 abbrev pub listing : State → Listing
 listing state = record {
   tables = map (λ (table : Table). record { table = table; rows = length (rows_in state table.definition.name) }) state.schema.tables;

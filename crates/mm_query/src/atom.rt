@@ -1,4 +1,4 @@
-//! Atoms: what a row is asked in WHERE, and what a column is given in SET.
+//! Atoms: the conditions of WHERE, and the assignments of SET.
 ghost use Rattle.std.specs.Prelude.{◌≡◌, ◌<◌, ◌+ℤ◌, ℕ, Some, length};
 ghost use Rattle.std.specs.Option.{option_copied};
 ghost use Rattle.std.specs.Ordering.{int_cmp};
@@ -10,7 +10,7 @@ ghost use Rattle.mm_query.specs.Resolving.{column_of};
 use mm_value::{AsRow, Value, ValueRef, compare};
 use std::cmp::Ordering;
 
-/// How the two sides of an atom are compared.
+/// A comparison operator of an atom.
 #[derive(Clone, Copy, Debug, PartialEq, Eq)]
 pub enum Comparison {
     /// `=`
@@ -25,34 +25,34 @@ pub enum Comparison {
     GreaterOrEqual,
 }
 
-/// The right side of an atom or an assignment. `F` names a column: as written, or by its place.
+/// The right side of an atom or an assignment. `F` identifies a column, by its name as written or by its position.
 #[derive(Debug, Drop)]
 pub enum Operand<F> {
     /// A value.
     Literal(Value),
     /// The value of a column.
     Column(F),
-    /// The sum of the value of a column and a number. It is a shift also where the number is 0.
+    /// The sum of a column's value and a number, which may be 0.
     Shifted(F, i64),
 }
 
-/// A condition on rows: the value of a column compares so with another value.
+/// A condition on rows: a comparison of a column's value with another value.
 #[derive(Debug, Drop)]
 pub struct Atom<F> {
-    /// The column on the left.
+    /// The column on the left side.
     pub left: F,
-    /// How the two are compared.
+    /// The comparison operator.
     pub comparison: Comparison,
-    /// The other value.
+    /// The right side.
     pub right: Operand<F>,
 }
 
-/// A column's new value.
+/// A new value for a column.
 #[derive(Debug, Default, Drop)]
 pub struct Assignment<F> {
-    /// The column that gets it.
+    /// The column that is assigned.
     pub column: F,
-    /// The value, computed from the old row alone.
+    /// The new value, computed from the old row alone.
     pub source: Operand<F>,
 }
 
@@ -73,7 +73,7 @@ impl<F: Default> Default for Atom<F> {
 }
 
 impl<F> Operand<F> {
-    /// The column that it names, if it is no value.
+    /// Returns the column of the operand, or `None` for a literal.
     pub fn column(&self) -> Option<&F>
         ensures { option_copied result ≡ column_of self.now }
     {
@@ -86,7 +86,7 @@ impl<F> Operand<F> {
 }
 
 impl Comparison {
-    /// Whether two things that compare so stand in this relation.
+    /// Returns whether the comparison holds for two values that compare as `ordering`.
     pub fn accepts(self, ordering: Ordering) -> bool
         ensures { result ≡ stands self ordering }
     {
@@ -100,21 +100,21 @@ impl Comparison {
     }
 }
 
-/// The sum of two numbers, which may be past their range.
+/// Returns the sum of two numbers, which may exceed 64 bits.
 fn sum(a: i64, b: i64) -> i128
     ensures { result ≡ a +ℤ b }
 {
     i128::from(a) + i128::from(b)
 }
 
-/// How a number stands to a sum that may be past its range.
+/// Compares a number with a sum that may exceed 64 bits.
 fn compare_with_sum(a: i64, sum: i128) -> Ordering
     ensures { result ≡ int_cmp a sum }
 {
     i128::from(a).cmp(&sum)
 }
 
-/// How a value stands to another one with a number added to it. Numbers are added without bound.
+/// Compares a value with the sum of another value and a number. The sum is unbounded.
 pub(crate) fn compare_shifted(a: ValueRef<'_>, b: ValueRef<'_>, shift: i64) -> Ordering
     ensures { result ≡ value_cmp (value_of a.entry) (shifted shift (value_of b.entry)) }
 {
@@ -125,7 +125,7 @@ pub(crate) fn compare_shifted(a: ValueRef<'_>, b: ValueRef<'_>, shift: i64) -> O
 }
 
 impl Atom<usize> {
-    /// Whether the atom is true of a row. Numbers are added without bound, so `k < k + 1` is true of every row.
+    /// Returns whether the atom is true of a row. Sums are unbounded, so `k < k + 1` is true of every row.
     pub fn holds<R: AsRow>(&self, row: &R) -> bool
         requires { ReadsWithin (length (R.AsRow.row row.now)) self.now.left self.now.right }
         ensures { result ≡ holds (λ (column : ℕ). Some (value_in column (R.AsRow.row row.now))) self.now }

@@ -1,4 +1,4 @@
-//! Names resolved against the catalog.
+//! Resolution of the names of a change against the catalog.
 ghost use Rattle.std.specs.Prelude.{◌≡◌, not, Some, None, IfOk, MatchResult, zip};
 ghost use Rattle.std.specs.List.{list_any};
 ghost use Rattle.mm_value.specs.Types.{type_of};
@@ -18,38 +18,45 @@ use mm_schema::{Catalog, Column, Name, NameRef};
 use mm_value::{Few, Refusal, Tuple, Value};
 use std::alloc::Global;
 
-/// A change whose names were resolved against a catalog.
+/// A change whose names are resolved against a catalog.
 #[derive(Debug, Drop)]
 pub enum BoundChange {
-    /// Adds rows to a table.
+    /// Inserts rows into a table.
     Insert {
-        /// The table's place in the catalog's order of creation.
+        /// The position of the table in the catalog's order of creation.
         table: usize,
-        /// The rows, each of which has a value of the right type for each column.
+        /// The rows. Each has one value of the right type for each column.
         tuples: RowList,
     },
-    /// Changes the rows of a table that meet all tests.
+    /// Updates the rows of a table that match all tests.
     Update {
-        /// The table's place in the catalog's order of creation.
+        /// The position of the table in the catalog's order of creation.
         table: usize,
-        /// The columns that get new values, by their places.
+        /// The assignments, with positions of columns.
         assignments: ShortList<Assignment<usize>, 2>,
-        /// What a row is asked: the atoms of a query of this table alone.
+        /// The tests, as atoms of a query of this table alone.
         tests: ShortList<Atom<FieldPlace>, 2>,
     },
-    /// Takes the rows that meet all tests out of a table.
+    /// Deletes the rows of a table that match all tests.
     Delete {
-        /// The table's place in the catalog's order of creation.
+        /// The position of the table in the catalog's order of creation.
         table: usize,
-        /// What a row is asked: the atoms of a query of this table alone.
+        /// The tests, as atoms of a query of this table alone.
         tests: ShortList<Atom<FieldPlace>, 2>,
     },
 }
 
-/// Resolves the names of a change, each of which is looked up once, and tests its values and its tests against the columns.
-/// `NoSuchTable`, `NoSuchColumn`, `NameTaken` for a column twice in SET, `TypeMismatch`, `WrongNumberOfValues`, `TooMany` for more than 16 tests: the first
-/// whose condition holds, over the whole command. `Memory` may come in their place and in that of success, except for an
-/// INSERT, which takes none here.
+/// Returns a change with its names resolved, and checks its values and tests against the columns. Looks up each name once. Fails with the
+/// first of these refusals whose condition holds over the whole command:
+///
+/// - `NoSuchTable`.
+/// - `NoSuchColumn`.
+/// - `NameTaken`: a column occurs twice in SET.
+/// - `TypeMismatch`.
+/// - `WrongNumberOfValues`.
+/// - `TooMany`: there are more than 16 tests.
+///
+/// May instead fail with `Memory`, but an INSERT allocates nothing here.
 pub fn bind_change(
     alloc: Global,
     catalog: &Catalog,
@@ -70,7 +77,7 @@ pub fn bind_change(
     }
 }
 
-/// Resolves the table of an UPDATE, and the columns of its assignments and tests.
+/// Resolves the table of an UPDATE, and the columns of its assignments and tests. Fails as [`bind_change`] does.
 fn bind_update(
     alloc: Global,
     catalog: &Catalog,
@@ -99,7 +106,7 @@ fn bind_update(
     }
 }
 
-/// Resolves the table of a DELETE, and the columns of its tests.
+/// Resolves the table of a DELETE, and the columns of its tests. Fails as [`bind_change`] does.
 fn bind_delete(
     alloc: Global,
     catalog: &Catalog,
@@ -122,7 +129,7 @@ fn bind_delete(
     }
 }
 
-/// Resolves the table of an INSERT and tests its tuples against the columns.
+/// Resolves the table of an INSERT, and checks its tuples against the columns. Fails as [`bind_change`] does. Allocates nothing.
 #[tactic(auto, using(crate::proofs::Tuples::due_nowhere))]
 fn bind_insert(catalog: &Catalog, name: &Name, tuples: RowList) -> Result<BoundChange, Refusal>
     ensures due { MatchResult result (λ _. first_refusal (binding_conditions (Insert name.now tuples) catalog.now) ≡ None)
@@ -146,7 +153,7 @@ fn bind_insert(catalog: &Catalog, name: &Name, tuples: RowList) -> Result<BoundC
     })
 }
 
-/// Whether some value of some tuple differs in type from its column.
+/// Returns whether any value of any tuple differs in type from its column.
 fn have_type_mismatch(columns: &[Column], tuples: &[Tuple]) -> bool
     ensures { result ≡ list_any (has_type_mismatch columns.now) tuples.now }
 {
@@ -155,14 +162,14 @@ fn have_type_mismatch(columns: &[Column], tuples: &[Tuple]) -> bool
         .any(|tuple| has_type_mismatch(columns, tuple.values()))
 }
 
-/// Whether some tuple has more or fewer values than there are columns.
+/// Returns whether any tuple has more or fewer values than there are columns.
 fn have_other_length(columns: &[Column], tuples: &[Tuple]) -> bool
     ensures { result ≡ list_any (has_other_length columns.now) tuples.now }
 {
     tuples.iter().any(|tuple| tuple.len() != columns.len())
 }
 
-/// Whether some value differs in type from its column, where it has one.
+/// Returns whether any value differs in type from its column. Ignores values that have no column.
 #[tactic(auto, using(crate::proofs::Tuples::mismatch_in_pairs))]
 fn has_type_mismatch(columns: &[Column], values: &[Value]) -> bool
     ensures { result ≡ has_type_mismatch columns.now values.now }
@@ -170,7 +177,7 @@ fn has_type_mismatch(columns: &[Column], values: &[Value]) -> bool
     has_unequal_pair(columns, values)
 }
 
-/// Whether a column and the value that stands at its place differ in type.
+/// Returns whether a column and the value at its position differ in type.
 fn has_unequal_pair(columns: &[Column], values: &[Value]) -> bool
     ensures { result ≡ list_any (λ p. not (same_type p.0.col_type (type_of p.1))) (zip columns.now values.now) }
 {

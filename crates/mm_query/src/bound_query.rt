@@ -1,4 +1,4 @@
-//! Queries whose names were resolved.
+//! Queries whose names are resolved.
 ghost use Rattle.std.specs.Prelude.{◌≡◌, ◌-◌, ◌<◌, ◌≤◌, length, map, All, IfOk};
 ghost use Rattle.mm_schema.specs.Refused.{AnswersDue, first_refusal};
 ghost use Rattle.mm_query.specs.Resolving.{IsQueryWithin, placed_query, places_in, query_conditions};
@@ -11,44 +11,51 @@ use mm_schema::Catalog;
 use mm_value::{Few, Refusal};
 use std::alloc::{AllocError, Global};
 
-/// A column of a row of a combination.
+/// A column of one row of a combination.
 #[derive(Clone, Copy, Debug, Default, PartialEq, Eq)]
 pub struct FieldPlace {
-    /// The place in FROM of the table that the row is of, counted from 0.
+    /// The position in FROM of the row's table, counted from 0.
     pub place: usize,
-    /// The place of the column in that table, counted from 0.
+    /// The position of the column in that table, counted from 0.
     pub column: usize,
 }
 
-/// A query whose fields were resolved against a catalog. Its tables go by their names, so it means the same after the
-/// catalog has got or lost other tables.
+/// A query whose fields are resolved against a catalog. Tables are identified by name, so creating or dropping other tables does not change
+/// its meaning.
 #[derive(Debug, Drop)]
 pub struct BoundQuery {
-    /// Whether one of each row is kept.
+    /// Whether equal rows are kept only once.
     pub distinct: bool,
-    /// The fields whose values make up a row of the result, from left to right.
+    /// The fields whose values form a row of the result, from left to right.
     pub fields: ShortList<FieldPlace, 4>,
-    /// The tables whose rows are combined, and their aliases.
+    /// The tables whose rows are combined, with their aliases.
     pub from: Few<FromItem>,
-    /// What a combination of rows is asked.
+    /// The conditions on a combination of rows.
     pub atoms: ShortList<Atom<FieldPlace>, 2>,
-    /// The columns of the result by which it is sorted, counted from 0.
+    /// The columns of the result by which it is sorted, as positions counted from 0.
     pub order: ShortList<usize, 4>,
 }
 
-/// A query whose names were resolved, and where its tables stand.
+/// A query whose names are resolved, and the positions of its tables.
 #[derive(Debug, Drop)]
 pub struct Bound {
     /// The query.
     pub query: BoundQuery,
-    /// The places of its tables in the catalog's order of creation, in the order of FROM.
+    /// The positions of its tables in the catalog's order of creation, in the order of FROM.
     pub tables: ShortList<usize, 4>,
 }
 
-/// Resolves the names of a query, each of which is looked up once, and tests it against the catalog. `NoSuchTable`,
-/// `NoSuchColumn` for a column that isn't in its table or a position of ORDER that is 0 or past the fields, `AliasTaken`,
-/// `NoSuchAlias`, `TypeMismatch`, `TooMany` for more than 4 tables or more than 16 fields, atoms or positions: the first whose
-/// condition holds, over the whole query. `Memory` may come in their place and in that of success.
+/// Returns a query with its names resolved, and checks it against the catalog. Looks up each name once. Fails with the first of these
+/// refusals whose condition holds over the whole query:
+///
+/// - `NoSuchTable`.
+/// - `NoSuchColumn`: a table has no such column, or a position of ORDER is 0 or exceeds the number of fields.
+/// - `AliasTaken`.
+/// - `NoSuchAlias`.
+/// - `TypeMismatch`.
+/// - `TooMany`: there are more than 4 tables, or more than 16 fields, atoms or positions.
+///
+/// May instead fail with `Memory`.
 pub fn bind_query(alloc: Global, catalog: &Catalog, query: Query<'_>) -> Result<Bound, Refusal>
     ensures due { AnswersDue (first_refusal (query_conditions query.entry catalog.now)) result }
     ensures ok { IfOk result (λ bound. bound.query ≡ placed_query catalog.now query.entry) }
@@ -83,7 +90,7 @@ pub fn bind_query(alloc: Global, catalog: &Catalog, query: Query<'_>) -> Result<
     Ok(Bound { query, tables })
 }
 
-/// Positions counted from 0 in place of those counted from 1. `AllocError` where memory is refused.
+/// Converts positions counted from 1 to positions counted from 0. Fails with `AllocError` if an allocation fails.
 fn place_positions(alloc: Global, positions: &[usize]) -> Result<ShortList<usize, 4>, AllocError>
     ensures ok { IfOk result (λ columns. columns ≡ map (λ position. position - 1) positions.now) }
 {

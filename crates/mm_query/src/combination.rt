@@ -1,4 +1,4 @@
-//! Combinations of rows, as far as their rows are there.
+//! Combinations of rows, some of which may be missing.
 ghost use Rattle.std.specs.Prelude.{◌≡◌, None, get_or, pos, IfOk};
 ghost use Rattle.std.specs.Option.{option_copied, option_map, unwrap_or};
 ghost use Rattle.mm_value.specs.Order.{value_cmp};
@@ -13,7 +13,7 @@ use mm_value::{AsRow, Row, Value, ValueRef, compare};
 use std::alloc::{AllocError, Global};
 use std::cmp::Ordering;
 
-/// The value of a row in a column, and 0 past its end.
+/// Returns the value of a column of a row, or 0 if the row has no such column.
 fn value_in<R: AsRow>(row: &R, column: usize) -> ValueRef<'_>
     ensures { value_of result ≡ value_in column (R.AsRow.row row.now) }
 {
@@ -23,7 +23,7 @@ fn value_in<R: AsRow>(row: &R, column: usize) -> ValueRef<'_>
     }
 }
 
-/// The row at a place of FROM, if it is there.
+/// Returns the row at a position of FROM, or `None` if the row is missing.
 fn row_at<R: AsRow>(rows: &[Option<R>], place: usize) -> Option<&R>
     ensures { option_map R.AsRow.row (option_copied result) ≡ get_or (rows_read R.AsRow.row rows.now) place None }
 {
@@ -33,7 +33,7 @@ fn row_at<R: AsRow>(rows: &[Option<R>], place: usize) -> Option<&R>
     }
 }
 
-/// How a value stands to an operand, if that one's place has a row.
+/// Compares a value with an operand. Returns `None` if the operand's row is missing.
 fn compare_with<R: AsRow>(
     left: ValueRef<'_>,
     right: &Operand<FieldPlace>,
@@ -56,7 +56,8 @@ fn compare_with<R: AsRow>(
 }
 
 impl Atom<FieldPlace> {
-    /// Whether the atom is not false of the rows that are there, one for each place of FROM or none yet.
+    /// Returns whether the atom is not false of the given rows: one for each position of FROM, or `None` if it is missing. An atom that
+    /// reads a missing row is not false.
     pub fn admits<R: AsRow>(&self, rows: &[Option<R>]) -> bool
         ensures { result ≡ holds (value_at (rows_read R.AsRow.row rows.now)) self.now }
     {
@@ -71,14 +72,14 @@ impl Atom<FieldPlace> {
     }
 }
 
-/// Whether none of the atoms is false of the rows that are there.
+/// Returns whether none of the atoms is false of the given rows.
 pub fn none_fails<R: AsRow>(atoms: &[Atom<FieldPlace>], rows: &[Option<R>]) -> bool
     ensures { result ≡ none_fails atoms.now (rows_read R.AsRow.row rows.now) }
 {
     atoms.iter().all(|atom| atom.admits(rows))
 }
 
-/// A copy of the value of a field; one whose place has no row reads as 0. `AllocError` where memory is refused.
+/// Returns a copy of the value of a field, or 0 if its row is missing. Fails with `AllocError` if an allocation fails.
 fn copy_value<R: AsRow>(
     alloc: Global,
     field: FieldPlace,
@@ -92,7 +93,7 @@ fn copy_value<R: AsRow>(
     }
 }
 
-/// The row of the values of fields; one whose place has no row reads as 0. `AllocError` where memory is refused.
+/// Returns the row of the values of fields, with 0 for each field whose row is missing. Fails with `AllocError` if an allocation fails.
 pub fn values_of<R: AsRow>(
     alloc: Global,
     fields: &[FieldPlace],

@@ -5,35 +5,35 @@ use crate::row_list::RowList;
 use mm_schema::{IndexDef, Name, NameRef, TableDef};
 use mm_value::Few;
 
-/// A change of the rows of tables. The names of its columns lie in the line that it was read from.
+/// A change of the rows of a table. The names of its columns are slices of the line that it was read from.
 #[derive(Debug, Drop)]
 pub enum Mutation<'l> {
-    /// Adds all these rows to a table, or none.
+    /// Inserts all these rows into a table, or none.
     Insert {
         /// The name of the table.
         table: Name,
         /// One row for each tuple.
         tuples: RowList,
     },
-    /// Changes the rows of a table that meet all tests.
+    /// Updates the rows of a table that match all tests.
     Update {
         /// The name of the table.
         table: Name,
-        /// The columns that get new values.
+        /// The assignments.
         assignments: Few<Assignment<NameRef<'l>>>,
-        /// What a row is asked, as it was before the change.
+        /// The conditions on a row, as it was before the change.
         tests: Few<Atom<NameRef<'l>>>,
     },
-    /// Takes the rows that meet all tests out of a table.
+    /// Deletes the rows of a table that match all tests.
     Delete {
         /// The name of the table.
         table: Name,
-        /// What a row is asked.
+        /// The conditions on a row.
         tests: Few<Atom<NameRef<'l>>>,
     },
 }
 
-/// A query, and the name that it is kept under.
+/// A query, and the name of the standing query that it becomes.
 #[derive(Debug, Drop)]
 pub struct NamedQuery<'l> {
     /// The name.
@@ -45,21 +45,21 @@ pub struct NamedQuery<'l> {
 /// A change of the catalog.
 #[derive(Debug, Drop)]
 pub enum Definition<'l> {
-    /// Makes a new table, which has no rows.
+    /// Creates a table with no rows.
     Table(TableDef),
-    /// Drops the table of this name, with its rows and its indexes.
+    /// Drops the table with this name, its rows and its indexes.
     DropTable(Name),
-    /// Makes a new index of a table.
+    /// Creates an index.
     Index(IndexDef),
-    /// Drops the index of this name.
+    /// Drops the index with this name.
     DropIndex(Name),
-    /// Keeps a query as a standing query.
+    /// Creates a standing query.
     Watch(NamedQuery<'l>),
-    /// Drops the standing query of this name.
+    /// Drops the standing query with this name.
     Unwatch(Name),
 }
 
-/// A command: what a line reads as.
+/// A command, as read from a line.
 #[derive(Debug, Drop)]
 pub enum Command<'l> {
     /// An empty line or a comment. It has no reply.
@@ -68,27 +68,26 @@ pub enum Command<'l> {
     Define(Definition<'l>),
     /// A change of rows.
     Change(Mutation<'l>),
-    /// Asks for all rows of the table of this name, in key order.
+    /// Returns all rows of the table with this name, in key order.
     Scan(Name),
-    /// Asks for all rows of the table of the index of this name, in the order of the values in the index's column, and by
-    /// key where these are equal.
+    /// Returns all rows of the table of the index with this name, ordered by the indexed column, then by key.
     ScanIndex(Name),
-    /// Asks for the rows that a query gives.
+    /// Returns the rows of a query.
     Select(Query<'l>),
-    /// Asks for the plan of a query, a line for each of its tables.
+    /// Returns the plan of a query, with one line for each of its tables.
     Explain(Query<'l>),
-    /// Asks for the rows that the standing query of this name shows.
+    /// Returns the rows of the standing query with this name.
     Show(Name),
-    /// Asks what tables, indexes and standing queries there are, and how many rows the tables and the standing queries have.
+    /// Returns all tables, indexes and standing queries, and the numbers of rows of the tables and standing queries.
     Tables,
     /// Opens a transaction.
     Begin,
-    /// Ends the transaction that is open. What was changed in it stays.
+    /// Commits the open transaction.
     Commit,
-    /// Ends the transaction that is open, and takes back what was changed in it.
+    /// Rolls the open transaction back.
     Rollback,
-    /// Makes a savepoint of this name in the transaction that is open.
+    /// Sets a savepoint with this name in the open transaction.
     Savepoint(Name),
-    /// Takes back what was changed since the latest savepoint of this name, which stays.
+    /// Rolls back to the latest savepoint with this name, and keeps the savepoint.
     RollbackTo(Name),
 }

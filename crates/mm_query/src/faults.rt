@@ -1,4 +1,4 @@
-//! What is wrong with a command, gathered while its names are resolved.
+//! Errors of a command, recorded while its names are resolved.
 ghost use Rattle.std.specs.Prelude.{◌≡◌, ◌||◌, false};
 ghost use Rattle.std.specs.Option.{option_map_or};
 ghost use Rattle.mm_schema.specs.Columns.{same_type};
@@ -9,32 +9,32 @@ ghost use Rattle.mm_query.specs.Placing.{differ};
 
 use mm_value::{ColType, Refusal};
 
-/// What the name of a column stands for. `P` is a place.
+/// A resolved column name. `P` is the type of a position.
 #[derive(Clone, Copy)]
 pub(crate) struct Resolved<P> {
-    /// Its place, and 0 for what is missing.
+    /// The position of the column, or 0 if the column does not exist.
     pub place: P,
-    /// Its type, where it is there.
+    /// The type of the column, or `None` if the column does not exist.
     pub col_type: Option<ColType>,
 }
 
-/// What is wrong with a command whose tables are there.
+/// Errors of a command whose tables exist.
 #[derive(Clone, Copy)]
 pub(crate) struct Faults {
-    /// Some column or position of ORDER isn't there.
+    /// A column or a position of ORDER does not exist.
     pub column: bool,
-    /// Some alias, or some column of SET, stands twice.
+    /// An alias, or a column in SET, occurs twice.
     pub duplicate: bool,
-    /// Some alias isn't there.
+    /// An alias does not exist.
     pub alias: bool,
-    /// Two sides differ in type, or a text is shifted.
+    /// Two sides differ in type, or a number is added to a text.
     pub mismatch: bool,
-    /// Some count passes its limit.
+    /// A count exceeds its limit.
     pub too_many: bool,
 }
 
 impl Faults {
-    /// What refuses the command: the first that is due. `taken` is answered where something stands twice.
+    /// Returns the first refusal in the order of refusals, or `None` if there is no error. A duplicate is refused as `taken`.
     pub fn refusal(&self, taken: Refusal) -> Option<Refusal>
         ensures { result ≡ first_refusal (fault_conditions taken self.now) }
     {
@@ -53,14 +53,15 @@ impl Faults {
         }
     }
 
-    /// Notes whether the types of two sides are known and differ.
+    /// Records a type mismatch if the types of both sides are known and differ.
     pub fn compare(&mut self, left: Option<ColType>, right: Option<ColType>)
         ensures { self.new ≡ noted false false (differ left right) self.old }
     {
         self.mismatch = self.mismatch || differ(left, right);
     }
 
-    /// Notes the same where the right side is shifted, and whether that is a text.
+    /// Records a type mismatch if the types of both sides are known and differ, or if the right side, to which a number is added, is a
+    /// text.
     pub fn compare_shifted(&mut self, left: Option<ColType>, right: Option<ColType>)
         ensures { self.new ≡ noted false false (differ left right || option_map_or (same_type Text) right false) self.old }
     {
@@ -68,7 +69,7 @@ impl Faults {
     }
 }
 
-/// Whether two types are known and differ.
+/// Returns whether two types are known and differ.
 fn differ(a: Option<ColType>, b: Option<ColType>) -> bool
     ensures { result ≡ differ a b }
 {
@@ -78,7 +79,7 @@ fn differ(a: Option<ColType>, b: Option<ColType>) -> bool
     }
 }
 
-/// Whether a type is known and that of texts.
+/// Returns whether a type is known and is that of texts.
 fn is_text(col_type: Option<ColType>) -> bool
     ensures { result ≡ option_map_or (same_type Text) col_type false }
 {

@@ -1,9 +1,9 @@
-//! Lists of what a reply holds.
+//! Lists of the contents of a reply.
 ghost use Rattle.std.specs.Prelude.{◌≡◌};
 
 use std::marker::Model;
 
-/// Items, one after another: the lines of a plan, or the tables of a listing.
+/// A list of items: the lines of a plan, or the tables of a listing.
 #[derive(Debug, Drop)]
 pub struct ItemList<T> {
     items: Vec<T>,
@@ -18,14 +18,14 @@ impl<T> Model for ItemList<T> {
 }
 
 impl<T> ItemList<T> {
-    /// The list of these items, in their order. It takes no memory.
+    /// Returns the list of these items in their order. Allocates nothing.
     pub fn new(items: Vec<T>) -> ItemList<T>
         ensures { result ≡ items.items }
     {
         ItemList { items }
     }
 
-    /// The items, in their order.
+    /// Returns the items in order.
     pub fn as_slice(&self) -> &[T]
         ensures { result.now ≡ self.now }
     {

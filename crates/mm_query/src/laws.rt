@@ -1,4 +1,4 @@
-//! Laws of what is bound.
+//! Laws of bound commands.
 ghost use Rattle.std.specs.Prelude.{◌≡◌, ◌∷◌, ℕ, List, [], Some, map};
 ghost use Rattle.mm_value.specs.declared.values.Value.{Value};
 ghost use Rattle.mm_query.specs.Atoms.{holds, reads};
@@ -8,8 +8,8 @@ ghost use Rattle.mm_query.specs.Placing.{mapped_atom};
 ghost use Rattle.mm_query.specs.Queries.{none_fails, value_at};
 ghost use Rattle.mm_query.specs.declared.atom.Atom.{Atom};
 
-/// A test of a change asks of a row the same as an atom of a query of its table alone: the one holds of the row just where the
-/// other does. So the row meets tests just where none of the atoms fails.
+/// A test of a change is equivalent to an atom of a query of its table alone: one holds of a row if and only if the other does. So a row
+/// matches all tests if and only if none of the atoms fails.
 pub fn tests_are_atoms()
     ensures one { (test : Atom ℕ) (row : List Value) → holds (value_at (Some row ∷ [])) (mapped_atom at_first test) ≡ holds (reads row) test }
     ensures all { (tests : List (Atom ℕ)) (row : List Value) → none_fails (map (mapped_atom at_first) tests) (Some row ∷ []) ≡ meets tests row }

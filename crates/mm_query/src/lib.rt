@@ -1,4 +1,4 @@
-//! What commands and replies are, and the machine of row lists that gives them their meaning.
+//! Commands, replies, and the machine of row lists that defines their meaning.
 #![tactic(auto)]
 
 mod atom;

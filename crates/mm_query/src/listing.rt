@@ -1,26 +1,26 @@
-//! What is told of a catalog.
+//! Listings of a catalog.
 use crate::item_list::ItemList;
 use mm_schema::{Name, Table};
 
-/// A table, and how many rows it has.
+/// A table and its number of rows.
 #[derive(Debug, Drop)]
 pub struct ListedTable {
     /// The table: its definition, and its indexes in order of creation.
     pub table: Table,
-    /// How many rows it has.
+    /// The number of its rows.
     pub rows: usize,
 }
 
-/// A standing query by its name, and how many rows it shows.
+/// The name of a standing query, and its number of rows.
 #[derive(Debug, Drop)]
 pub struct ListedQuery {
-    /// Its name.
+    /// The name.
     pub name: Name,
-    /// How many rows it shows: with DISTINCT, one of each is counted.
+    /// The number of its rows. With DISTINCT, equal rows count once.
     pub rows: usize,
 }
 
-/// The tables and the standing queries that there are, each in order of creation.
+/// All tables and all standing queries, each in order of creation.
 #[derive(Debug, Drop)]
 pub struct Listing {
     /// The tables.

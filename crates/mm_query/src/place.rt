@@ -1,4 +1,4 @@
-//! Tests and assignments resolved against the columns of their table: each name is looked up once.
+//! Resolution of tests and assignments against the columns of their table. Each name is looked up once.
 ghost use Rattle.std.specs.Prelude.{◌≡◌, ◌||◌, ℕ, List, false, IfOk, OnOk, length, map, nat_lt};
 ghost use Rattle.std.specs.List.{list_any};
 ghost use Rattle.mm_schema.specs.Name.{same_name};
@@ -16,11 +16,10 @@ use mm_schema::{Columns, NameRef};
 use mm_value::{ColType, Few};
 use std::alloc::{AllocError, Global};
 
-/// The most tests of a change.
+/// The maximum number of tests of a change.
 pub const MAX_TESTS: usize = 16;
 
-/// What is wrong with a change apart from its columns: duplicates in SET and the count of its tests. A DELETE has no
-/// assignments.
+/// Returns the errors of a change that do not depend on its columns: duplicates in SET, and too many tests. A DELETE has no assignments.
 pub(crate) fn form_faults(
     assignments: &[Assignment<NameRef<'_>>],
     tests: &[Atom<NameRef<'_>>],
@@ -42,7 +41,7 @@ pub(crate) fn form_faults(
     }
 }
 
-/// Whether some column stands twice in SET.
+/// Returns whether a column occurs twice in SET.
 fn has_duplicate_targets(assignments: &[Assignment<NameRef<'_>>]) -> bool
     ensures { result ≡ has_duplicate_targets assignments.now }
 {
@@ -54,7 +53,7 @@ fn has_duplicate_targets(assignments: &[Assignment<NameRef<'_>>]) -> bool
     false
 }
 
-/// Whether some assignment is to the column of a name.
+/// Returns whether any assignment is to the column with a name.
 fn assigns_to(assignments: &[Assignment<NameRef<'_>>], name: &NameRef<'_>) -> bool
     ensures { result ≡ list_any (λ (a : Assigned (List ℕ)). same_name name.now a.column) assignments.now }
 {
@@ -63,7 +62,7 @@ fn assigns_to(assignments: &[Assignment<NameRef<'_>>], name: &NameRef<'_>) -> bo
         .any(|assignment| *name == assignment.column)
 }
 
-/// What the name of a column stands for. One that is missing is noted.
+/// Resolves the name of a column. Records an error if the column does not exist.
 pub(crate) fn resolve_column(
     columns: &Columns,
     name: &NameRef<'_>,
@@ -86,7 +85,7 @@ pub(crate) fn resolve_column(
     }
 }
 
-/// An operand with a place for its column, beside a side of this type, and what is wrong with it.
+/// Resolves the column of an operand, whose other side has the type `left`, and records its errors.
 fn place_operand(
     columns: &Columns,
     operand: Operand<NameRef<'_>>,
@@ -115,7 +114,7 @@ fn place_operand(
     }
 }
 
-/// An assignment with places for its columns, and what is wrong with it.
+/// Resolves the columns of an assignment, and records its errors.
 fn place_assignment(
     columns: &Columns,
     assignment: Assignment<NameRef<'_>>,
@@ -132,14 +131,14 @@ fn place_assignment(
     }
 }
 
-/// A column of the only table of a query.
+/// Returns a column as a field of the only table of a query.
 fn at_first(column: usize) -> FieldPlace
     ensures { result ≡ at_first column }
 {
     FieldPlace { place: 0, column }
 }
 
-/// An operand of a change as one of a query of its table alone.
+/// Returns an operand of a change as an operand of a query of its table alone.
 fn operand_at_first(operand: Operand<usize>) -> Operand<FieldPlace>
     ensures { result ≡ mapped_operand at_first operand }
 {
@@ -150,7 +149,7 @@ fn operand_at_first(operand: Operand<usize>) -> Operand<FieldPlace>
     }
 }
 
-/// A test as an atom of a query of the table alone, and what is wrong with it.
+/// Returns a test as an atom of a query of its table alone, and records its errors.
 fn place_test(columns: &Columns, test: Atom<NameRef<'_>>, faults: &mut Faults) -> Atom<FieldPlace>
     ensures place { result ≡ mapped_atom at_first (placed_atom columns.now test.entry) }
     ensures faults { faults.new ≡ noted (atom_lacks_column columns.now test.entry) false
@@ -165,7 +164,7 @@ fn place_test(columns: &Columns, test: Atom<NameRef<'_>>, faults: &mut Faults) -
     }
 }
 
-/// Tests as atoms of a query of the table alone, and what is wrong with them. `AllocError` where memory is refused.
+/// Returns tests as atoms of a query of their table alone, and records their errors. Fails with `AllocError` if an allocation fails.
 pub(crate) fn place_tests(
     alloc: Global,
     columns: &Columns,
@@ -183,7 +182,7 @@ pub(crate) fn place_tests(
     Ok(atoms)
 }
 
-/// Assignments with places for their columns, and what is wrong with them. `AllocError` where memory is refused.
+/// Resolves the columns of assignments, and records their errors. Fails with `AllocError` if an allocation fails.
 pub(crate) fn place_assignments(
     alloc: Global,
     columns: &Columns,

@@ -1,4 +1,4 @@
-//! The plain evaluation of a query, row by row.
+//! Evaluation of a query on each combination of rows.
 ghost use Rattle.std.specs.Prelude.{◌≡◌, ◌≤◌, ◌++◌, ◌∷◌, [], length, map, IfOk, OnErr, OnOk};
 ghost use Rattle.mm_schema.specs.Refused.{AnswersDue, first_refusal};
 ghost use Rattle.mm_schema.specs.Rows.{most_rows};
@@ -12,7 +12,7 @@ use mm_value::{Refusal, Row};
 use std::alloc::{AllocError, Global};
 use std::marker::Model;
 
-/// The most combinations that may fit a query: as many as a table may have rows.
+/// The maximum number of combinations that match a query, equal to the maximum number of rows of a table.
 pub const MAX_COMBINATIONS: usize = MAX_ROWS;
 
 /// The rows of each table of FROM.
@@ -31,7 +31,7 @@ impl<'a> Model for PlainRows<'a> {
 }
 
 impl<'a> PlainRows<'a> {
-    /// No tables. It takes no memory.
+    /// Returns an empty list of tables. Allocates nothing.
     pub fn new(alloc: Global) -> PlainRows<'a>
         ensures { result ≡ [] }
     {
@@ -40,7 +40,7 @@ impl<'a> PlainRows<'a> {
         }
     }
 
-    /// Adds the rows of the next table of FROM. `AllocError` where memory is refused, and then nothing changes.
+    /// Appends the rows of the next table of FROM. Fails with `AllocError` if an allocation fails; nothing changes then.
     pub fn add(&mut self, rows: &'a [Row]) -> Result<(), AllocError>
         ensures ok { OnOk result (self.new ≡ self.old ++ rows.now ∷ []) }
         ensures err { OnErr result (self.new ≡ self.old) }
@@ -50,10 +50,10 @@ impl<'a> PlainRows<'a> {
     }
 }
 
-/// The projected rows of the combinations that fit a query, in the order in which the plain product has them: those of the first
-/// row of the first table before those of its second row, and so on. It tests each combination, so it is for small tables and
-/// as a measure of other ways; it holds one combination at a time. `ResultTooLarge` where more than 1,048,576 fit; `Memory`
-/// may come in its place and in that of success.
+/// Returns the projected rows of the combinations that match a query, in the order of the cross product. The combinations of a table's
+/// first row precede those of its second row, and so on. Fails with `ResultTooLarge` if more than 1,048,576 combinations match. May instead
+/// fail with `Memory`. Tests every combination, so it is meant for small tables and for checking other evaluations. Stores one combination
+/// at a time.
 pub fn plain_eval(alloc: Global, query: &BoundQuery, rows: &PlainRows) -> Result<Vec<Row>, Refusal>
     ensures due { AnswersDue (first_refusal (size_conditions (bag_of query.now rows.now))) result }
     ensures ok { IfOk result (λ found. found.items ≡ bag_of query.now rows.now) }
@@ -65,7 +65,7 @@ pub fn plain_eval(alloc: Global, query: &BoundQuery, rows: &PlainRows) -> Result
     Ok(found)
 }
 
-/// Adds what is found of the combinations of the chosen rows and one row of each list. `chosen` is afterwards as before.
+/// Appends the projected rows of the matching combinations of the chosen rows with one row of each list. Restores `chosen` on success.
 fn walk<'a>(
     alloc: Global,
     query: &BoundQuery,
@@ -91,7 +91,7 @@ fn walk<'a>(
     Ok(())
 }
 
-/// Adds the projected row of a combination, if that fits.
+/// Appends the projected row of a combination if it matches.
 fn add_fitting(
     alloc: Global,
     query: &BoundQuery,

@@ -5,44 +5,44 @@ ghost use Rattle.mm_query.specs.Plans.{line_alias};
 use crate::query::FieldName;
 use mm_schema::{IndexId, Name};
 
-/// A line of a plan: how the rows of one table of FROM are reached, which goes by its alias. The first two tables are joined,
-/// then the result and the third, and so on (the access paths and join methods of Lehman and Carey, SIGMOD 1986).
+/// A line of a plan: how the rows of one table of FROM, identified by its alias, are found. The first two tables are joined, then the
+/// result and the third, and so on (the access paths and join methods of Lehman and Carey, SIGMOD 1986).
 #[derive(Debug, Drop)]
 pub enum PlanLine {
-    /// All rows of the first table are looked at.
+    /// Scans all rows of the first table.
     Scan {
         /// The first table.
         alias: Name,
     },
-    /// The rows of the first table that have a value are found by a HASH index.
+    /// Looks up the rows of the first table with a value in a HASH index.
     Hash {
         /// The first table.
         alias: Name,
         /// The index.
         index: Name,
     },
-    /// The rows of the first table that have a value are found by a tree.
+    /// Looks up the rows of the first table with a value in a tree.
     TreeEqual {
         /// The first table.
         alias: Name,
         /// The tree.
         index: IndexId,
     },
-    /// The rows of the first table whose value lies on one side of a bound are found by a tree.
+    /// Finds the rows of the first table on one side of a bound in a tree.
     TreeRange {
         /// The first table.
         alias: Name,
         /// The tree.
         index: IndexId,
     },
-    /// The row to which an earlier row refers is found by the reference.
+    /// Follows the reference of an earlier row to its row.
     Precomputed {
         /// The table.
         alias: Name,
-        /// The REF column of an earlier table that refers to it.
+        /// The REF column of an earlier table that references the table.
         field: FieldName<Name>,
     },
-    /// The rows of the first two tables are found in the order of the values that are compared, along two trees side by side.
+    /// Merges the first two tables in the order of the compared values, along one tree of each.
     TreeMerge {
         /// The second table.
         alias: Name,
@@ -51,28 +51,28 @@ pub enum PlanLine {
         /// The tree of the second table.
         inner: IndexId,
     },
-    /// The rows of the second table that go with each row of the first are found by a tree.
+    /// Finds the matches of each row of the first table in a tree of the second.
     TreeJoin {
         /// The second table.
         alias: Name,
         /// The tree.
         index: IndexId,
     },
-    /// The rows that go with each earlier combination are found by a HASH index.
+    /// Finds the matches of each earlier combination in a HASH index.
     HashJoin {
         /// The table.
         alias: Name,
         /// The index.
         index: Name,
     },
-    /// The rows that go with each earlier combination are found by a hash table that the query builds over all rows.
+    /// Finds the matches of each earlier combination in a hash table that the query builds over all rows.
     BuiltHash {
         /// The table.
         alias: Name,
         /// The column whose values are hashed.
         column: Name,
     },
-    /// All rows of the table are looked at for each earlier combination.
+    /// Tests all rows of the table for each earlier combination.
     NestedLoops {
         /// The table.
         alias: Name,
@@ -80,7 +80,7 @@ pub enum PlanLine {
 }
 
 impl PlanLine {
-    /// The alias of the table whose rows it reaches.
+    /// Returns the alias of the table whose rows the line finds.
     pub fn alias(&self) -> &Name
         ensures { result.now ≡ line_alias self.now }
     {
@@ -94,13 +94,13 @@ impl PlanLine {
     }
 }
 
-/// An atom that asks a column of a table of FROM to equal one of an earlier table.
+/// An atom that requires a column of a table of FROM to equal a column of an earlier table.
 #[derive(Debug, Drop)]
 pub struct JoinEquality {
     /// The column of the table.
     pub own: FieldName<Name>,
     /// The column of the earlier table.
     pub earlier: FieldName<Name>,
-    /// Whether a number is added to one of them; it may be 0.
+    /// Whether a number, which may be 0, is added to one of them.
     pub is_shifted: bool,
 }

@@ -5,7 +5,7 @@ use crate::atom::Atom;
 use mm_schema::{Name, NameRef};
 use mm_value::Few;
 
-/// A column of a table of FROM, as it is written: `alias.column`. `N` is a name: one of its own, or one that lies in the line.
+/// A column of a table of FROM as written: `alias.column`. `N` is the type of a name: an owned name, or a slice of the line.
 #[derive(Debug, Drop)]
 pub struct FieldName<N> {
     /// The alias of the table.
@@ -15,7 +15,7 @@ pub struct FieldName<N> {
 }
 
 impl FieldName<Name> {
-    /// The same field. It takes no memory.
+    /// Returns a copy of the field name. Allocates nothing.
     pub fn copy(&self) -> FieldName<Name>
         ensures { result ≡ self.now }
     {
@@ -31,21 +31,21 @@ impl FieldName<Name> {
 pub struct FromItem {
     /// The name of the table.
     pub table: Name,
-    /// What the fields call it.
+    /// The alias by which fields refer to the table.
     pub alias: Name,
 }
 
-/// A SELECT. The names of its fields lie in the line that it was read from.
+/// A SELECT. The names of its fields are slices of the line that it was read from.
 #[derive(Debug, Drop)]
 pub struct Query<'l> {
-    /// Whether one of each row is kept.
+    /// Whether equal rows are kept only once.
     pub distinct: bool,
-    /// The fields whose values make up a row of the result, from left to right.
+    /// The fields whose values form a row of the result, from left to right.
     pub fields: Few<FieldName<NameRef<'l>>>,
-    /// The tables whose rows are combined. A table may stand there more than once.
+    /// The tables whose rows are combined. A table may occur more than once.
     pub from: Few<FromItem>,
-    /// What a combination of rows is asked.
+    /// The conditions on a combination of rows.
     pub atoms: Few<Atom<FieldName<NameRef<'l>>>>,
-    /// The fields by which the result is sorted, by their positions counted from 1.
+    /// The fields by which the result is sorted, as positions counted from 1.
     pub order: Few<usize>,
 }

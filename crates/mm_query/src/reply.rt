@@ -5,19 +5,19 @@ use crate::plan_line::PlanLine;
 use crate::row_list::RowList;
 use mm_value::Refusal;
 
-/// What a command answers.
+/// The reply to a command.
 #[derive(Debug, Drop)]
 pub enum Reply {
-    /// It is done.
+    /// The command succeeded.
     Done,
-    /// It is done, and concerned this many rows.
+    /// The command succeeded, and inserted, updated or deleted this many rows.
     Count(usize),
-    /// These rows, in this order.
+    /// Rows, in order.
     Rows(RowList),
-    /// These lines of a plan, in this order.
+    /// The lines of a plan, in order.
     Steps(ItemList<PlanLine>),
     /// The tables with their indexes, and the standing queries.
     Listing(Listing),
-    /// It was refused, and changed nothing.
+    /// The command was refused, and changed nothing.
     Refused(Refusal),
 }

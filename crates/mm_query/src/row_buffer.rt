@@ -1,24 +1,23 @@
-//! Rows whose values stand in one vector.
+//! Rows whose values are stored in one vector.
 ghost use Rattle.std.specs.Prelude.{◌≡◌, ◌++◌, ◌<◌, ◌∷◌, [], OnErr, OnOk, Some, length, map, slice_get, take};
 
 use mm_value::{AsValue, Value};
 use std::alloc::{AllocError, Global};
 use std::marker::Model;
 
-/// Where the values of a row stand.
+/// The range of a row's values.
 #[derive(Clone, Copy, Debug)]
 pub(crate) struct Span {
     start: usize,
     len: usize,
 }
 
-/// Rows, one after another, seen as their list. Their values stand in one vector. Both vectors stay when the rows are cleared, so
-/// rows that come later find room there.
+/// A list of rows whose values are stored in one vector. Clearing keeps the capacity of both vectors for later rows.
 #[derive(Debug, Drop)]
 pub struct RowBuffer {
-    /// The values of all rows, one row behind the other.
+    /// The values of all rows, in order.
     values: Vec<Value>,
-    /// Where each row stands.
+    /// The range of each row's values.
     spans: Vec<Span>,
 }
 
@@ -35,7 +34,7 @@ impl Model for RowBuffer {
 }
 
 impl RowBuffer {
-    /// No rows. It takes no memory.
+    /// Returns an empty list. Allocates nothing.
     pub fn new(alloc: Global) -> RowBuffer
         ensures { result ≡ [] }
     {
@@ -45,7 +44,7 @@ impl RowBuffer {
         }
     }
 
-    /// Drops all rows.
+    /// Removes all rows.
     pub fn clear(&mut self)
         ensures { self.new ≡ [] }
     {
@@ -53,14 +52,14 @@ impl RowBuffer {
         self.spans.clear();
     }
 
-    /// How many rows there are.
+    /// Returns the number of rows.
     pub fn len(&self) -> usize
         ensures { result ≡ length self.now }
     {
         self.spans.len()
     }
 
-    /// The values of the row at a place, counted from 0.
+    /// Returns the values of a row. `i` counts from 0.
     pub fn row(&self, i: usize) -> &[Value]
         requires { i < length self.now }
         ensures { slice_get self.now i ≡ Some result.now }
@@ -70,7 +69,7 @@ impl RowBuffer {
         &values[start..start + len]
     }
 
-    /// Puts a copy of a row behind the others. `AllocError` where memory is refused, and then the rows are as before.
+    /// Appends a copy of a row. Fails with `AllocError` if an allocation fails; the rows are then unchanged.
     pub fn push<V: AsValue>(&mut self, alloc: Global, row: &[V]) -> Result<(), AllocError>
         ensures ok { OnOk result (self.new ≡ self.old ++ map V.value row.now ∷ []) }
         ensures err { OnErr result (self.new ≡ self.old) }
@@ -91,7 +90,7 @@ impl RowBuffer {
     }
 }
 
-/// Puts copies of values behind others. Where memory is refused, some of them may stand there.
+/// Appends copies of the values of a row. After `AllocError`, some of the copies may have been appended.
 fn push_values<V: AsValue>(
     alloc: Global,
     values: &mut Vec<Value>,

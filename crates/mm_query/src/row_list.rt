@@ -4,7 +4,7 @@ ghost use Rattle.std.specs.Prelude.{◌≡◌};
 use mm_value::{Few, Tuple};
 use std::marker::Model;
 
-/// Rows, one after another: the tuples of an INSERT, or the rows of a reply. An only one lies in the list itself.
+/// A list of rows: the tuples of an INSERT, or the rows of a reply. A single row is stored inline.
 #[derive(Debug, Drop)]
 pub struct RowList {
     rows: Few<Tuple>,
@@ -20,21 +20,21 @@ impl Model for RowList {
 }
 
 impl RowList {
-    /// The list of these rows, in their order. It takes no memory.
+    /// Returns the list of these rows in their order. Allocates nothing.
     pub fn new(rows: Few<Tuple>) -> RowList
         ensures { result ≡ rows }
     {
         RowList { rows }
     }
 
-    /// The rows, in their order.
+    /// Returns the rows in order.
     pub fn as_slice(&self) -> &[Tuple]
         ensures { result.now ≡ self.now }
     {
         self.rows.as_slice()
     }
 
-    /// The rows, each for the caller to keep. It takes no memory.
+    /// Returns the owned rows. Allocates nothing.
     pub fn into_rows(self) -> Few<Tuple>
         ensures { result ≡ self }
     {

@@ -1,4 +1,4 @@
-//! The tables of FROM, by which the names of a query are resolved: each is looked up once.
+//! The tables of FROM, by which the names of a query are resolved. Each name is looked up once.
 ghost use Rattle.std.specs.Prelude.{◌≡◌, ◌||◌, ◌∷◌, [], false, map, IfOk, OnOk};
 ghost use Rattle.std.specs.List.{list_any};
 ghost use Rattle.std.specs.Option.{option_map_or};
@@ -23,26 +23,27 @@ use mm_schema::{Catalog, Name, NameRef};
 use mm_value::{ColType, Few, Refusal};
 use std::alloc::{AllocError, Global};
 
-/// The most tables of FROM.
+/// The maximum number of tables in FROM.
 pub const MAX_FROM: usize = 4;
 
-/// The most fields, atoms and positions of ORDER.
+/// The maximum number of fields, of atoms, and of positions of ORDER.
 pub const MAX_PARTS: usize = 16;
 
-/// The tables of FROM, all of which are in the catalog, and their aliases.
+/// The tables of FROM with their aliases. All tables exist in the catalog.
 #[derive(Drop)]
 pub(crate) struct Scope<'a> {
     /// The catalog.
     pub catalog: &'a Catalog,
     /// The tables and their aliases.
     pub from: Few<FromItem>,
-    /// The places of the tables in the catalog's order of creation.
+    /// The positions of the tables in the catalog's order of creation.
     pub tables: ShortList<usize, 4>,
     ghost there: { list_any (λ (item : Item). lacks_table item.table catalog.now) from ≡ false },
     ghost places: { tables ≡ places_in catalog.now from },
 }
 
-/// The places of tables in the catalog's order of creation. `NoSuchTable` where one isn't there; `Memory` where memory is refused.
+/// Returns the positions of tables in the catalog's order of creation. Fails with `NoSuchTable` if a table does not exist, and with
+/// `Memory` if an allocation fails.
 fn find_tables(
     alloc: Global,
     catalog: &Catalog,
@@ -63,7 +64,8 @@ fn find_tables(
 }
 
 impl<'a> Scope<'a> {
-    /// The tables of FROM, each looked up in the catalog. `NoSuchTable` where one isn't there; `Memory` where memory is refused.
+    /// Looks up the tables of FROM in the catalog. Fails with `NoSuchTable` if a table does not exist, and with `Memory` if an allocation
+    /// fails.
     pub(crate) fn find(
         alloc: Global,
         catalog: &'a Catalog,
@@ -82,7 +84,7 @@ impl<'a> Scope<'a> {
         })
     }
 
-    /// The place of an alias in FROM, counted from 0. Where it stands twice it means the first.
+    /// Returns the position of an alias in FROM, counted from 0: the first one if it occurs twice.
     fn place_of(&self, alias: &NameRef<'_>) -> Option<usize>
         ensures { result ≡ alias_place self.now.from alias.now }
     {
@@ -92,7 +94,7 @@ impl<'a> Scope<'a> {
             .position(|item| *alias == item.alias.as_ref())
     }
 
-    /// What a field stands for. An alias or a column that is missing is noted.
+    /// Resolves a field. Records an error if its alias or its column does not exist.
     fn resolve(&self, field: &FieldName<NameRef<'_>>, faults: &mut Faults) -> Resolved<FieldPlace>
         ensures place { result.place ≡ placed_field self.now.catalog.now self.now.from field.now }
         ensures col_type { result.col_type ≡ field_type self.now.catalog.now self.now.from field.now }
@@ -120,7 +122,7 @@ impl<'a> Scope<'a> {
         }
     }
 
-    /// The places of fields, and what is wrong with them. `AllocError` where memory is refused.
+    /// Resolves fields, and records their errors. Fails with `AllocError` if an allocation fails.
     pub(crate) fn place_fields(
         &self,
         alloc: Global,
@@ -138,7 +140,7 @@ impl<'a> Scope<'a> {
         Ok(placed)
     }
 
-    /// An operand with a place for its field, beside a side of this type, and what is wrong with it.
+    /// Resolves the field of an operand, whose other side has the type `left`, and records its errors.
     fn place_operand(
         &self,
         operand: Operand<FieldName<NameRef<'_>>>,
@@ -171,7 +173,7 @@ impl<'a> Scope<'a> {
         }
     }
 
-    /// An atom with places for its fields, and what is wrong with it.
+    /// Resolves the fields of an atom, and records its errors.
     fn place_atom(
         &self,
         atom: Atom<FieldName<NameRef<'_>>>,
@@ -190,7 +192,7 @@ impl<'a> Scope<'a> {
         }
     }
 
-    /// Atoms with places for their fields, and what is wrong with them. `AllocError` where memory is refused.
+    /// Resolves the fields of atoms, and records their errors. Fails with `AllocError` if an allocation fails.
     pub(crate) fn place_atoms(
         &self,
         alloc: Global,
@@ -212,7 +214,8 @@ impl<'a> Scope<'a> {
     }
 }
 
-/// What is wrong with a query apart from its tables and fields: positions of ORDER, duplicate aliases and counts.
+/// Returns the errors of a query that do not depend on its tables and fields: positions of ORDER, duplicate aliases, and counts that exceed
+/// their limits.
 pub(crate) fn form_faults(query: &Query<'_>) -> Faults
     ensures { result ≡ record {
       column = list_any (lacks_position query.now.fields) query.now.order;
@@ -231,7 +234,7 @@ pub(crate) fn form_faults(query: &Query<'_>) -> Faults
     }
 }
 
-/// Whether some alias stands twice.
+/// Returns whether an alias occurs twice.
 fn has_duplicate_aliases(from: &[FromItem]) -> bool
     ensures { result ≡ has_duplicate_aliases from.now }
 {
@@ -243,14 +246,14 @@ fn has_duplicate_aliases(from: &[FromItem]) -> bool
     false
 }
 
-/// Whether some item has the alias.
+/// Returns whether any item has the alias.
 fn has_alias(from: &[FromItem], alias: &Name) -> bool
     ensures { result ≡ list_any (λ (item : Item). same_name alias.now item.alias) from.now }
 {
     from.iter().any(|item| *alias == item.alias)
 }
 
-/// Whether some position of ORDER is 0 or past the fields.
+/// Returns whether a position of ORDER is 0 or exceeds the number of fields.
 fn misses_position(query: &Query<'_>) -> bool
     ensures { result ≡ list_any (lacks_position query.now.fields) query.now.order }
 {
@@ -261,7 +264,7 @@ fn misses_position(query: &Query<'_>) -> bool
         .any(|position| *position == 0 || *position > count)
 }
 
-/// Whether a query has too many tables, fields, atoms or positions of ORDER.
+/// Returns whether a query has too many tables, fields, atoms or positions of ORDER.
 fn exceeds_limits(query: &Query<'_>) -> bool
     ensures { result ≡ exceeds_query_limits query.now }
 {

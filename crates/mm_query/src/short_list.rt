@@ -1,11 +1,11 @@
-//! Short lists, which take no block.
+//! Lists that store their first items inline.
 ghost use Rattle.std.specs.Prelude.{◌≡◌, ◌++◌, ◌∷◌, ◌<◌, [], IfOk, OnErr, OnOk, length, slice_set};
 
 use smallvec::SmallVec;
 use std::alloc::{AllocError, Global};
 use std::marker::Model;
 
-/// Items, one after another, of which up to `N` lie in the value itself: the fields of a query, or the tests of a change.
+/// A list that stores up to `N` items inline: the fields of a query, or the tests of a change.
 #[derive(Debug, Drop)]
 pub struct ShortList<T: Default + Drop, const N: usize> {
     items: SmallVec<T, N>,
@@ -20,7 +20,8 @@ impl<T: Default + Drop, const N: usize> Model for ShortList<T, N> {
 }
 
 impl<T: Default + Drop, const N: usize> ShortList<T, N> {
-    /// No items, and room for so many. `AllocError` where memory is refused for more than `N`.
+    /// Returns an empty list with capacity for `count` items. Allocates only if `count` exceeds `N`. Fails with `AllocError` if the
+    /// allocation fails.
     pub fn with_capacity(alloc: Global, count: usize) -> Result<ShortList<T, N>, AllocError>
         ensures { IfOk result (λ list. list ≡ []) }
     {
@@ -28,7 +29,7 @@ impl<T: Default + Drop, const N: usize> ShortList<T, N> {
         Ok(ShortList { items })
     }
 
-    /// The list of these items, in their order. It takes no memory.
+    /// Returns the list of these items in their order. Allocates nothing.
     pub fn from_vec(items: Vec<T>) -> ShortList<T, N>
         ensures { result ≡ items.items }
     {
@@ -37,7 +38,7 @@ impl<T: Default + Drop, const N: usize> ShortList<T, N> {
         }
     }
 
-    /// Puts an item behind the others. `AllocError` where memory is refused, and then the list is as before.
+    /// Appends an item. Fails with `AllocError` if an allocation fails; the list is then unchanged.
     pub fn push(&mut self, item: T) -> Result<(), AllocError>
         ensures ok { OnOk result (self.new ≡ self.old ++ item ∷ []) }
         ensures err { OnErr result (self.new ≡ self.old) }
@@ -48,14 +49,14 @@ impl<T: Default + Drop, const N: usize> ShortList<T, N> {
         }
     }
 
-    /// The items, in their order.
+    /// Returns the items in order.
     pub fn as_slice(&self) -> &[T]
         ensures { result.now ≡ self.now }
     {
         self.items.as_slice()
     }
 
-    /// Puts an item in place of the one at a place, counted from 0.
+    /// Replaces the item at an index, counted from 0.
     pub fn set(&mut self, i: usize, item: T)
         requires { i < length self.old }
         ensures { self.new ≡ slice_set self.old i item }

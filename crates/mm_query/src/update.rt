@@ -1,4 +1,4 @@
-//! What an UPDATE makes of a row.
+//! Computation of the new row of an UPDATE.
 ghost use Rattle.std.specs.Prelude.{◌≡◌, ◌==◌, ◌+ℤ◌, ◌∷◌, ℕ, [], find, length, map, All, IfOk};
 ghost use Rattle.std.specs.Option.{option_copied};
 ghost use Rattle.mm_schema.specs.Refused.{AnswersDue, first_refusal};
@@ -11,7 +11,7 @@ use crate::atom::{Assignment, Operand};
 use mm_value::{AsRow, Refusal, Row, Value, ValueRef};
 use std::alloc::Global;
 
-/// The sum of two numbers. `ArithmeticOutOfRange` where it is past the range of whole numbers.
+/// Returns the sum of two numbers. Fails with `ArithmeticOutOfRange` if the sum does not fit into 64 bits.
 fn sum_in_range(number: i64, shift: i64) -> Result<i64, Refusal>
     ensures due { AnswersDue (first_refusal (range_conditions (Int (number +ℤ shift) ∷ []))) result }
     ensures ok { IfOk result (λ sum. sum ≡ number +ℤ shift) }
@@ -22,8 +22,8 @@ fn sum_in_range(number: i64, shift: i64) -> Result<i64, Refusal>
 }
 
 impl Operand<usize> {
-    /// Its value for a row, in memory of its own. `ArithmeticOutOfRange` where it is past the range of whole numbers; else
-    /// `Memory` where memory is refused.
+    /// Returns a copy of the operand's value for a row. Fails with `ArithmeticOutOfRange` if the value does not fit into 64 bits, and with
+    /// `Memory` if an allocation fails.
     fn value_for<R: AsRow>(&self, alloc: Global, row: &R) -> Result<Value, Refusal>
         requires { IsWithin (length (R.AsRow.row row.now)) self.now }
         ensures due { AnswersDue (first_refusal (range_conditions (value_for (R.AsRow.row row.now) self.now ∷ []))) result }
@@ -40,7 +40,7 @@ impl Operand<usize> {
     }
 }
 
-/// The first assignment to a column.
+/// Returns the first assignment to a column.
 fn assignment_to(assignments: &[Assignment<usize>], column: usize) -> Option<&Assignment<usize>>
     ensures { option_copied result ≡ find (λ (a : Assigned ℕ). a.column == column) assignments.now }
 {
@@ -49,7 +49,7 @@ fn assignment_to(assignments: &[Assignment<usize>], column: usize) -> Option<&As
         .find(|assignment| assignment.column == column)
 }
 
-/// The new value of a column, which had this one.
+/// Returns the new value of a column whose value was `old`. Fails as [`updated_row`] does.
 fn updated_value<R: AsRow>(
     alloc: Global,
     row: &R,
@@ -67,8 +67,8 @@ fn updated_value<R: AsRow>(
     }
 }
 
-/// The row that assignments make of a row; each value is computed from the old row alone. `ArithmeticOutOfRange` where some
-/// value is past the range of whole numbers; `Memory` where memory is refused.
+/// Returns the row that results from assignments to a row. Each value is computed from the old row alone. Fails with `ArithmeticOutOfRange`
+/// if a value does not fit into 64 bits, and with `Memory` if an allocation fails.
 pub fn updated_row<R: AsRow>(
     alloc: Global,
     row: &R,

@@ -1,4 +1,4 @@
--- Combinations with a row that has a cycle add nothing.
+-- Combinations with a cyclic row contribute nothing.
 use Rattle.std.proofs.Common.{◌≡◌, ℕ, suc, zero, ◌<◌, Bool, false, cond, ◌||◌, ◌⊎◌, inl, inr, List, [], ◌∷◌, ◌++◌, Option, Some, None, get_or, length, map}
 use Rattle.std.proofs.Common.{refl, sym, ap, subst, ◌∙◌, arith}
 use Rattle.std.specs.Prelude.{filter, slice_get}
@@ -43,7 +43,7 @@ all_so P Q f (x ∷ xs) h = (f x h.0, all_so P Q f xs h.1)
 
 -- ---- A combination has a row of each list
 
--- The combination has as many rows as there are lists, and each of them is one of the list at its place.
+-- The combination has a row of each list, in order.
 record IsPicked (lists : List Rows) (picked : Rows) : Type 0 where
   pub whole : length picked ≡ length lists
   pub each : (j : ℕ) (r : Row) → slice_get picked j ≡ Some r → Among (get_or lists j []) r

@@ -1,4 +1,4 @@
--- Values that are at most other values plus a number.
+-- Values that are at most another value plus a number.
 use Rattle.std.proofs.Common.{◌≡◌, Bool, true, false, ℤ, pos, ◌+ℤ◌, ◌-ℤ◌, List, ℕ, refl, sym, ap, ◌∙◌, arith}
 use Rattle.std.specs.Prelude.{◌<ℤ◌, ◌≤ℤ◌, int_lt}
 use Rattle.std.specs.Cmp.{alike_right, int_ranks, tied_itself, upto}
@@ -31,7 +31,7 @@ less_then x y z Greater is h k = absurd (let b : ⊥ = cc in b)
 
 -- ---- Values
 
--- The first is at most the second plus a number. Of texts it comes before it where the number is below zero.
+-- The first value is at most the second plus a number. For texts, the first is less if the number is negative.
 abbrev pub UpTo : Value → Value → ℤ → Type 0
 UpTo (Int a) (Int b) c = a ≤ℤ (b +ℤ c)
 UpTo (Int a) (Text b) c = Unit {0}
@@ -60,14 +60,14 @@ up_to_on (Text x) (Int y) z c d h k = absurd h
 up_to_on (Text x) (Text y) (Int z) c d h k = absurd k
 up_to_on (Text x) (Text y) (Text z) c d h k = (upto nat_list_cmp_total x y z h.0 k.0, texts_on x y z c d h k)
 
--- No value is at most itself less something.
+-- No value is at most itself plus a negative number.
 pub never_below_itself : (v : Value) (c : ℤ) → UpTo v v c → c <ℤ pos 0 → ⊥
 never_below_itself (Int a) c h below = omega (arith, ints, h, below)
 never_below_itself (Text a) c h below = (let e : Equal ≡ Less = sym (tied_itself nat_list_cmp_total a) ∙ h.1 below in let b : ⊥ = cc in b)
 
--- ---- What comparisons say
+-- ---- Meanings of comparisons
 
--- A number may be added to a text only where it is zero.
+-- A number may be added to a text only if it is 0.
 abbrev pub IsPlain : Value → ℤ → Type 0
 IsPlain (Int a) by = Unit {0}
 IsPlain (Text a) by = by ≡ pos 0

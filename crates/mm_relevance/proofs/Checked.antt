@@ -20,7 +20,7 @@ drop_past (x ∷ xs) zero h = absurd (omega arith)
 drop_past (x ∷ xs) (suc i) h = drop_past xs i (omega arith)
 
 module _ (query : BoundQuery) (place : ℕ) (row : List Value) where
-  -- What is followed is a path ..
+  -- The names that can be followed are a walk.
   abbrev pub IsFollowed : List CycleEdge → Reached → Reached → Type 0
   IsFollowed cycle from to =
       (es : List Edge) × (map (edge_at query place row) cycle ≡ map Some es) × IsWalk from.at es to.at × (to.sum ≡ from.sum +ℤ total es)
@@ -56,7 +56,7 @@ module _ (query : BoundQuery) (place : ℕ) (row : List Value) where
       go ih None is h = absurd (let b : ⊥ = cc in b)
       go ih (Some e) is h = more ih e (follow_edge from (Some e)) is refl h
 
-  -- .. and a path is followed.
+  -- A walk can be followed.
   pub follow_complete : (cycle : List CycleEdge) (es : List Edge) (from : Reached) (q : Point) → map (edge_at query place row) cycle ≡ map Some es
       → IsWalk from.at es q
       → (to : Reached) × (follow query place row from cycle ≡ Some to) × (to.at ≡ q) × (to.sum ≡ from.sum +ℤ total es)
@@ -109,7 +109,7 @@ module _ (query : BoundQuery) (place : ℕ) (row : List Value) where
           let same : e ≡ x = cc in
           ap (λ (y : Edge). y.left) same ∙ path.0
 
-  -- The first edge is there.
+  -- If the first edge does not exist, nothing is accepted.
   pub none_accepted : (cycle : List CycleEdge) (d n : CycleEdge) → 1 ≤ length cycle → n ≡ get_or cycle 0 d → edge_at query place row n ≡ None
       → IsNegativeCycle query place row cycle → ⊥
   none_accepted [] d n some is h c = omega arith
@@ -122,7 +122,7 @@ module _ (query : BoundQuery) (place : ℕ) (row : List Value) where
           let one : None ≡ Some x = sym h ∙ ap (edge_at query place row) is ∙ head in
           (let b : ⊥ = cc in b)
 
-  -- Where nothing is followed, nothing is accepted ..
+  -- If the names cannot be followed, nothing is accepted.
   pub lost : (cycle : List CycleEdge) (d n : CycleEdge) (e : Edge) (from : Reached) → 1 ≤ length cycle → n ≡ get_or cycle 0 d → edge_at query place row n
       ≡ Some e → from ≡ record { at = e.left; sum = pos 0 }
       → follow query place row from cycle ≡ None → IsNegativeCycle query place row cycle → ⊥
@@ -132,7 +132,7 @@ module _ (query : BoundQuery) (place : ℕ) (row : List Value) where
       let b : None ≡ Some all.0 = sym none ∙ all.1 in
       (let bad : ⊥ = cc in bad)
 
-  -- .. and else the cycle is accepted where it closes.
+  -- Otherwise the cycle is accepted exactly if it closes.
   pub closed : (cycle : List CycleEdge) (d n : CycleEdge) (e : Edge) (from to : Reached) → 1 ≤ length cycle → length cycle ≤ 32 → n ≡ get_or cycle 0 d
       → edge_at query place row n ≡ Some e
       → from ≡ record { at = e.left; sum = pos 0 } → follow query place row from cycle ≡ Some to

@@ -58,7 +58,7 @@ reach_among f (e ∷ es) r (suc k) h is =
     let more = reach_among f es r k (omega arith) is in
     ((suc more.0.0, (let l = more.0.1 in omega arith), more.0.2), more.1)
 
--- What is owed where at most m edges are left.
+-- The sum that remains where at most m edges are left.
 abbrev IsOwed : List Edge → Point → ℕ → Point → Option ℤ → Type 0
 IsOwed es target m at owed =
     (rest es target m at ≡ owed) ⊎ ((k : ℕ) × (m ≡ suc k) × (least at None (reaches_of es target k) ≡ owed))

@@ -1,4 +1,4 @@
--- Atoms on whole numbers say what their edges say.
+-- An atom on integers is true exactly if its edges are.
 use Rattle.std.proofs.Common.{◌≡◌, ℕ, ◌<◌, ◌≤◌, Bool, true, false, cond, ◌==◌, ℤ, pos, ◌+ℤ◌, List, Option, Some, None, IfSome, length, map, refl, sym, ap}
 use Rattle.std.proofs.Common.{subst, ◌∙◌, ◌⊎◌, inl, inr, arith}
 use Rattle.std.specs.Prelude.{◌<ℤ◌, ◌≤ℤ◌, ◌↔◌, nat_lt, slice_get}
@@ -88,7 +88,7 @@ module _ (rows : List (List Value)) (name : Bool → CycleEdge) (a b : Term) (x 
   said Greater h = let high = h true in gt_by x y (int_cmp x y) (int_ranks x y) (omega (arith, ints, high, left, right))
   said GreaterOrEqual h = let high = h true in ge_by x y (int_cmp x y) (int_ranks x y) (omega (arith, ints, high, left, right))
 
--- ---- Where a side has a whole number there is a term
+-- ---- A side with an integer has a term
 
 int_is : (v : Value) (x : ℤ) → v ≡ Int x → number_of v ≡ x
 int_is v x h = ap number_of h

@@ -1,4 +1,4 @@
--- What was found is a cycle, and where neither was found there is none.
+-- A result is a cycle, and without a result there is none.
 use Rattle.std.proofs.Common.{ℕ, inl, inr, List, Option, Some, None, MatchOption}
 use Rattle.mm_value.specs.declared.values.Value.{Value}
 use Rattle.mm_query.specs.declared.bound_query.BoundQuery.{BoundQuery}

@@ -1,4 +1,4 @@
--- Numbers of which all edges are true leave no closed walk a negative sum.
+-- If all edges are true for some numbers, no closed walk has a negative sum.
 use Rattle.std.proofs.Common.{List, [], ◌∷◌, ℤ, pos, ◌+ℤ◌, ap, subst, arith}
 use Rattle.std.specs.Prelude.{◌≤ℤ◌}
 use Rattle.std.specs.List.{All, AllByRecursion, Contains}
@@ -13,7 +13,7 @@ module _ (es : List Edge) (numbers : Point → ℤ) (all : All (IsMet numbers) e
   met : (e : Edge) → Contains es e → IsMet numbers e
   met e c = subst (IsMet numbers) c.2 (all c.0 e c.1)
 
-  -- Along edges that are met the numbers grow by no more than the costs.
+  -- Along true edges the numbers grow by at most the costs.
   along : (walk : List Edge) (p q : Point) → AllByRecursion (Contains es) walk → IsWalk p walk q → numbers p ≤ℤ (numbers q +ℤ total walk)
   along [] p q among path = let same = ap numbers path in omega (arith, ints, same)
   along (e ∷ walk) p q among path =
@@ -28,6 +28,6 @@ module _ (es : List Edge) (numbers : Point → ℤ) (all : All (IsMet numbers) e
       let negative = c.negative in
       omega (arith, ints, high, negative)
 
--- Where no edge adds less than zero, each is met where every number is 0.
+-- If no edge has a negative cost, every edge is true for the numbers 0.
 pub no_walk_below : (es : List Edge) → All (λ e. pos 0 ≤ℤ e.cost) es → (walk : List Edge) → IsNegativeWalk es walk → ⊥
 no_walk_below es none = no_walk_met es (λ p. pos 0) (λ k d inside. let h = none k d inside in omega (arith, ints, h))

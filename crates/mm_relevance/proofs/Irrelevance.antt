@@ -1,4 +1,4 @@
--- A row with a cycle is irrelevant.
+-- A row with an accepted cycle is irrelevant.
 use Rattle.std.proofs.Common.{◌≡◌, ℕ, suc, zero, ◌<◌, Bool, true, false, cond, ◌&&◌, ◌==◌, not, inl, inr, ℤ, pos, ◌+ℤ◌, ◌-ℤ◌, List, [], ◌∷◌, Option}
 use Rattle.std.proofs.Common.{Some, None, get_or, length, map, refl, sym, ap, subst, ◌∙◌, arith}
 use Rattle.std.specs.Prelude.{nat_lt, slice_get}
@@ -55,7 +55,7 @@ any_get p [] i a h k = absurd (let b : ⊥ = cc in b)
 any_get p (x ∷ atoms) zero a h k = let same : x ≡ a = cc in ap p (sym same) ∙ (neither (p x) (list_any p atoms) h).0
 any_get p (x ∷ atoms) (suc i) a h k = any_get p atoms i a (neither (p x) (list_any p atoms) h).1 k
 
--- ---- What terms stand for
+-- ---- The values of terms
 
 module _ (rows : List (List Value)) where
   abbrev pub point_value : Point → Value
@@ -65,7 +65,7 @@ module _ (rows : List (List Value)) where
   abbrev term_value : Term → Value
   term_value term = shifted term.offset (point_value term.point)
 
-  -- The term has this value, and a text is not moved.
+  -- The term has this value, and no number is added to a text.
   abbrev StandsFor : Option Value → Term → Type 0
   StandsFor value term = (value ≡ Some (term_value term)) × IsPlain (point_value term.point) term.offset
 
@@ -137,7 +137,7 @@ module _ (rows : List (List Value)) where
     operand_stands (Column f) t plain h = field_stands f t h
     operand_stands (Shifted f by) t plain h = moved_stands f by t (field_term query place row f) refl plain h
 
-    -- ---- What edges say
+    -- ---- The meaning of edges
 
     abbrev Says : Edge → Type 0
     Says e = UpTo (point_value e.left) (point_value e.right) e.cost

@@ -56,7 +56,7 @@ module _ (query : BoundQuery) (place : ℕ) (row : List Value) where
   name_edge : (a : Atom FieldPlace) (name : CycleEdge) (e : Edge) → edge_of query place row name a ≡ Some e → e.name ≡ name
   name_edge a name e h = name_between a.comparison name (field_term query place row a.left) (operand_term query place row a.right) e h
 
-  -- An edge of the atoms, of which the first is numbered i.
+  -- An edge of the atoms, where the first has the number i.
   abbrev IsThere : ℕ → List (Atom FieldPlace) → Edge → Type 0
   IsThere i atoms e = (j : ℕ) × (e.name.conjunct ≡ i + j) × (edge_of_some (slice_get atoms j) e.name ≡ Some e)
 
@@ -91,7 +91,7 @@ module _ (query : BoundQuery) (place : ℕ) (row : List Value) where
       (all_option _ (edge_of query place row (name_of i true) a) (there_here i true a atoms)))
       (all_map (IsThere (i + 1) atoms) (IsThere i (a ∷ atoms)) (there_later i a atoms) (edges_from query place row (i + 1) atoms) (all_there (i + 1) atoms))
 
-  -- Each edge is that of its name ..
+  -- Each edge is the edge of its name.
   abbrev IsNamed : Edge → Type 0
   IsNamed e = edge_at query place row e.name ≡ Some e
 
@@ -166,14 +166,14 @@ module _ (query : BoundQuery) (place : ℕ) (row : List Value) where
       (among_from (i + 1) j upper atoms e (ap (λ k. edge_of_some (slice_get atoms j) (name_of k upper)) (let z : (i + 1) + j ≡ i + suc j = omega arith in z)
       ∙ h))
 
-  -- .. and each name's edge is there.
+  -- The edge of each name is among the edges.
   contains_named : (name : CycleEdge) (e : Edge) → edge_at query place row name ≡ Some e → Contains (edges query place row) e
   contains_named name e h =
       among_contains (edges query place row) e
       (among_from 0 name.conjunct name.upper query.atoms e (ap (λ k. edge_of_some (slice_get query.atoms name.conjunct) (name_of k name.upper))
       (let z : 0 + name.conjunct ≡ name.conjunct = omega arith in z) ∙ h))
 
-  -- ---- What is found is a cycle, and a cycle would be found
+  -- ---- A result is a cycle, and every cycle has a result
 
   names_at : (walk : List Edge) → AllByRecursion IsNamed walk → map (edge_at query place row) (map (λ e. e.name) walk) ≡ map Some walk
   names_at [] h = refl

@@ -1,4 +1,4 @@
--- The least sums of paths.
+-- The least sums of walks.
 use Rattle.std.proofs.Common.{◌≡◌, ℕ, suc, zero, ◌+◌, ◌*◌, ◌^◌, ◌<◌, ◌≤◌, Bool, true, false, cond, ℤ, pos, ◌+ℤ◌, List, [], ◌∷◌, Option, Some, None, map}
 use Rattle.std.proofs.Common.{length, get_or, refl, sym, ap, subst, ◌∙◌, arith}
 use Rattle.std.specs.Prelude.{int_lt, ◌<ℤ◌, ◌≤ℤ◌}
@@ -18,7 +18,7 @@ abbrev pub AtMostBy : Option ℤ → ℤ → Type 0
 AtMostBy None v = ⊥
 AtMostBy (Some u) v = u ≤ℤ v
 
--- ---- From above: no sum of a path is less
+-- ---- From above: no sum of a walk is less
 
 pick_keeps : (c : Bool) (a b v : ℤ) → (c ≡ true → b <ℤ a) → a ≤ℤ v → AtMostBy (cond c (Some b) (Some a)) v
 pick_keeps true a b v h k = let l = h refl in omega (arith, ints)
@@ -80,7 +80,7 @@ module _ (es : List Edge) (target : Point) where
   rest_there zero p h = subst (λ c. AtMostBy (cond c (Some (pos 0)) None) (pos 0)) (sym (point_eq_is p target h)) (omega (arith, ints))
   rest_there (suc n) p h = fold_keeps p (reaches_of es target n) (rest es target n p) (pos 0) (rest_there n p h)
 
-  -- No path of at most n edges has a lesser sum.
+  -- No walk of at most n edges has a lesser sum.
   pub path_bound : (path : List Edge) (n : ℕ) (p : Point) → IsWalk p path target → AllByRecursion (Contains es) path → length path ≤ n
       → AtMostBy (rest es target n p) (total path)
   path_bound [] n p h all few = rest_there n p h
@@ -89,7 +89,7 @@ module _ (es : List Edge) (target : Point) where
       fold_takes p (rest es target n) es (rest es target n p) e all.0.0 all.0.1 all.0.2 h.0 (total path)
       (path_bound path n e.right h.1 all.1 (omega arith))
 
-  -- A closed path has a sum that is at most the least from its first point.
+  -- A closed walk has a sum that is at least the least sum from its first point.
   pub cycle_bound : (cycle : List Edge) (n : ℕ) → IsWalk target cycle target → AllByRecursion (Contains es) cycle → 1 ≤ length cycle → length cycle ≤ suc n
       → AtMostBy (least target None (reaches_of es target n)) (total cycle)
   cycle_bound [] n h all some few = absurd (omega arith)
@@ -102,7 +102,7 @@ module _ (es : List Edge) (target : Point) where
   pub stepped_reaches : (n : ℕ) → stepped (reaches_of es target n) ≡ reaches_of es target (suc n)
   stepped_reaches n = map-map (stepped_one (reaches_of es target n)) (reach_of (rest es target n)) es
 
-  -- Where a step changes nothing, no further one does.
+  -- If a step changes nothing, no further step does.
   pub stays : (n : ℕ) → stepped (reaches_of es target n) ≡ reaches_of es target n → (d m : ℕ) → m ≡ n + d → reaches_of es target m ≡ reaches_of es target n
   stays n h zero m e = ap (reaches_of es target) (let k : m ≡ n = omega arith in k)
   stays n h (suc d) zero e = absurd (omega arith)
@@ -159,7 +159,7 @@ reaches_fit es target n le near =
     All-from_recursion IsFit (reaches_of es target n)
     (fit_all (rest es target n) (λ p. small_sum n (rest es target n p) le (rest_within es target by n p)) es by)
 
--- ---- What is least is taken over an edge
+-- ---- The least sum is the sum over an edge
 
 by_attained : (at : Point) (best : Option ℤ) (r : Reach) (v : ℤ) (c : Bool) (s : Option ℤ) → (c ≡ true → r.edge.left ≡ at) → r.sum ≡ s
     → cond c (better_by best r.edge.cost s) best ≡ Some v → (Takes at (Some v) r → ⊥) → best ≡ Some v

@@ -1,4 +1,4 @@
--- A closed walk of negative sum, begun at an edge of negative cost.
+-- A closed walk with a negative sum, from an edge with a negative cost on.
 use Rattle.std.proofs.Common.{◌≡◌, ℕ, suc, zero, ◌+◌, ◌<◌, ◌≤◌, Bool, true, false, ◌⊎◌, inl, inr, List, [], ◌∷◌, ◌++◌, ℤ, pos, ◌+ℤ◌, Option, Some, None}
 use Rattle.std.proofs.Common.{length, length-append, get_or, ◌&&◌, ◌||◌, take, refl, sym, ap, subst, ◌∙◌, arith}
 use Rattle.std.specs.Prelude.{◌<ℤ◌, ◌≤ℤ◌, int_lt}
@@ -62,7 +62,7 @@ negative_by : (o : Option ℤ) (v : ℤ) → AtMostBy o v → v <ℤ pos 0 → I
 negative_by None v h k = h
 negative_by (Some u) v h k = omega (arith, ints)
 
--- Whether a closed walk of negative sum goes from the left point of an edge.
+-- A closed walk with a negative sum starts at the left point of the edge.
 abbrev pub Begins : List Edge → Edge → Type 0
 Begins es e = IsNegative (least e.left None (reaches_of es e.left 31))
 
@@ -103,7 +103,7 @@ get_or_any [] i d f h = absurd (omega arith)
 get_or_any (x ∷ xs) zero d f h = refl
 get_or_any (x ∷ xs) (suc i) d f h = get_or_any xs i d f (omega arith)
 
--- An edge of negative cost, from the left point of which a negative walk goes.
+-- An edge with a negative cost, at whose left point a negative walk starts.
 abbrev pub Starts : List Edge → Edge → Type 0
 Starts es e = (e.cost <ℤ pos 0) × Begins es e
 
@@ -133,7 +133,7 @@ skipped es i inside none before k f h p = go (cases_lt k i)
         let e : k ≡ i = omega arith in
         no (none f) (subst (Starts es) (ap (λ j. get_or es j f) e) p)
 
--- ---- Which edges start no search
+-- ---- Edges at which no search starts
 
 any_before : (test : Edge → Bool) (es : List Edge) (i : ℕ) (d : Edge) → list_any test (take i es) ≡ true → (k : ℕ) × (k < i) × (test (get_or es k d) ≡ true)
 any_before test [] zero d h = absurd (let b : ⊥ = cc in b)

@@ -1,4 +1,4 @@
--- The steps of the search for a negative cycle, and of the check of one.
+-- The steps of the search for a negative cycle, and of its check.
 use Rattle.std.specs.Prelude.{◌≡◌, ◌⊎◌, ◌<◌, get_or, ℕ, suc, zero, ◌+◌, ◌*◌, ◌%◌, ◌^◌, ◌≤◌, ◌==◌, ◌&&◌, Bool, true, false, not, ℤ, pos, int_lt, ◌+ℤ◌, ◌≤ℤ◌}
 use Rattle.std.specs.Prelude.{◌<ℤ◌, if◌then◌else◌, List, [], ◌∷◌, ◌++◌, Option, Some, None, length, map}
 use Rattle.std.specs.List.{All, Contains, fold}
@@ -20,7 +20,7 @@ use Rattle.mm_relevance.specs.declared.term.Term.{Term}
 use Rattle.mm_relevance.specs.declared.term.Point.{Point}
 use Rattle.mm_relevance.specs.declared.term.Point.TheVariants.{Zero, Column as At}
 
--- Two points are one.
+-- Two points are equal.
 abbrev pub point_eq : Point → Point → Bool
 point_eq Zero Zero = true
 point_eq Zero (At g) = false
@@ -29,20 +29,20 @@ point_eq (At f) (At g) = (f.place == g.place) && (f.column == g.column)
 
 -- ---- ranges
 
--- A number is at most so far from zero.
+-- The number is at most this far from zero.
 abbrev pub IsWithin : ℕ → ℤ → Type 0
 IsWithin bound v = (v ≤ℤ pos bound) × (pos 0 ≤ℤ (v +ℤ pos bound))
 
--- The offset of a term.
+-- The offset of the term is in range.
 abbrev pub IsNearTerm : ℕ → Option Term → Type 0
 IsNearTerm bound None = Unit {0}
 IsNearTerm bound (Some term) = IsWithin bound term.offset
 
--- The cost of an edge.
+-- The cost of the edge is in range.
 abbrev pub IsNear : Edge → Type 0
 IsNear e = IsWithin (2 ^ 66) e.cost
 
--- A sum of a few costs.
+-- The sum of a few costs is in range.
 abbrev pub IsSmall : ℤ → Type 0
 IsSmall v = IsWithin (2 ^ 72) v
 
@@ -52,13 +52,13 @@ IsSmallSum (Some v) = IsSmall v
 
 -- ---- texts
 
--- The text, where a value is there and is one.
+-- The text, if the value exists and is one.
 abbrev pub text_of : Option Value → Option (List ℕ)
 text_of (Some (Text text)) = Some text
 text_of (Some (Int number)) = None
 text_of None = None
 
--- Both texts are there, and they don't stand in the relation.
+-- Both texts exist, and the comparison is false for them.
 abbrev pub fails_of : Comparison → Option (List ℕ) → Option (List ℕ) → Bool
 fails_of comparison (Some a) (Some b) = not (stands comparison (slice_cmp nat_cmp a b))
 fails_of comparison (Some a) None = false
@@ -66,7 +66,7 @@ fails_of comparison None b = false
 
 -- ---- all edges
 
--- An edge, if it is there, as a list.
+-- The edge, if there is one, as a list.
 abbrev pub option_list : Option Edge → List Edge
 option_list None = []
 option_list (Some e) = e ∷ []
@@ -74,7 +74,7 @@ option_list (Some e) = e ∷ []
 abbrev pub name_of : ℕ → Bool → CycleEdge
 name_of conjunct upper = record { conjunct = conjunct; upper = upper }
 
--- The edges of atoms of which the first is numbered i.
+-- The edges of atoms, where the first has the number i.
 abbrev pub edges_from : BoundQuery → ℕ → List Value → ℕ → List (Atom FieldPlace) → List Edge
 edges_from query place row i [] = []
 edges_from query place row i (a ∷ atoms) =
@@ -96,7 +96,7 @@ abbrev pub better_by : Option ℤ → ℤ → Option ℤ → Option ℤ
 better_by best cost None = best
 better_by best cost (Some sum) = lesser best (cost +ℤ sum)
 
--- The lesser of a sum and that over an edge from a point.
+-- The lesser of a sum and the sum over an edge from a point.
 abbrev pub better : Point → Option ℤ → Reach → Option ℤ
 better at best reach = if point_eq reach.edge.left at then better_by best reach.edge.cost reach.sum else best
 
@@ -125,19 +125,19 @@ abbrev pub IsNegative : Option ℤ → Type 0
 IsNegative None = ⊥
 IsNegative (Some v) = v <ℤ pos 0
 
--- What a reach adds up is in range.
+-- The cost and the sum are in range.
 pub record IsFit (r : Reach) : Type 0 where
   pub cost : IsNear r.edge
   pub sum : IsSmallSum r.sum
 
--- The edge leads on from a point with what is owed there.
+-- The edge starts at the point, and its cost plus the sum after it is the given sum.
 pub record Takes (at : Point) (owed : Option ℤ) (r : Reach) : Type 0 where
   pub left : r.edge.left ≡ at
   pub after : ℤ
   pub reached : r.sum ≡ Some after
   pub sums : owed ≡ Some (r.edge.cost +ℤ after)
 
--- A closed walk over some edges that has a negative sum.
+-- A closed walk over these edges with a negative sum, of at most 32 edges.
 pub record IsNegativeWalk (edges : List Edge) (walk : List Edge) : Type 0 where
   pub point : Point
   pub closed : IsWalk point walk point
@@ -146,7 +146,7 @@ pub record IsNegativeWalk (edges : List Edge) (walk : List Edge) : Type 0 where
   pub few : length walk ≤ 32
   pub negative : total walk <ℤ pos 0
 
--- An edge has no negative cost, or one before it has a negative cost and the same left point.
+-- The edge has no negative cost, or an earlier one has a negative cost and the same left point.
 abbrev pub IsNoStart : List Edge → ℕ → Type 0
 IsNoStart edges i =
     (d : Edge) → (pos 0 ≤ℤ (get_or edges i d).cost)
@@ -154,16 +154,16 @@ IsNoStart edges i =
 
 -- ---- numbers for the points
 
--- The place of a point's number: the first for zero, and one for each of 16 columns of each of 4 rows.
+-- The slot of a point's number: the first for zero, and one for each of 16 columns of each of 4 rows.
 abbrev pub slot : Point → ℕ
 slot Zero = 0
 slot (At field) = 1 + field.place % 4 * 16 + field.column % 16
 
--- The number of a point, among those that lie at the places.
+-- The number in the slot of a point.
 abbrev pub number_in : List ℤ → Point → ℤ
 number_in numbers point = get_or numbers (slot point) (pos 0)
 
--- An edge is true of numbers of the points.
+-- The edge is true for numbers of the points.
 abbrev pub IsMet : (Point → ℤ) → Edge → Type 0
 IsMet numbers e = numbers e.left ≤ℤ (numbers e.right +ℤ e.cost)
 

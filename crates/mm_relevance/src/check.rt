@@ -1,4 +1,4 @@
-//! The check of a cycle.
+//! Checking cycles.
 ghost use Rattle.std.specs.Prelude.{◌≡◌, ◌-ℤ◌, ◌<ℤ◌, pos, ◌^◌, IsTrue, ◌↔◌, IfSome};
 ghost use Rattle.mm_relevance.specs.Relevance.{IsAccepted, IsFalseOnTexts, IsNegativeCycle, edge_at};
 ghost use Rattle.mm_relevance.specs.Walks.{IsSmall, IsWithin, follow_edge};
@@ -10,17 +10,17 @@ use crate::texts::fails_on_texts;
 use mm_query::BoundQuery;
 use mm_value::AsRow;
 
-/// The most edges of a cycle.
+/// The maximum number of edges of a cycle.
 pub(crate) const MAX_EDGES: usize = 32;
 
-/// Where a walk has come, and the sum so far.
+/// A point that a walk has reached, and the sum of its costs so far.
 #[derive(Clone, Copy)]
 struct Reached {
     at: Point,
     sum: i128,
 }
 
-/// Where one more edge leads, if it is there and begins where the walk has come.
+/// Returns the point and the sum after one more edge, or `None` if the edge does not exist or does not start where the walk is.
 fn advance<R: AsRow>(
     query: &BoundQuery,
     place: usize,
@@ -47,14 +47,15 @@ fn advance<R: AsRow>(
     }
 }
 
-/// Whether a walk has come back to where it began with a negative sum.
+/// Returns whether a walk has returned to its start with a negative sum.
 fn closes(start: Point, end: Reached) -> bool
     ensures { IsTrue result ↔ (end.at ≡ start) × (end.sum <ℤ pos 0) }
 {
     same_point(end.at, start) && end.sum < 0
 }
 
-/// Whether the edges are there, lead on from one another and back, and have a negative sum.
+/// Returns whether the edges exist, each starts where the previous one ends, the last one returns to the first, and the sum of their costs
+/// is negative.
 pub(crate) fn is_negative_cycle<R: AsRow>(
     query: &BoundQuery,
     place: usize,
@@ -83,7 +84,7 @@ pub(crate) fn is_negative_cycle<R: AsRow>(
     closes(first.left, now)
 }
 
-/// Whether it is the lower edge of an atom that is false of known texts.
+/// Returns whether the list is the one lower edge of an atom that is false for known texts.
 fn is_false_on_texts<R: AsRow>(
     query: &BoundQuery,
     place: usize,
@@ -101,9 +102,9 @@ fn is_false_on_texts<R: AsRow>(
     }
 }
 
-/// Whether a cycle shows that no combination with this row at this place of FROM fits the query: its inequalities are there,
-/// each leads on from the one before it and the last one back to the first, they are at most 32, and the sum of what they add is
-/// negative; or it is the one lower edge of an atom that is false of known texts. It takes no memory.
+/// Returns whether a cycle is accepted, so that no combination with this row at this position of FROM fits the query. An accepted cycle has
+/// at most 32 existing inequalities, and each of them starts where the previous one ends. The last one returns to the first, and the sum of
+/// their costs is negative. The one lower edge of an atom that is false for known texts is accepted too. Allocates nothing.
 pub fn check_cycle<R: AsRow>(query: &BoundQuery, place: usize, row: &R, cycle: &Cycle) -> bool
     ensures { IsTrue result ↔ IsAccepted query.now place (R.AsRow.row row.now) cycle.now.edges.items }
 {

@@ -1,17 +1,17 @@
 //! Cycles of inequalities.
 
-/// The name of an inequality: an atom, and which of its two bounds on its left side.
+/// The name of an inequality: an atom, and which of the two bounds of its left side.
 #[derive(Clone, Copy, Debug, PartialEq, Eq)]
 pub struct CycleEdge {
-    /// The atom, counted from 0 in the order of the query.
+    /// The position of the atom in the query, from 0.
     pub conjunct: usize,
-    /// Whether it is the one that says how small the left side may be. The other says how great.
+    /// `true` for the bound from below, and `false` for the bound from above.
     pub upper: bool,
 }
 
-/// Inequalities that together are false, each on from the point where the one before it ends.
+/// Inequalities that cannot all be true. Each starts at the point where the previous one ends.
 #[derive(Debug, Drop)]
 pub struct Cycle {
-    /// The inequalities, in their order.
+    /// The inequalities in order.
     pub edges: Vec<CycleEdge>,
 }

@@ -1,4 +1,4 @@
-//! The inequalities of the atoms of a query with one row put in.
+//! The inequalities of a query's atoms for a given row.
 ghost use Rattle.std.specs.Prelude.{◌≡◌, ◌^◌, ◌++◌, int_lt, pos, false, true, IfOk, IfSome, OnOk};
 ghost use Rattle.std.specs.List.{All};
 ghost use Rattle.mm_relevance.specs.Relevance.{at_most, below, edge_at, edge_of, lower_edge, upper_edge};
@@ -17,14 +17,14 @@ pub(crate) struct Edge {
     pub(crate) left: Point,
     /// The point on the right.
     pub(crate) right: Point,
-    /// What is added on the right.
+    /// The number that is added on the right.
     pub(crate) cost: i128,
-    /// Where it comes from.
+    /// The name of the inequality.
     pub(crate) name: CycleEdge,
 }
 
 impl Edge {
-    /// Whether it adds less than zero.
+    /// Returns whether the cost is negative.
     pub(crate) fn is_negative(self) -> bool
         ensures { result ≡ int_lt self.cost (pos 0) }
     {
@@ -32,16 +32,16 @@ impl Edge {
     }
 }
 
-/// The edges of an atom.
+/// The edges of an atom, at most two.
 #[derive(Clone, Copy)]
 struct Bounds {
-    /// How great its left side may be.
+    /// The bound of the left side from above.
     lower: Option<Edge>,
-    /// How small its left side may be.
+    /// The bound of the left side from below.
     upper: Option<Edge>,
 }
 
-/// `a <= b`
+/// Returns the edge of `a <= b`.
 fn at_most(name: CycleEdge, a: Term, b: Term) -> Edge
     requires a { IsWithin (2 ^ 64) a.offset }
     requires b { IsWithin (2 ^ 64) b.offset }
@@ -56,7 +56,7 @@ fn at_most(name: CycleEdge, a: Term, b: Term) -> Edge
     }
 }
 
-/// `a < b`, which is `a <= b - 1` of whole numbers
+/// Returns the edge of `a < b`, which is `a <= b - 1` for integers.
 fn below(name: CycleEdge, a: Term, b: Term) -> Edge
     requires a { IsWithin (2 ^ 64) a.offset }
     requires b { IsWithin (2 ^ 64) b.offset }
@@ -71,7 +71,7 @@ fn below(name: CycleEdge, a: Term, b: Term) -> Edge
     }
 }
 
-/// How great the left side may be.
+/// Returns the edge that bounds the left side from above, if there is one.
 fn lower_edge(comparison: Comparison, name: CycleEdge, a: Term, b: Term) -> Option<Edge>
     requires a { IsWithin (2 ^ 64) a.offset }
     requires b { IsWithin (2 ^ 64) b.offset }
@@ -85,7 +85,7 @@ fn lower_edge(comparison: Comparison, name: CycleEdge, a: Term, b: Term) -> Opti
     }
 }
 
-/// How small the left side may be.
+/// Returns the edge that bounds the left side from below, if there is one.
 fn upper_edge(comparison: Comparison, name: CycleEdge, a: Term, b: Term) -> Option<Edge>
     requires a { IsWithin (2 ^ 64) a.offset }
     requires b { IsWithin (2 ^ 64) b.offset }
@@ -99,7 +99,7 @@ fn upper_edge(comparison: Comparison, name: CycleEdge, a: Term, b: Term) -> Opti
     }
 }
 
-/// How great and how small the left side may be.
+/// Returns the edges that bound the left side from above and from below.
 fn bounds_between(comparison: Comparison, conjunct: usize, a: Term, b: Term) -> Bounds
     requires a { IsWithin (2 ^ 64) a.offset }
     requires b { IsWithin (2 ^ 64) b.offset }
@@ -122,7 +122,7 @@ fn bounds_between(comparison: Comparison, conjunct: usize, a: Term, b: Term) -> 
     }
 }
 
-/// The edges that an atom gives.
+/// Returns the edges of an atom.
 fn bounds_of<R: AsRow>(
     query: &BoundQuery,
     place: usize,
@@ -146,7 +146,7 @@ fn bounds_of<R: AsRow>(
     }
 }
 
-/// The edge of an atom that has this name, if it gives one.
+/// Returns the edge of an atom with this name, if there is one.
 fn edge_of<R: AsRow>(
     query: &BoundQuery,
     place: usize,
@@ -165,7 +165,7 @@ fn edge_of<R: AsRow>(
     }
 }
 
-/// The edge of a query that has this name, if there is one.
+/// Returns the edge of a query with this name, if there is one.
 pub(crate) fn edge_at<R: AsRow>(
     query: &BoundQuery,
     place: usize,
@@ -181,7 +181,7 @@ pub(crate) fn edge_at<R: AsRow>(
     }
 }
 
-/// Adds an edge, if there is one.
+/// Appends an edge, if there is one.
 fn add(edges: &mut Vec<Edge>, edge: Option<Edge>) -> Result<(), AllocError>
     ensures { OnOk result (edges.new.items ≡ edges.old.items ++ option_list edge) }
 {
@@ -191,7 +191,7 @@ fn add(edges: &mut Vec<Edge>, edge: Option<Edge>) -> Result<(), AllocError>
     Ok(())
 }
 
-/// The edges of all atoms.
+/// Returns the edges of all atoms.
 pub(crate) fn edges<R: AsRow>(
     alloc: Global,
     query: &BoundQuery,

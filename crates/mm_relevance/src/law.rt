@@ -1,4 +1,4 @@
-//! What cycles and their inequalities show.
+//! Laws of cycles and their inequalities.
 ghost use Rattle.std.specs.Prelude.{◌≡◌, ◌∷◌, [], ◌↔◌, ℕ, Bool, true, List, Some, IfSome, get_or, length, map, slice_get};
 ghost use Rattle.mm_value.specs.declared.values.Value.{Value as Val};
 ghost use Rattle.mm_query.specs.Atoms.{holds};
@@ -10,20 +10,19 @@ ghost use Rattle.mm_relevance.specs.Relevance.{ComparesNumbers, IsCombinationWit
 ghost use Rattle.mm_query.specs.Additions.{AddsToNumbers};
 ghost use Rattle.mm_relevance.specs.Walks.{name_of};
 
-/// A row that has an accepted cycle is irrelevant: no combination with it fits the query.
+/// Law: a row with an accepted cycle is irrelevant: no combination with it fits the query.
 pub fn cyclic_is_irrelevant()
     ensures { (query : Query) (place : ℕ) (row : List Val) → IsCyclic query place row → IsIrrelevant query place row }
 {}
 
-/// The combinations that have a cyclic row at its place add nothing to the bag of a query, where no atom adds a number to a text.
+/// Law: the combinations with a cyclic row at its position contribute nothing to the result of a query, if no atom adds a number to a text.
 pub fn cyclic_rows_add_nothing()
     ensures { (query : Query) (place : ℕ) (row : List Val) (lists : List (List (List Val))) → IsCyclic query place row
         → length lists ≡ length query.from → slice_get lists place ≡ Some (row ∷ []) → AddsToNumbers query (λ j. get_or lists j [])
         → bag_of query lists ≡ [] }
 {}
 
-/// An atom that compares two whole numbers of a combination is true of it just where the inequalities that the atom gives are:
-/// none is missing, and none says more.
+/// Law: an atom that compares two integers of a combination is true exactly if all of its inequalities are.
 pub fn edges_say_what_atoms_say()
     ensures { (query : Query) (place : ℕ) (row : List Val) (combination : List (List Val)) (conjunct : ℕ) (atom : Asked Field)
         → IsCombinationWith query place row combination → slice_get query.atoms conjunct ≡ Some atom → ComparesNumbers (map Some combination) atom

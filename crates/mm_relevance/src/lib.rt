@@ -1,4 +1,4 @@
-//! Rows that cannot change the answer of a query, and the cycles of inequalities that show it.
+//! Rows that cannot affect the result of a query, and the cycles of inequalities that prove it.
 #![tactic(auto)]
 
 mod check;

@@ -1,5 +1,5 @@
-//! Numbers for the points, lowered round by round until all inequalities are true of them (Bellman and Ford). What comes of it is
-//! only proposed: either answer is checked where it is used.
+//! Relaxation: a number for each point, lowered round by round until all inequalities are true (Bellman and Ford). Callers check each
+//! result, so nothing is proved about the numbers.
 ghost use Rattle.std.specs.Prelude.{◌≡◌, ◌<◌, true};
 ghost use Rattle.std.specs.List.{All};
 ghost use Rattle.mm_relevance.specs.Walks.{IsMet, number_in, slot};
@@ -10,17 +10,17 @@ use crate::edge::Edge;
 use crate::term::{Point, same_point};
 use std::alloc::{AllocError, Global};
 
-/// The rows of FROM that have places of their own.
+/// The number of rows of FROM with slots of their own.
 const ROWS: usize = 4;
 
-/// The columns of a row that have places of their own.
+/// The number of columns of a row with slots of their own.
 const COLUMNS: usize = 16;
 
-/// The places for numbers: zero's, and one for each column.
+/// The number of slots: one for zero, and one for each column.
 const SLOTS: usize = 1 + ROWS * COLUMNS;
 
-/// The place of a point's number. Only beyond 4 rows of FROM or 16 columns do two points share one; then all that comes of it is
-/// that no check accepts what is proposed.
+/// Returns the slot of a point's number. Two points share a slot only beyond 4 rows of FROM or 16 columns. Then a check may reject the
+/// proposed result, but no wrong result is accepted.
 fn slot(point: Point) -> usize
     ensures value { result ≡ slot point }
     ensures inside { result < 65 }
@@ -31,20 +31,21 @@ fn slot(point: Point) -> usize
     }
 }
 
-/// A number for each point, and the edge by which it was last lowered.
+/// A number for each point, and the edge that lowered it last.
 #[derive(Drop)]
 pub(crate) struct Relaxation {
-    /// The numbers, all 0 at first.
+    /// The numbers, initially 0.
     numbers: [i128; SLOTS],
-    /// The edges, as places in the list of all edges.
+    /// The edges, as positions in the list of all edges.
     via: [Option<u8>; SLOTS],
     /// A point whose number the last round lowered.
     lowered: Option<Point>,
 }
 
 impl Relaxation {
-    /// The numbers after as many rounds as lower any, until the edges that lowered them lead in a circle. A walk that comes by no
-    /// point twice has no more edges than there are, so no later than in one more round there is one or the other.
+    /// Returns the numbers after as many rounds as lower any number, or until the edges that lowered them form a cycle. A walk without
+    /// repeated points has at most as many edges as there are, so one or the other happens after at most one more round than there are
+    /// edges.
     pub(crate) fn of(edges: &[Edge]) -> Relaxation {
         let mut relaxation = Relaxation {
             numbers: [0; SLOTS],
@@ -69,8 +70,8 @@ impl Relaxation {
         }
     }
 
-    /// Lowers the number of an edge's left point to what the edge allows, where it is greater. Costs are far too
-    /// small for a sum that wraps, and the checks are right of whatever numbers there are.
+    /// Lowers the number of an edge's left point to the edge's bound, if it is greater. Costs are far too small for a sum to wrap, and the
+    /// checks are correct for any numbers.
     fn lower(&mut self, index: usize, edge: &Edge) {
         let left = slot(edge.left);
         let most = self.numbers[slot(edge.right)].wrapping_add(edge.cost);
@@ -81,14 +82,14 @@ impl Relaxation {
         }
     }
 
-    /// The number of a point.
+    /// Returns the number of a point.
     fn number(&self, point: Point) -> i128
         ensures { result ≡ number_in self.now.numbers point }
     {
         self.numbers[slot(point)]
     }
 
-    /// Whether an edge is true of the numbers, where its right side is in range.
+    /// Returns `true` only if an edge is true for the numbers. Returns `false` if its right side overflows.
     fn meets(&self, edge: &Edge) -> bool
         ensures { result ≡ true → IsMet (number_in self.now.numbers) edge.now }
     {
@@ -98,21 +99,22 @@ impl Relaxation {
         }
     }
 
-    /// Whether each edge is true of the numbers. Where it says so, no cycle is negative, since the costs of true inequalities that
-    /// lead in a circle have a sum of at least zero.
+    /// Returns `true` only if each edge is true for the numbers. Then no cycle is negative, since the costs of true inequalities in a cycle
+    /// have a sum of at least 0.
     pub(crate) fn meets_all(&self, edges: &[Edge]) -> bool
         ensures { result ≡ true → All (IsMet (number_in self.now.numbers)) edges.now }
     {
         edges.iter().all(|edge| self.meets(edge))
     }
 
-    /// The edge by which the number of a point was last lowered.
+    /// Returns the edge that last lowered the number of a point.
     fn edge_from<'e>(&self, edges: &'e [Edge], point: Point) -> Option<&'e Edge> {
         let index = self.via[slot(point)]?;
         edges.get(usize::from(index))
     }
 
-    /// A point on a circle of the edges that lowered numbers. So many steps as there are edges and one more come by an edge twice.
+    /// Returns a point on a cycle of the edges that lowered numbers, if there is one. A walk of one more step than there are edges repeats
+    /// an edge.
     fn on_circle(&self, edges: &[Edge]) -> Option<Point> {
         let mut point = self.edge_from(edges, self.lowered?)?.right;
         for _ in edges {
@@ -121,7 +123,8 @@ impl Relaxation {
         Some(point)
     }
 
-    /// The edges that lowered numbers in a circle, if there is one of at most 32.
+    /// Returns the names of edges that lowered numbers and form a cycle, if there is one of at most 32. Fails with `AllocError` if an
+    /// allocation fails.
     pub(crate) fn cycle(
         &self,
         alloc: Global,

@@ -1,4 +1,4 @@
-//! Rows that cannot change the answer of a query.
+//! The search for a proof that a row cannot affect a query.
 ghost use Rattle.std.specs.Prelude.{◌≡◌, ◌∷◌, [], ◌≤ℤ◌, pos, false, map, List, IfOk, IfSome, MatchOption};
 ghost use Rattle.std.specs.List.{All};
 ghost use Rattle.mm_relevance.specs.Relevance.{IsAccepted, IsCyclic, IsNegativeCycle};
@@ -15,12 +15,11 @@ use mm_query::BoundQuery;
 use mm_value::AsRow;
 use std::alloc::{AllocError, Global};
 
-/// A cycle that shows that no combination with this row at this place of FROM fits the query, if there is one of at most 32
-/// edges: then the row is irrelevant (Blakeley, Larson and Tompa). The cycle is a negative one of the inequalities that the
-/// atoms say when the row's values are put in (Rosenkrantz and Hunt), or the one edge of an atom that is false of known texts. It
-/// takes memory for the inequalities, unless an atom is false of known texts, and for the cycle that it finds; for more only where
-/// it has to search long, as can be with more than 4 rows of FROM, 16 columns of a row or 16 atoms. `AllocError` where memory
-/// is refused.
+/// Returns an accepted cycle of this row at this position of FROM, or `None` if there is no such cycle of at most 32 edges. A row with an
+/// accepted cycle is irrelevant: no combination with it fits the query (Blakeley, Larson and Tompa). The cycle is a negative one of the
+/// inequalities of the atoms for the row's values (Rosenkrantz and Hunt). If an atom is false for known texts, it is the one edge of that
+/// atom. Allocates for the inequalities, unless an atom is false for known texts, and for the cycle. Allocates more only for the exact
+/// search, which is needed only beyond 4 rows of FROM, 16 columns of a row or 16 atoms. Fails with `AllocError` if an allocation fails.
 pub fn irrelevant<R: AsRow>(
     alloc: Global,
     query: &BoundQuery,
@@ -35,7 +34,7 @@ pub fn irrelevant<R: AsRow>(
     negative_cycle(alloc, query, place, row)
 }
 
-/// The cycle of the one lower edge of an atom.
+/// Returns the cycle of the one lower edge of an atom.
 fn lower_alone(alloc: Global, conjunct: usize) -> Result<Cycle, AllocError>
     ensures { IfOk result (λ cycle. cycle.edges.items ≡ name_of conjunct false ∷ []) }
 {
@@ -47,14 +46,14 @@ fn lower_alone(alloc: Global, conjunct: usize) -> Result<Cycle, AllocError>
     Ok(Cycle { edges })
 }
 
-/// Whether some inequality adds less than zero. Without one no cycle is negative.
+/// Returns whether some inequality has a negative cost. Without one no cycle is negative.
 fn has_negative_edge(edges: &[Edge]) -> bool
     ensures { result ≡ false → All (λ e. pos 0 ≤ℤ e.cost) edges.now }
 {
     edges.iter().any(|edge| edge.is_negative())
 }
 
-/// A negative cycle, if there is one.
+/// Returns a negative cycle, if there is one.
 fn negative_cycle<R: AsRow>(
     alloc: Global,
     query: &BoundQuery,
@@ -83,7 +82,7 @@ fn negative_cycle<R: AsRow>(
     }
 }
 
-/// The circle of edges that lowered numbers, where it is a negative cycle.
+/// Returns the cycle of edges that lowered numbers, if it is negative.
 fn proposed<R: AsRow>(
     alloc: Global,
     query: &BoundQuery,
@@ -102,7 +101,7 @@ fn proposed<R: AsRow>(
     }
 }
 
-/// The names of edges.
+/// Returns the names of edges.
 fn names(alloc: Global, walk: &[Edge]) -> Result<Vec<CycleEdge>, AllocError>
     ensures { IfOk result (λ names. names.items ≡ map (λ e. e.name) walk.now) }
 {

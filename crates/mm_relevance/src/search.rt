@@ -1,4 +1,4 @@
-//! The search for a closed walk of negative sum: the least sums of walks to a point, round by round (Bellman and Ford).
+//! The exact search for a closed walk with a negative sum: the least sums of walks to a point, round by round (Bellman and Ford).
 ghost use Rattle.std.specs.Prelude.{◌≡◌, ◌≤◌, ◌^◌, ◌+ℤ◌, ◌<◌, false, length, IsTrue, ◌↔◌, None, IfOk, List, MatchOption};
 ghost use Rattle.std.specs.List.{All, Contains};
 ghost use Rattle.mm_relevance.specs.Walks.{IsFit, IsNear, IsNegative, IsNegativeWalk, IsNoStart, IsSmall, IsWithin, Takes, better, lesser, least, stepped, reaches_of};
@@ -15,7 +15,7 @@ struct Reach {
     sum: Option<i128>,
 }
 
-/// A cost plus a sum, which is in range.
+/// Returns the sum of a cost and a sum. It cannot overflow.
 fn plus(cost: i128, sum: i128) -> i128
     requires cost { IsWithin (2 ^ 66) cost }
     requires sum { IsSmall sum }
@@ -24,7 +24,7 @@ fn plus(cost: i128, sum: i128) -> i128
     cost + sum
 }
 
-/// Whether two sums are one, or both are missing.
+/// Returns whether two sums are equal, or both missing.
 fn same_sum(a: Option<i128>, b: Option<i128>) -> bool
     ensures { IsTrue result ↔ a ≡ b }
 {
@@ -35,7 +35,7 @@ fn same_sum(a: Option<i128>, b: Option<i128>) -> bool
     }
 }
 
-/// The lesser of two sums.
+/// Returns the lesser of two sums.
 fn lesser(best: Option<i128>, sum: i128) -> Option<i128>
     ensures { result ≡ lesser best sum }
 {
@@ -45,7 +45,7 @@ fn lesser(best: Option<i128>, sum: i128) -> Option<i128>
     }
 }
 
-/// The lesser of a sum and that over an edge, where the edge leads on from the point.
+/// Returns the lesser of a sum and the sum over an edge, if the edge starts at the point.
 fn better(at: Point, best: Option<i128>, reach: &Reach) -> Option<i128>
     requires { IsFit reach.now }
     ensures { result ≡ better at best reach.now }
@@ -60,7 +60,7 @@ fn better(at: Point, best: Option<i128>, reach: &Reach) -> Option<i128>
     }
 }
 
-/// The least of a sum and those over each of the edges that lead on from the point.
+/// Returns the least of a sum and the sums over the edges that start at the point.
 fn least(at: Point, best: Option<i128>, reaches: &[Reach]) -> Option<i128>
     requires { All IsFit reaches.now }
     ensures { result ≡ least at best reaches.now }
@@ -72,7 +72,7 @@ fn least(at: Point, best: Option<i128>, reaches: &[Reach]) -> Option<i128>
     best
 }
 
-/// The sums after one more edge, or none where nothing changes.
+/// Returns the sums after one more edge, or `None` if no sum changes.
 fn stepped(alloc: Global, reaches: &[Reach]) -> Result<Option<Vec<Reach>>, AllocError>
     requires { All IsFit reaches.now }
     ensures { IfOk result (λ o. MatchOption o (stepped reaches.now ≡ reaches.now) (λ v. v.items ≡ stepped reaches.now)) }
@@ -92,7 +92,7 @@ fn stepped(alloc: Global, reaches: &[Reach]) -> Result<Option<Vec<Reach>>, Alloc
     if same { Ok(None) } else { Ok(Some(next)) }
 }
 
-/// The sums of no edge.
+/// Returns the sums of walks without edges.
 fn start(alloc: Global, edges: &[Edge], target: Point) -> Result<Vec<Reach>, AllocError>
     ensures { IfOk result (λ v. v.items ≡ reaches_of edges.now target 0) }
 {
@@ -108,7 +108,7 @@ fn start(alloc: Global, edges: &[Edge], target: Point) -> Result<Vec<Reach>, All
     Ok(reaches)
 }
 
-/// The sums of at most n edges.
+/// Returns the sums of walks of at most n edges.
 fn reaches(alloc: Global, edges: &[Edge], target: Point, n: usize) -> Result<Vec<Reach>, AllocError>
     requires few { n ≤ 31 }
     requires near { All IsNear edges.now }
@@ -124,7 +124,7 @@ fn reaches(alloc: Global, edges: &[Edge], target: Point, n: usize) -> Result<Vec
     Ok(reaches)
 }
 
-/// Whether an edge leads on from a point with what is owed there.
+/// Returns whether an edge starts at a point and its cost plus the sum after it is the given sum.
 fn leads(at: Point, owed: Option<i128>, reach: &Reach) -> bool
     requires { IsFit reach.now }
     ensures { IsTrue result ↔ Takes at owed reach.now }
@@ -137,7 +137,7 @@ fn leads(at: Point, owed: Option<i128>, reach: &Reach) -> bool
     }
 }
 
-/// An edge that leads on from a point with what is owed there.
+/// Returns an edge that starts at a point and accounts for the given sum, if there is one.
 fn taken(reaches: &[Reach], at: Point, owed: Option<i128>) -> Option<Reach>
     requires { All IsFit reaches.now }
     ensures { MatchOption result (All (λ r. Takes at owed r → ⊥) reaches.now) (λ r. Takes at owed r × Contains reaches.now r) }
@@ -150,7 +150,7 @@ fn taken(reaches: &[Reach], at: Point, owed: Option<i128>) -> Option<Reach>
     None
 }
 
-/// The closed walk of a negative sum that is owed at the target.
+/// Returns the closed walk through the target with this negative sum.
 fn walked(
     alloc: Global,
     edges: &[Edge],
@@ -180,7 +180,7 @@ fn walked(
     Ok(cycle)
 }
 
-/// Whether a sum is there and below zero.
+/// Returns whether a sum exists and is negative.
 fn is_negative(sum: Option<i128>) -> bool
     ensures { IsTrue result ↔ IsNegative sum }
 {
@@ -190,7 +190,7 @@ fn is_negative(sum: Option<i128>) -> bool
     }
 }
 
-/// A closed walk of negative sum through a point, if there is one of at most 32 edges.
+/// Returns a closed walk through a point with a negative sum, if there is one of at most 32 edges.
 fn walk_through(
     alloc: Global,
     edges: &[Edge],
@@ -217,8 +217,8 @@ fn walk_through(
     Ok(None)
 }
 
-/// Whether walks from the left point of an edge are worth a search: it adds less than zero, and no such edge before it has that
-/// left point.
+/// Returns whether to search for walks from the left point of an edge. The edge must have a negative cost, and no earlier edge with a
+/// negative cost may have the same left point.
 fn is_start(edges: &[Edge], i: usize) -> bool
     requires { i < length edges.now }
     ensures { result ≡ false → IsNoStart edges.now i }
@@ -229,9 +229,9 @@ fn is_start(edges: &[Edge], i: usize) -> bool
             && same_point(earlier.left, start.left))
 }
 
-/// A closed walk of negative sum, if there is one of at most 32 edges. One of its edges adds less than zero, so only walks from
-/// the left points of such edges are searched for, once for each point. It is asked only where no numbers were found of which all
-/// edges are true, and no circle of at most 32 edges that is negative either: beyond 4 rows of FROM, 16 columns of a row or 16 atoms.
+/// Returns a closed walk with a negative sum, if there is one of at most 32 edges. One of its edges has a negative cost, so walks are
+/// searched for only from the left points of such edges, once for each point. Called only if the relaxation found neither numbers for which
+/// all edges are true nor a negative cycle of at most 32 edges. This happens only beyond 4 rows of FROM, 16 columns of a row or 16 atoms.
 pub(crate) fn negative_walk(alloc: Global, edges: &[Edge]) -> Result<Option<Vec<Edge>>, AllocError>
     requires { All IsNear edges.now }
     ensures { IfOk result (λ found. MatchOption found ((walk : List Inequality) → IsNegativeWalk edges.now walk → ⊥) (λ walk. IsNegativeWalk edges.now walk.items)) }

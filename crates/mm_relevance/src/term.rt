@@ -1,4 +1,4 @@
-//! Points, and the sides of atoms as points plus numbers.
+//! Points, and the sides of atoms as a point plus a number.
 ghost use Rattle.std.specs.Prelude.{◌≡◌, ◌^◌};
 ghost use Rattle.std.specs.Option.{option_map};
 ghost use Rattle.mm_query.specs.Atoms.{value_in};
@@ -9,25 +9,24 @@ ghost use Rattle.mm_relevance.specs.Walks.{IsNearTerm, point_eq};
 use mm_query::{BoundQuery, FieldPlace, Operand};
 use mm_value::{AsRow, ValueRef};
 
-/// What an inequality speaks of.
+/// A quantity in an inequality.
 #[derive(Clone, Copy)]
 pub(crate) enum Point {
     /// The number zero.
     Zero,
-    /// A column of a row that is not known.
+    /// A column of another row, whose value is unknown.
     Column(FieldPlace),
 }
 
 /// A point plus a number.
 #[derive(Clone, Copy)]
 pub(crate) struct Term {
-    /// The point.
     pub(crate) point: Point,
-    /// The number.
+    /// The number that is added to the point.
     pub(crate) offset: i128,
 }
 
-/// Whether two points are one.
+/// Returns whether two points are equal.
 pub(crate) fn same_point(a: Point, b: Point) -> bool
     ensures { result ≡ point_eq a b }
 {
@@ -38,7 +37,7 @@ pub(crate) fn same_point(a: Point, b: Point) -> bool
     }
 }
 
-/// The term of a number. A text has none.
+/// Returns the term of a number. A text has none.
 fn number_term(value: ValueRef<'_>) -> Option<Term>
     ensures value { result ≡ number_term (value_of value.entry) }
     ensures near { IsNearTerm (2 ^ 63) result }
@@ -52,7 +51,7 @@ fn number_term(value: ValueRef<'_>) -> Option<Term>
     }
 }
 
-/// The term of a column of this row, which is 0 past its end.
+/// Returns the term of a column of this row, which counts as 0 past the end of the row.
 fn column_term<R: AsRow>(row: &R, column: usize) -> Option<Term>
     ensures value { result ≡ number_term (value_in column (R.AsRow.row row.now)) }
     ensures near { IsNearTerm (2 ^ 63) result }
@@ -66,7 +65,7 @@ fn column_term<R: AsRow>(row: &R, column: usize) -> Option<Term>
     }
 }
 
-/// The term of a field: a number of the row at the place, or a column of another row of FROM.
+/// Returns the term of a field: a number of the row at the position, or a column of another row of FROM.
 pub(crate) fn field_term<R: AsRow>(
     query: &BoundQuery,
     place: usize,
@@ -88,7 +87,7 @@ pub(crate) fn field_term<R: AsRow>(
     }
 }
 
-/// A term plus a number.
+/// Returns a term plus a number.
 fn moved(term: Option<Term>, by: i64) -> Option<Term>
     requires { IsNearTerm (2 ^ 63) term }
     ensures value { result ≡ option_map (moved by) term }
@@ -103,7 +102,7 @@ fn moved(term: Option<Term>, by: i64) -> Option<Term>
     }
 }
 
-/// The term of the right side of an atom.
+/// Returns the term of the right side of an atom.
 pub(crate) fn operand_term<R: AsRow>(
     query: &BoundQuery,
     place: usize,

@@ -1,4 +1,4 @@
-//! Atoms on texts that are known.
+//! Atoms on known texts.
 ghost use Rattle.std.specs.Prelude.{◌≡◌, position};
 ghost use Rattle.std.specs.Option.{option_copied};
 ghost use Rattle.mm_query.specs.Atoms.{operand_of};
@@ -8,7 +8,7 @@ ghost use Rattle.mm_relevance.specs.Walks.{text_of};
 use mm_query::{Atom, BoundQuery, FieldPlace, Operand};
 use mm_value::{AsRow, Text, Value, ValueRef};
 
-/// The text of a field, if it is one of the row at the place.
+/// Returns the text of a field, if it is a text of the row at the position.
 fn known_text<'v, R: AsRow>(place: usize, row: &'v R, field: FieldPlace) -> Option<&'v Text>
     ensures { option_copied result ≡ text_of (known place (R.AsRow.row row.now) field) }
 {
@@ -22,7 +22,7 @@ fn known_text<'v, R: AsRow>(place: usize, row: &'v R, field: FieldPlace) -> Opti
     }
 }
 
-/// The text of an operand, if it is known. A text with a number added stays.
+/// Returns the text of an operand, if it is known. Adding a number to a text leaves it unchanged.
 fn operand_text<'v, R: AsRow>(
     place: usize,
     row: &'v R,
@@ -38,7 +38,7 @@ fn operand_text<'v, R: AsRow>(
     }
 }
 
-/// Whether both sides of an atom are known texts, and it is false of them.
+/// Returns whether both sides of an atom are known texts for which the atom is false.
 pub(crate) fn fails_on_texts<R: AsRow>(place: usize, row: &R, atom: &Atom<FieldPlace>) -> bool
     ensures { result ≡ fails_on_texts place (R.AsRow.row row.now) atom.now }
 {
@@ -51,7 +51,7 @@ pub(crate) fn fails_on_texts<R: AsRow>(place: usize, row: &R, atom: &Atom<FieldP
     }
 }
 
-/// The first atom that is false of known texts.
+/// Returns the position of the first atom that is false for known texts.
 pub(crate) fn false_text<R: AsRow>(query: &BoundQuery, place: usize, row: &R) -> Option<usize>
     ensures { result ≡ position (fails_on_texts place (R.AsRow.row row.now)) query.now.atoms }
 {

@@ -1,4 +1,4 @@
--- Which commands leave the catalog as it is.
+-- The commands that do not change the catalog.
 use Rattle.std.proofs.Common.{◌≡◌, false, Option, Some, None, Ok, IsTrue, ⊎_elim, refl, sym, ap, ◌∙◌}
 use Rattle.std.proofs.lemmas.Bool.{false≢true}
 use Rattle.mm_value.specs.declared.refusal.Refusal.{Refusal}
@@ -34,7 +34,7 @@ unless_keeps : (due : Option Refusal) (state : State) (outcome : Outcome) → ou
 unless_keeps None state outcome kept = kept
 unless_keeps (Some refusal) state outcome kept = refl
 
--- What is no change of the catalog leaves it as it is.
+-- A command that is no definition does not change the catalog.
 pub leads_keep : (command : Command) (state : State) (outcome : Outcome) → is_definition command ≡ false → MayLeadTo (Ok command) state outcome
     → outcome.state.schema ≡ state.schema
 leads_keep command state outcome other leads =

@@ -17,17 +17,17 @@ module _ {S T : Type 0} {takes : S → S → Option Reply → T → Type 0} {old
       → Delivers takes old new result after Q
   delivers_as implies d = record { outcome = d.outcome; is = implies d.outcome d.is; state = d.state; took = d.took }
 
-  -- What is no definition leaves the catalog as it is.
+  -- A command that is no definition does not change the catalog.
   pub delivers_keep : (before : State) (read : Result Command Refusal) → defines read ≡ false
       → Delivers takes old new result after (MayLeadTo read before) → after.schema ≡ before.schema
   delivers_keep before (Ok command) other d = ap (λ (s : State). s.schema) d.state ∙ leads_keep command before d.outcome other d.is
   delivers_keep before (Err refusal) other d = ap (λ (s : State). s.schema) (d.state ∙ ap (λ (o : Outcome). o.state) d.is)
 
--- Without memory, a line that takes some is refused for lack of it.
+-- Without memory, a line that allocates fails with `Memory`.
 pub refused_memory : (line : List ℕ) (state : State) → takes_memory line ≡ true → answer true line state ≡ refused_outcome Memory state
 refused_memory line state takes = ap (λ b. cond b (refused_outcome Memory state) (outcome_of (reading line) state)) takes
 
--- What the reading of a line leads to is an answer to the line.
+-- The outcome of a line's reading is an answer to the line.
 pub leads_to_answer : (line : List ℕ) (before : State) (read : Result Command Refusal) → Reads line read → (outcome : Outcome)
     → MayLeadTo read before outcome → IsAnswerTo line before outcome
 leads_to_answer line before (Ok command) reads outcome leads =

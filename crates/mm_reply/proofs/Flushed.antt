@@ -16,7 +16,7 @@ appends_keeps (Some x) None c text h k = absurd h
 appends_keeps (Some x) (Some y) None text h k = absurd k
 appends_keeps (Some x) (Some y) (Some z) text h k = k ∙ h
 
--- a text and then a flush, whatever that answers
+-- a text and then a flush, whatever the flush returns
 pub writes_flushed : {W S T D E : Type 0} {contents : W → Option (List ℕ)} {old mid new : Watched W} {v : S} (result : Result T E) (text : List ℕ)
     → Writes {E = D} contents old mid (Ok v) text → Keeps (contents (inner_of mid)) (contents (inner_of new)) → has_failed new ≡ is_err result → Writes contents
     old new result text

@@ -1,4 +1,3 @@
-pub mod BoundForms
 pub mod Catalogs
 pub mod Delivered
 pub mod DueSteps

@@ -1,4 +1,4 @@
--- The text of rows that are gone along, in the parts in which it is written.
+-- The text of rows that are read one after another, in the parts in which it is written.
 use Rattle.std.proofs.Common.{◌≡◌, ℕ, List, [], ◌∷◌, ◌++◌, length, sym, ap, ◌∙◌, append-nil, append_assoc}
 use Rattle.std.specs.List.{flat_map}
 use Rattle.std.proofs.lemmas.List.Concat.{flat_map-append}
@@ -14,11 +14,11 @@ first_of {x} is = x
 abbrev pub lines : List (List Value) → List ℕ
 lines rows = flat_map row_line rows
 
--- one line more
+-- one more line
 pub lines_more : (read : List (List Value)) (row : List Value) → lines (read ++ row ∷ []) ≡ lines read ++ row_line row
 lines_more read row = flat_map-append row_line read (row ∷ []) ∙ ap (λ l. lines read ++ l) (append-nil (row_line row))
 
--- what stands behind the lines so far
+-- the text after the lines so far
 abbrev pub behind : List (List Value) → ℕ → List ℕ
 behind rest n = lines rest ++ count_line n
 

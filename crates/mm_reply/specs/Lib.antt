@@ -1,3 +1,2 @@
-pub mod BoundCommands
 pub mod Sinks
 pub mod Writing

@@ -4,12 +4,11 @@ ghost use Rattle.mm_lang.specs.Answering.{MayLeadTo};
 ghost use Rattle.mm_query.specs.declared.reply.Reply.TheVariants.{Refused};
 ghost use Rattle.mm_reply.specs.Sinks.{Delivers, defines};
 ghost use Rattle.mm_txn.specs.Answers.{reply_of};
-ghost use Rattle.mm_txn.specs.Requests.{command_of};
 ghost use Rattle.mm_value.specs.declared.refusal.Refusal.TheVariants.{Memory};
 
 use crate::sink::ReplySink;
 use mm_query::{Command, Reply};
-use mm_txn::{Answer, Db, Request};
+use mm_txn::{Answer, Db, is_question};
 use mm_value::Refusal;
 use std::alloc::Global;
 
@@ -25,35 +24,29 @@ pub fn respond<S: ReplySink>(
     ensures schema { defines read.entry ≡ false → database.new.schema ≡ database.old.schema }
 {
     match read {
-        Ok(command) => answer_request(alloc, database, Request::of(command), sink),
+        Ok(command) => execute(alloc, database, command, sink),
         Err(refusal) => sink.take(Some(Reply::Refused(refusal))),
     }
 }
 
-/// Does what a request asks, and passes the reply to a sink.
-fn answer_request<S: ReplySink>(
+/// Executes a command, and passes its reply, if it has one, to a sink.
+fn execute<S: ReplySink>(
     alloc: Global,
     database: &mut Db,
-    request: Request<'_>,
+    command: Command<'_>,
     sink: &mut S,
 ) -> S::Taken
     requires { S.can_take sink.old }
-    ensures { Delivers S.takes sink.old sink.new result database.new (MayLeadTo (Ok (command_of request.entry)) database.old) }
+    ensures { Delivers S.takes sink.old sink.new result database.new (MayLeadTo (Ok command.entry) database.old) }
 {
-    match request {
-        Request::Nothing => sink.take(None),
-        Request::Change(change) => {
-            let mut reads = 0;
-            sink.take(Some(database.execute(alloc, change, &mut reads)))
-        }
-        Request::Ask(question) => {
-            let mut reads = 0;
-            take_answer(alloc, database.ask(alloc, question, &mut reads), sink)
-        }
+    let mut reads = 0;
+    if is_question(&command) {
+        return take_answer(alloc, database.ask(alloc, command, &mut reads), sink);
     }
+    sink.take(database.execute(alloc, command, &mut reads))
 }
 
-/// Passes an answer to a sink. The reply is `Memory` if an allocation for its rows fails.
+/// Passes the answer of a question to a sink. The reply is `Memory` if an allocation for its rows fails.
 fn take_answer<S: ReplySink>(alloc: Global, answer: Answer<'_>, sink: &mut S) -> S::Taken
     requires { S.can_take sink.old }
     ensures { S.takes sink.old sink.new (Some (reply_of answer.entry)) result ⊎ S.takes sink.old sink.new (Some (Refused Memory)) result }

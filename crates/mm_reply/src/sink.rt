@@ -1,4 +1,4 @@
-//! Where replies go.
+//! Destinations of replies.
 ghost use Rattle.std.specs.Prelude.{◌⊎◌, Ok, Option, Some};
 ghost use Rattle.mm_lang.specs.Answering.{MayLeadTo};
 ghost use Rattle.mm_query.specs.declared.command.Command.TheVariants.{Select};
@@ -18,10 +18,10 @@ pub trait ReplySink {
     /// The result of taking a reply.
     type Taken;
 
-    /// Whether the sink can take a reply.
+    /// The condition under which the sink can take a reply.
     ghost can_take: { Self → Type 0 };
 
-    /// What it means that a sink, as it was before and as it is after, took the reply of a command, if the command has one.
+    /// The sink, before and after the call, took the reply of a command, if the command has one.
     ghost takes: { Self → Self → Option AnyReply → Self.Taken → Type 0 };
 
     /// Takes the reply of a command, `None` if the command has none.
@@ -29,7 +29,7 @@ pub trait ReplySink {
         requires { can_take self.old }
         ensures { takes self.old self.new reply result };
 
-    /// Takes rows from where they are stored. Takes the refusal `Memory` instead if an allocation fails.
+    /// Takes stored rows without a copy. Takes the refusal `Memory` instead if an allocation fails.
     fn take_rows(&mut self, alloc: Global, rows: &Rows<'_>) -> Self::Taken
         requires { can_take self.old }
         ensures { takes self.old self.new (Some (RowReply rows.now)) result ⊎ takes self.old self.new (Some (Refused Memory)) result };

@@ -25,8 +25,8 @@ impl<W: Write> ReplySink for Watched<W> {
     ghost takes = { λ old new reply result. WritesReply W.contents old new reply result };
 
     fn take(&mut self, reply: Option<Reply>) -> Result<bool, WriteError> {
-        match reply {
-            Some(reply) => send(&reply, self),
+        match &reply {
+            Some(reply) => send(reply, self),
             None => Ok(false),
         }
     }

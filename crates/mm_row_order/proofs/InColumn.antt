@@ -1,4 +1,4 @@
--- What is kept of a column beside the rows tells how their values stand.
+-- The numbers or prefixes that are kept of a column determine how its values compare.
 use Rattle.std.proofs.Common.{◌≡◌, ℕ, ◌<◌, List, Option, length, get_or, sym, ap, ◌∙◌, arith}
 use Rattle.std.specs.Option.{option_cmp}
 use Rattle.std.specs.Ordering.{ordering_reverse}
@@ -31,7 +31,7 @@ shown column row within = (
   record { there = slice_get-get_or row column (Int (pos 0)) within; prefix = get_or-map order_prefix row column (Int (pos 0)) 0 within },
 )
 
--- where a reference has the column, it has a value there
+-- if a reference has the column, it has a value there
 value_at : (column : ℕ) (now : Slots) (at : RowRef) (n : ℕ)
     → ((row : List Value) → now at ≡ Live row → n ≡ row_prefix column row) → HasColumn column now at
     → (value : Value) × (slice_get (row_at now at) column ≡ Some value) × (n ≡ order_prefix value)
@@ -39,14 +39,14 @@ value_at column now at n prefix has =
     let (value, shows) = shown column has.row has.column_in in
     (value, ap (λ x. slice_get (row_in x) column) has.live ∙ shows.there, prefix has.row has.live ∙ shows.prefix)
 
--- prefixes of the column tell that of the value
+-- prefixes of the column are those of the values
 pub prefix_at : (column : ℕ) (places : Places) (prefixes : List ℕ) (at : RowRef) (i : ℕ) → ArePrefixes column places prefixes → i ≡ at.slot
     → HasColumn column (slot_at places) at → (value : Value) × (slice_get (row_at (slot_at places) at) column ≡ Some value)
     × (get_or prefixes i 0 ≡ order_prefix value)
 prefix_at column places prefixes at i agree place has =
     value_at column (slot_at places) at (get_or prefixes i 0) (λ row live. ap (λ n. get_or prefixes n 0) place ∙ agree.each at row live) has
 
--- numbers of the column tell the value
+-- numbers of the column are the values
 pub number_at : (column : ℕ) (places : Places) (numbers : List ℤ) (at : RowRef) (i : ℕ) → AreNumbers column places numbers → i ≡ at.slot
     → IsLive places at → slice_get (row_at (slot_at places) at) column ≡ Some (Int (get_or numbers i (pos 0)))
 number_at column places numbers at i agree place live =

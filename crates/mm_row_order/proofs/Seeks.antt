@@ -1,4 +1,4 @@
--- A value is sought along the order by its column.
+-- Searching a value in the order by its column.
 use Rattle.std.proofs.Common.{◌≡◌, ◌≢◌, ℕ, ◌≤◌, List, get_or, None, Some, Option, refl, sym, ap, ◌∙◌, subst, arith}
 use Rattle.std.specs.Prelude.{slice_get, IfNone, IfSome}
 use Rattle.std.specs.List.{All}
@@ -54,7 +54,7 @@ IsMonotone-at_value column key places value = record {
       (nat_cmp a.slot b.slot) less);
 }
 
--- a value lies at its own place, and no other does
+-- a value is at its own position, and no other value is
 pub place_exact : (o : Option Value) (value : Value) → option_cmp value_cmp o (Some value) ≡ Equal → o ≡ Some value
 place_exact None value e = cc
 place_exact (Some x) value e = ap Some (value_cmp_exact x value e)
@@ -64,12 +64,12 @@ place_own o value e =
     let own : option_cmp value_cmp (Some value) (Some value) ≡ Equal = self_equal (value_cmp value value) (value_cmp_total.antisymm value value) in
     subst (λ (x : Option Value). option_cmp value_cmp x (Some value) ≡ Equal) (sym e) own
 
--- what follows from what is said where nothing is found
+-- a consequence of finding nothing
 pub IfNone_then : {X : Type 0} (r : Option X) {P Q : Type 0} → IfNone r P → (P → Q) → IfNone r Q
 IfNone_then None holds then = then holds
 IfNone_then (Some x) holds then = tt
 
--- what is found along a column has the value, and where nothing is found no row has it
+-- a reference found by a value has the value, and if none is found, no row has it
 pub found_fits : (column : ℕ) (now : Slots) (value : Value) (found : Option RowRef) → IfSome found (λ at. place_by column now value at ≡ Equal)
     → IfSome found (λ at. slice_get (row_at now at) column ≡ Some value)
 found_fits column now value found fits = IfSome_then found fits (λ at e. place_exact (slice_get (row_at now at) column) value e)
@@ -79,7 +79,7 @@ pub none_fits : (column : ℕ) (now : Slots) (value : Value) (found : Option Row
 none_fits column now value found refs absent =
     IfNone_then found absent (λ all k d within e. all k d within (place_own (slice_get (row_at now (get_or refs k d)) column) value e))
 
--- an end of a range goes along the order by its column
+-- an end of a range agrees with the order by its column
 pub IsMonotone-at_end : (column key : ℕ) (places : Slots) (end : Option Value)
     → IsMonotone (IsWide column key places) (refs_by column key places) (IsWide column key places) (end_place column places end)
 IsMonotone-at_end column key places None = record { reaches = λ a wide. wide; rises = λ a b in_a in_b less. omega arith }

@@ -1,4 +1,4 @@
--- The references of rows that are sorted are in order.
+-- The references of sorted rows are in order.
 use Rattle.std.proofs.Common.{◌≡◌, ◌≢◌, ℕ, suc, ◌+◌, ◌<◌, false, List, [], ◌∷◌, length, get_or, refl, sym, ap, ◌∙◌, arith, add-one}
 use Rattle.std.specs.Prelude.{map}
 use Rattle.std.specs.Cmp.{IsTotalOrder, then_total, on_total}
@@ -34,7 +34,7 @@ sortable_total {V} read =
     (on_total (λ (x : Sortable V). x.at.slot) nat_cmp_total)
 
 module _ {V : Type 0} (read : V → Value) (column key : ℕ) (now : Slots) where
-  -- they compare as their references do ..
+  -- they compare as their references do
   agree : (a b : Sortable V) → IsOf read column key now a → IsOf read column key now b → refs_by column key now a.at b.at ≡ sortable_cmp read a b
   agree a b one other = rw (one.value_is, other.value_is, one.key_is, other.key_is) refl
 
@@ -72,6 +72,6 @@ module _ {V : Type 0} (read : V → Value) (column key : ℕ) (now : Slots) wher
     ascending = ascending (x ∷ rest) all sorted apart x;
   }
 
--- references that are apart are so the other way round
+-- the relation is symmetric
 pub apart_turned : (a b : RowRef) → a ≢ b → b ≢ a
 apart_turned a b differ same = differ (sym same)

@@ -1,4 +1,4 @@
--- Whether numbers or prefixes agree with the rows is a fact: it has at most one proof.
+-- The agreement of numbers or prefixes with the rows has at most one proof.
 use Rattle.std.specs.Prelude.{ℕ}
 use Rattle.std.proofs.Props.{props}
 use Rattle.mm_partition.specs.Keys.{AreKeys}

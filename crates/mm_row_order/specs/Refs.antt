@@ -1,4 +1,4 @@
--- References by what their rows contain.
+-- References by the content of their rows.
 use Rattle.std.specs.Prelude.{◌≡◌, ℕ, ◌<◌, List, length, Some, slice_get}
 use Rattle.std.specs.Option.{option_cmp}
 use Rattle.std.specs.Ordering.{nat_cmp, ordering_then}
@@ -13,23 +13,23 @@ use Rattle.mm_partition.specs.Places.{Content, Live, Hidden, row_in}
 abbrev pub Slots : Type 0
 Slots = RowRef → Content
 
--- the row of a reference, of no values where there is none
+-- the row of a reference, or an empty one if it has none
 abbrev pub row_at : Slots → RowRef → List Value
 row_at now at = row_in (now at)
 
--- it has a row in use
+-- the reference has a row in use
 abbrev pub HasRow : Slots → RowRef → Type 0
 HasRow now at = (row : List Value) × (now at ≡ Live row)
 
--- it has a hidden row
+-- the reference has a hidden row
 abbrev pub HasHidden : Slots → RowRef → Type 0
 HasHidden now at = (row : List Value) × (now at ≡ Hidden row)
 
--- References by their rows, and those of equal rows by their slots: no two references compare equal.
+-- The order of references by their rows, and of equal rows by their slots: no two references compare equal.
 abbrev pub refs_by : ℕ → ℕ → Slots → RowRef → RowRef → Ordering
 refs_by column key now a b = ordering_then (rows_by column key (row_at now a) (row_at now b)) (nat_cmp a.slot b.slot)
 
--- how a row compares to a value in its column
+-- the comparison of a row with a value in its column
 abbrev pub place_by : ℕ → Slots → Value → RowRef → Ordering
 place_by column now value at = option_cmp value_cmp (slice_get (row_at now at) column) (Some value)
 

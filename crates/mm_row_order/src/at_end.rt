@@ -1,4 +1,4 @@
-//! The ends of a range along the order of an index.
+//! The ends of a range in the order of an index.
 ghost use Rattle.std.specs.Prelude.{◌≡◌};
 ghost use Rattle.std.specs.Option.{ForSome, option_map};
 ghost use Rattle.mm_value.specs.Prefix.{order_prefix};
@@ -28,7 +28,7 @@ pub struct AtEnd<'a> {
     ghost values_agree: { AreKeys column rows.now values } by { AreKeys-prop column rows.now values },
 }
 
-/// The prefix of an end, or 0 if there is none.
+/// Returns the prefix of an end, or 0 if there is none.
 pub fn prefix_of_end(end: Option<ValueRef<'_>>) -> u64
     ensures { ForSome end.entry (λ value. result ≡ order_prefix (value_of value)) }
 {

@@ -1,4 +1,4 @@
-//! The place of a number along the order of an index of numbers.
+//! The position of a number in the order of an index of numbers.
 ghost use Rattle.mm_value.specs.declared.values.Value.TheVariants.{Int};
 ghost use Rattle.mm_row_order.specs.Refs.{IsWide, place_by};
 ghost use Rattle.mm_partition.specs.Keys.{AreNumbers};
@@ -9,15 +9,15 @@ use mm_partition::{Partitions, index_of};
 use mm_value::RowRef;
 use std::cmp::Ordering;
 
-/// The place of a number along the order by a column of numbers. Its contract is that of
-/// [`AtValue`](crate::at_value::AtValue); it reads no row.
+/// The position of a number in the order by a column of numbers. Its contract is that of [`AtValue`](crate::at_value::AtValue), but it
+/// reads no row.
 #[derive(Drop)]
 pub struct AtNumber<'a> {
     pub rows: &'a Partitions,
     pub column: usize,
     pub key: usize,
     pub sought: i64,
-    /// The numbers of the column, an entry for each slot.
+    /// The numbers of the column, one for each slot.
     pub values: &'a [i64],
     ghost values_agree: { AreNumbers column rows.now values.now },
 }

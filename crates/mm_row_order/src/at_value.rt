@@ -1,4 +1,4 @@
-//! The place of a value along the order of an index.
+//! The position of a value in the order of an index.
 ghost use Rattle.std.specs.Prelude.{◌≡◌};
 ghost use Rattle.mm_value.specs.Prefix.{order_prefix};
 ghost use Rattle.mm_value.specs.Views.{value_of};
@@ -13,7 +13,7 @@ use mm_partition::{ColumnKeys, Partitions};
 use mm_value::{RowRef, ValueRef};
 use std::cmp::Ordering;
 
-/// The place of a value along the order by its column. Most comparisons need only the numbers or prefixes of the column.
+/// The position of a value in the order by its column. Most comparisons need only the numbers or prefixes of the column.
 #[derive(Drop)]
 pub struct AtValue<'a> {
     pub rows: &'a Partitions,

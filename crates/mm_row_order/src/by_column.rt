@@ -30,7 +30,7 @@ pub struct ByColumn<'a> {
 }
 
 impl<'a> ByColumn<'a> {
-    /// How two rows compare by the column, and then by the key.
+    /// Compares two rows by the column, and then by the key.
     #[inline(always)]
     fn compare_rows(&self, a: RowRef, b: RowRef) -> Ordering
         requires a { IsWide self.now.column self.now.key (slot_at self.now.rows.now) a }

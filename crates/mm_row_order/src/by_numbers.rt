@@ -13,15 +13,15 @@ use mm_value::RowRef;
 use std::cmp::Ordering;
 
 /// References by the numbers of their rows in a column, then by the numbers of their keys, then by their slots. Its contract is that of
-/// [`ByColumn`](crate::by_column::ByColumn); it reads no row.
+/// [`ByColumn`](crate::by_column::ByColumn), but it reads no row.
 #[derive(Drop)]
 pub struct ByNumbers<'a> {
     pub rows: &'a Partitions,
     pub column: usize,
     pub key: usize,
-    /// The numbers of the column, an entry for each slot.
+    /// The numbers of the column, one for each slot.
     pub values: &'a [i64],
-    /// The numbers of the key, an entry for each slot.
+    /// The numbers of the key, one for each slot.
     pub ties: &'a [i64],
     ghost values_agree: { AreNumbers column rows.now values.now },
     ghost ties_agree: { AreNumbers key rows.now ties.now },
@@ -30,9 +30,9 @@ pub struct ByNumbers<'a> {
 /// The numbers of a column and those of the key.
 #[derive(Drop)]
 pub struct NumberKeys<'a> {
-    /// The numbers of the column, an entry for each slot.
+    /// The numbers of the column, one for each slot.
     pub values: &'a [i64],
-    /// The numbers of the key, an entry for each slot.
+    /// The numbers of the key, one for each slot.
     pub ties: &'a [i64],
 }
 
@@ -50,7 +50,7 @@ pub fn number_keys<'a>(rows: &'a Partitions, column: usize, key: usize) -> Optio
 }
 
 impl<'a> ByNumbers<'a> {
-    /// How two rows compare by the column, and then by the key.
+    /// Compares two rows by the column, and then by the key.
     #[inline(always)]
     fn compare_rows(&self, a: RowRef, b: RowRef) -> Ordering
         requires a { IsWide self.now.column self.now.key (slot_at self.now.rows.now) a }

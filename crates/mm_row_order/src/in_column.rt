@@ -1,4 +1,4 @@
-//! How rows compare by one column: by its numbers, or by the prefixes of its texts if they are kept. Most comparisons read no row.
+//! Comparing rows by one column: by its numbers, or by the prefixes of its texts if they are kept. Most comparisons read no row.
 ghost use Rattle.std.specs.Prelude.{◌≡◌};
 ghost use Rattle.mm_value.specs.Prefix.{order_prefix};
 ghost use Rattle.mm_value.specs.Views.{value_of};
@@ -12,7 +12,7 @@ use mm_partition::{ColumnKeys, Partitions, index_of};
 use mm_value::{RowRef, ValueRef, compare};
 use std::cmp::Ordering;
 
-/// How two rows compare by their values in a column.
+/// Compares two rows by their values in a column, with a read of both rows.
 fn compare_values(rows: &Partitions, column: usize, a: RowRef, b: RowRef) -> Ordering
     requires a { HasColumn column (slot_at rows.now) a }
     requires b { HasColumn column (slot_at rows.now) b }
@@ -21,7 +21,7 @@ fn compare_values(rows: &Partitions, column: usize, a: RowRef, b: RowRef) -> Ord
     compare(&rows.get(a).value(column), &rows.get(b).value(column))
 }
 
-/// How two rows compare by a column.
+/// Compares two rows by a column.
 #[inline(always)]
 pub fn compare_in(
     rows: &Partitions,
@@ -52,7 +52,7 @@ pub fn compare_in(
     }
 }
 
-/// How a row compares to a value in a column, by a read of the row.
+/// Compares a row with a value in a column, with a read of the row.
 fn place_value(rows: &Partitions, column: usize, at: RowRef, sought: ValueRef<'_>) -> Ordering
     requires { HasColumn column (slot_at rows.now) at }
     ensures { result ≡ place_by column (slot_at rows.now) (value_of sought.entry) at }
@@ -60,7 +60,7 @@ fn place_value(rows: &Partitions, column: usize, at: RowRef, sought: ValueRef<'_
     compare(&rows.get(at).value(column), &sought)
 }
 
-/// How a row compares to a value with this prefix in a column.
+/// Compares a row with a value in a column, given the value's prefix.
 #[inline(always)]
 pub fn place_in(
     rows: &Partitions,

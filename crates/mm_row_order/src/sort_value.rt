@@ -9,7 +9,7 @@ use std::cmp::Ordering;
 
 /// A value to sort by.
 pub trait SortValue: AsValue {
-    /// How it compares to another.
+    /// Compares it with another value.
     fn compare_to(&self, other: &Self) -> Ordering
         ensures { result ≡ value_cmp (Self.value self.now) (Self.value other.now) };
 }
@@ -23,7 +23,7 @@ pub struct Prefixed<'a> {
 }
 
 impl<'a> Prefixed<'a> {
-    /// A value with its prefix.
+    /// Returns a value with its prefix.
     pub fn new(value: ValueRef<'a>) -> Self
         ensures { value_of result.value ≡ value_of value.entry }
     {

@@ -1,4 +1,4 @@
-//! References of rows, sorted by a column.
+//! Sorting the references of rows by a column.
 ghost use Rattle.std.specs.Prelude.{◌≡◌, ◌≢◌, ℕ, length, map, All, AllPairs, IsPermutation, IfOk, IfSome};
 ghost use Rattle.mm_partition.specs.Places.{slot_at};
 ghost use Rattle.mm_row_order.specs.Refs.{Slots, IsWide};
@@ -42,7 +42,7 @@ impl SortValue for Number {
     }
 }
 
-/// How two rows compare by their values in the column, and then by their keys.
+/// Compares two rows by their values in the column, and then by their keys.
 #[inline(always)]
 fn compare_values<V: SortValue>(a: &Sortable<V>, b: &Sortable<V>) -> Ordering
     ensures { result ≡ values_cmp V.AsValue.value a.now b.now }
@@ -55,14 +55,14 @@ fn compare_values<V: SortValue>(a: &Sortable<V>, b: &Sortable<V>) -> Ordering
     }
 }
 
-/// How two rows compare by their values in the column, then by their keys, then by their slots.
+/// Compares two rows by their values in the column, then by their keys, then by their slots.
 fn compare_rows<V: SortValue>(a: &Sortable<V>, b: &Sortable<V>) -> Ordering
     ensures { result ≡ sortable_cmp V.AsValue.value a.now b.now }
 {
     compare_values(a, b).then(a.at.slot.cmp(&b.at.slot))
 }
 
-/// The row of a reference, to be sorted by a column and the key.
+/// Returns the row of a reference, to be sorted by a column and the key.
 fn sortable_at(rows: &Partitions, column: usize, key: usize, at: RowRef) -> Sortable<Prefixed<'_>>
     requires { IsWide column key (slot_at rows.now) at }
     ensures of { IsOf value_of_prefixed column key (slot_at rows.now) result }
@@ -76,7 +76,7 @@ fn sortable_at(rows: &Partitions, column: usize, key: usize, at: RowRef) -> Sort
     }
 }
 
-/// The rows of these references, to be sorted by a column and the key, each value beside its prefix. `AllocError` if an allocation
+/// Returns the rows of these references, to be sorted by a column and the key, each value beside its prefix. `AllocError` if an allocation
 /// fails.
 fn sortables<'a>(
     alloc: Global,
@@ -96,8 +96,8 @@ fn sortables<'a>(
     Ok(list)
 }
 
-/// The rows of these references, to be sorted by numbers in the column and in the key, without a read of a row. `None` if one of the
-/// two has texts. `AllocError` if an allocation fails.
+/// Returns the rows of these references, to be sorted by numbers in the column and in the key, without a read of a row. `None` if one of
+/// the two has texts. `AllocError` if an allocation fails.
 fn numbered(
     alloc: Global,
     rows: &Partitions,
@@ -135,14 +135,14 @@ fn sort<V: SortValue>(list: &mut Vec<Sortable<V>>)
     list.sort_unstable_by(compare_rows);
 }
 
-/// The references of rows. `AllocError` if an allocation fails.
+/// Returns the references of rows. `AllocError` if an allocation fails.
 fn refs_of<V>(alloc: Global, list: &[Sortable<V>]) -> Result<Vec<RowRef>, AllocError>
     ensures { IfOk result (λ refs. refs.items ≡ map ref_of list.now) }
 {
     list.iter().map(|row| row.at).collect(alloc)
 }
 
-/// The references of rows, sorted by their values, then by their keys, then by their slots. `AllocError` if an allocation fails.
+/// Returns the references of rows, sorted by their values, then by their keys, then by their slots. `AllocError` if an allocation fails.
 fn in_order<V: SortValue>(
     alloc: Global,
     list: &mut Vec<Sortable<V>>,
@@ -155,8 +155,8 @@ fn in_order<V: SortValue>(
     refs_of(alloc, list.as_slice())
 }
 
-/// Returns references of rows, no two of them the same, sorted by a column, then by the key, then by the slot. `AllocError` if an allocation
-/// fails.
+/// Returns the references sorted by a column, then by the key, then by the slot. Requires that no two references are equal. `AllocError` if
+/// an allocation fails.
 pub fn sorted_refs(
     alloc: Global,
     rows: &Partitions,

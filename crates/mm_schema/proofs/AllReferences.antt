@@ -1,4 +1,4 @@
--- All references of a catalog, and what a change of its tables makes of them.
+-- All foreign keys of a catalog, and the effect of a change of its tables on them.
 use Rattle.std.proofs.Common.{◌≡◌, ◌≢◌, ℕ, zero, suc, ◌+◌, ◌<◌, ◌≤◌, ◌==◌, Bool, true, false, cond, ltb, not, ◌&&◌, List, [], ◌∷◌, ◌++◌, Option, Some, None}
 use Rattle.std.proofs.Common.{inl, inr, filter, find, is_none, length, map, slice_get, All, Contains, refl, sym, ap, subst, ◌∙◌, append_assoc, append-nil}
 use Rattle.std.proofs.Common.{arith}
@@ -34,7 +34,7 @@ use Rattle.mm_schema.proofs.References.{first_none, lacks, same_with, same_witho
 abbrev has : List ℕ → Table → Bool
 has name table = same_name name (name_of table)
 
--- the place of a name that some table has
+-- the position of the table with a name, which exists
 abbrev first : List ℕ → List Table → ℕ
 first name tables = position_or_len (has name) tables
 
@@ -45,12 +45,12 @@ module _ (P : List ℕ → Type 0) where
   IsSoAt None = Unit {0}
   IsSoAt (Some name) = P name
 
-  -- It is so of each name that a column refers to.
+  -- A property holds of the name of each table that a column refers to.
   abbrev IsSoOfTargets : List Column → Type 0
   IsSoOfTargets columns = AllByRecursion (λ (c : Column). IsSoAt (target_of c)) columns
 
   module _ {X : Type 0} (f g : ℕ × List ℕ → X) (same : (place : ℕ) (name : List ℕ) → P name → f (place, name) ≡ g (place, name)) where
-    -- What agrees at these names gives the same of all references.
+    -- Two functions that agree at these names agree on all foreign keys.
     references_agree : (place : ℕ) (columns : List Column) → IsSoOfTargets columns
         → map f (references_from place columns) ≡ map g (references_from place columns)
     references_agree place [] so = refl
@@ -66,7 +66,7 @@ module _ (test : List ℕ → Bool) where
   fails_at None none = tt
   fails_at (Some name) none = none
 
-  -- A test that no column's target passes fails at each.
+  -- A test that no column's target passes fails for each.
   fail_at : (columns : List Column) → list_any (λ c. option_map_or test (target_of c) false) columns ≡ false
       → IsSoOfTargets (λ name. test name ≡ false) columns
   fail_at [] none = tt
@@ -93,20 +93,20 @@ module _ (change : Table → Table) (same : (t : Table) → (change t).definitio
   behind_kept schema place [] = refl
   behind_kept schema place (t ∷ ts) = λ i. map (reference_kept schema place i) (references_of (same t i).columns) ++ behind_kept schema (place + 1) ts i
 
--- An index changes no reference, ..
+-- A new index changes no foreign key, ..
 pub references_with_index : (index : IndexDef) (schema : Schema) → all_references (with_index index schema) ≡ all_references schema
 references_with_index index schema = behind_kept (table_with_index index) (same_with index) schema 0 schema.tables
 
--- .. and neither does one that goes.
+-- .. and neither does dropping one.
 pub references_without_index : (name : List ℕ) (schema : Schema) → all_references (without_index name schema) ≡ all_references schema
 references_without_index name schema = behind_kept (table_without_index name) (same_without name) schema 0 schema.tables
 
--- ---- names that are there
+-- ---- existing names
 
 pub placed : (at len : ℕ) → at < len → unwrap_or (cond (ltb at len) (Some at) None) 0 ≡ at
 placed at len h = grind (arith, nat_tests)
 
--- A name that a table has is within the catalog.
+-- The position of an existing table is within the catalog.
 pub within : (name : List ℕ) (tables : List Table) → lacks name tables ≡ false → first name tables < length tables
 within name [] there = cc
 within name (t ∷ ts) there = by (has name t) there (within name ts)
@@ -116,7 +116,7 @@ within name (t ∷ ts) there = by (has name t) there (within name ts)
     by true there later = omega arith
     by false there later = let rest = later there in omega arith
 
--- The place that a reference to it has.
+-- The position that a foreign key has for the table.
 target_place : (name : List ℕ) (schema : Schema) → lacks name schema.tables ≡ false → unwrap_or (table_place name schema) 0 ≡ first name schema.tables
 target_place name schema there = placed _ _ (within name schema.tables there)
 
@@ -139,7 +139,7 @@ module _ (definition : TableDef) (schema : Schema) where
   abbrev IsThere : List ℕ → Type 0
   IsThere name = lacks name schema.tables ≡ false
 
-  -- A name that is there keeps its place.
+  -- An existing name keeps its position.
   reference_stays : (from column : ℕ) (name : List ℕ) → IsThere name
       → reference_at (with_table definition schema) from (column, name) ≡ reference_at schema from (column, name)
   reference_stays from column name there =
@@ -167,7 +167,7 @@ module _ (definition : TableDef) (schema : Schema) where
       (map (reference_at schema ((place + 1) + length ts)) (references_of definition.columns)))
       ∙ ap (λ n. references_behind schema place (t ∷ ts) ++ map (reference_at schema n) (references_of definition.columns)) same
 
-  -- A new table's references come last.
+  -- A new table's foreign keys are appended.
   pub references_with_table : HasTargets schema → first_refusal (table_conditions definition schema) ≡ None
       → all_references (with_table definition schema)
       ≡ all_references schema ++ map (reference_at schema (length schema.tables)) (references_of definition.columns)
@@ -176,7 +176,7 @@ module _ (definition : TableDef) (schema : Schema) where
       behind_added 0 schema.tables (recursion_from_All _ schema.tables whole) (first_none _ _ _ due)
       ∙ ap (λ n. all_references schema ++ map (reference_at schema n) (references_of definition.columns)) same
 
--- ---- a table that goes
+-- ---- a dropped table
 
 above_before : (gone place : ℕ) → place < gone → above gone place ≡ place
 above_before gone place h = grind (arith, nat_tests)
@@ -201,7 +201,7 @@ module _ (gone : List ℕ) where
   all_stay [] lack = refl
   all_stay (t ∷ ts) lack = λ i. cond (not (lack.0 i)) (t ∷ all_stay ts lack.1 i) (all_stay ts lack.1 i)
 
-  -- Another name moves up where it stood behind.
+  -- Another table moves forward by one if it was later.
   first_without : (name : List ℕ) → same_name gone name ≡ false → (tables : List Table) → IsDistinct same_name (map name_of tables)
       → first name (filter stays tables) ≡ above (first gone tables) (first name tables)
   first_without name other [] distinct = refl
@@ -232,7 +232,7 @@ module _ (gone : List ℕ) where
     abbrev kept : Reference → Bool
     kept r = not (r.from == place_of_gone)
 
-    -- The references that are left of some.
+    -- The foreign keys that remain of some.
     abbrev left : List Reference → List Reference
     left rs = map (moved_up place_of_gone) (filter kept rs)
 
@@ -265,7 +265,7 @@ module _ (gone : List ℕ) where
         ∙ sym (map-map (moved_up place_of_gone) (reference_at schema from) (references_of columns))
         ∙ ap (map (moved_up place_of_gone)) (sym (all_kept from differs (references_of columns)))
 
-    -- The tables behind the one that is gone move up by one, ..
+    -- The tables after the dropped one move forward by one, ..
     behind_moves : (place : ℕ) → place_of_gone ≤ place → (tables : List Table) → LackName gone tables → AllByRecursion RefersToOther tables
         → references_behind (without_table gone schema) place tables ≡ left (references_behind schema (place + 1) tables)
     behind_moves place behind [] lack other = refl
@@ -278,7 +278,7 @@ module _ (gone : List ℕ) where
         not_first : (n k : ℕ) → k ≤ n → ((n + 1) == k) ≡ false
         not_first n k h = grind (arith, nat_tests)
 
-    -- .. and those in front of it stay.
+    -- .. and those before it are unchanged.
     tables_move : (place : ℕ) (tables : List Table) → place + first gone tables ≡ place_of_gone → IsDistinct same_name (map name_of tables)
         → AllByRecursion RefersToOther tables
         → references_behind (without_table gone schema) place (filter stays tables) ≡ left (references_behind schema place tables)
@@ -344,7 +344,7 @@ module _ (gone : List ℕ) where
         refer_to_others schema distinct ts there.1 p.1,
       )
 
--- Without a table its references are gone, and the places behind it move up.
+-- Without a table its foreign keys are gone, and later positions decrease by one.
 pub references_without_table : (name : List ℕ) (schema : Schema) (place : ℕ) → table_place name schema ≡ Some place → HasDistinctNames schema
     → HasTargets schema → first_refusal (drop_table_conditions name schema) ≡ None
     → all_references (without_table name schema) ≡ map (moved_up place) (filter (λ r. not (r.from == place)) (all_references schema))
@@ -356,9 +356,9 @@ references_without_table name schema place found distinct whole due =
     (or_parts (list_any (is_other_referring_to name) schema.tables) (list_any (reads_table name) schema.standing) (second_none _ _ _ _ _ due)).0)
     ∙ ap (λ k. map (moved_up k) (filter (λ r. not (r.from == k)) (all_references schema))) (sym at)
 
--- ---- the places of a reference
+-- ---- the positions of a foreign key
 
--- The table that refers, another that it refers to, and a column that it has.
+-- The referring table exists, its column exists, and it refers to another table that exists.
 pub record IsReferenceWithin (schema : Schema) (reference : Reference) : Type 0 where
   pub table : Table
   pub here : slice_get schema.tables reference.from ≡ Some table
@@ -435,7 +435,7 @@ module _ (schema : Schema) where
       (tables_within (place + 1) ts (λ k. let next : (place + 1) + k ≡ place + suc k = omega arith in ap (slice_get schema.tables) next ∙ at (suc k))
       there.1 others.1)
 
-  -- Each reference is from a column of a table to another table.
+  -- Each foreign key is from a column of a table to another table.
   pub reference_there : HasTargets schema → RefersToOthers schema → (reference : Reference) → Contains (all_references schema) reference
       → IsReferenceWithin schema reference
   reference_there whole others reference among =
@@ -443,7 +443,7 @@ module _ (schema : Schema) where
       (tables_within 0 schema.tables (λ k. let same : 0 + k ≡ k = omega arith in ap (slice_get schema.tables) same)
       (recursion_from_All _ schema.tables whole) (recursion_from_All _ schema.tables others)) among
 
--- ---- tables that refer to others alone
+-- ---- tables that refer only to others
 
 abbrev OfOthers : Table → Type 0
 OfOthers t = list_any (refers_to (name_of t)) t.definition.columns ≡ false
@@ -459,7 +459,7 @@ module _ (name : List ℕ) (schema : Schema) (free : table_named name schema ≡
     | inr differs ↦ differs
   ]
 
-  -- Columns whose targets are there don't refer to a name that is free.
+  -- Columns whose targets exist do not refer to an unused name.
   none_to : (columns : List Column) → list_any (lacks_target schema) columns ≡ false → list_any (refers_to name) columns ≡ false
   none_to [] there = refl
   none_to (c ∷ cs) there =

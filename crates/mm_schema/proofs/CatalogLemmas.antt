@@ -1,4 +1,4 @@
--- The entries of the catalog's map, seen as its tables.
+-- The entries of the catalog's map, as its tables.
 use Rattle.std.proofs.Common.{◌≡◌, ℕ, ◌+◌, Bool, true, false, cond, not, List, [], ◌∷◌, ◌++◌, Some, None, All, map, filter, find, position, ltb, refl, sym}
 use Rattle.std.proofs.Common.{ap, ◌∙◌, subst}
 use Rattle.std.specs.List.{AllByRecursion, IsDistinct, position_or_len}
@@ -23,7 +23,7 @@ use Rattle.mm_schema.proofs.DuplicateIndexes.{distinct_in_fewer}
 abbrev pub Entry : Type 0
 Entry = List ℕ × Table
 
--- the entry stands under its table's name
+-- the entry is stored under its table's name
 abbrev pub IsKeyed : Entry → Type 0
 IsKeyed entry = entry.0 ≡ entry.1.definition.name
 
@@ -35,13 +35,13 @@ names (e ∷ es) keyed = ap (λ k. k ∷ keys_of es) keyed.0 ∙ ap (λ ks. e.1.
 pub keys_are_names : (tables : Tables) → IsKeyedByName tables → keys_of tables.entries ≡ map (λ table. table.definition.name) (tables_of tables)
 keys_are_names tables keyed = names tables.entries (recursion_from_All IsKeyed tables.entries keyed)
 
--- a place in a list of names is the place of the table
+-- a position in a list of names is the position of the table
 place_in_names : (name : List ℕ) (tables : List Table)
     → position_or_len (same_name name) (map (λ table. table.definition.name) tables) ≡ position_or_len (λ table. same_name name table.definition.name) tables
 place_in_names name [] = refl
 place_in_names name (t ∷ ts) = ap (λ n. cond (not (same_name name t.definition.name)) (1 + n) 0) (place_in_names name ts)
 
--- The place of a key is the place of the table of that name.
+-- The position of a key is the position of the table with that name.
 pub place_of_key : {standing : List StandingDef} (name : List ℕ) (tables : Tables) (schema : Schema) → IsKeyedByName tables
     → record { tables = tables_of tables; standing = standing } ≡ schema
     → position (same_name name) (keys_of tables.entries) ≡ table_place name schema
@@ -51,7 +51,7 @@ place_of_key name tables schema keyed view =
     (Some (place_in_names name (tables_of tables) i)) None)
     ∙ ap (table_place name) view
 
--- Keys that differ are names that differ.
+-- Distinct keys are distinct names.
 pub distinct_names : {standing : List StandingDef} (tables : Tables) (schema : Schema) → IsKeyedByName tables
     → record { tables = tables_of tables; standing = standing } ≡ schema
     → IsDistinct same_name (keys_of tables.entries) → HasDistinctNames schema
@@ -65,14 +65,14 @@ found name (e ∷ es) keyed =
     ap (λ k. cond (same_name name k) (Some e.1) (lookup (same_name name) es)) keyed.0
     ∙ ap (cond (same_name name e.1.definition.name) (Some e.1)) (found name es keyed.1)
 
--- A name without a table is no key.
+-- A name without a table is not a key.
 absent_key : {standing : List StandingDef} (name : List ℕ) (tables : Tables) (schema : Schema) → IsKeyedByName tables
     → record { tables = tables_of tables; standing = standing } ≡ schema
     → table_named name schema ≡ None → lookup (same_name name) tables.entries ≡ None
 absent_key name tables schema keyed view none =
     found name tables.entries (recursion_from_All IsKeyed tables.entries keyed) ∙ ap (table_named name) view ∙ none
 
--- A table that nothing refuses has a new name, so its entry comes last.
+-- A table that nothing refuses has a new name, so its entry is appended.
 pub entry_comes_last : {standing : List StandingDef} (definition : TableDef) (tables : Tables) (schema : Schema) → IsKeyedByName tables
     → record { tables = tables_of tables; standing = standing } ≡ schema
     → first_refusal (table_conditions definition schema) ≡ None → (table : Table)
@@ -81,11 +81,11 @@ entry_comes_last definition tables schema keyed view due table =
     insert_entry-new same_name tables definition.name table
     (absent_key definition.name tables schema keyed view (new_name_is_free definition schema due))
 
--- the table as it is new
+-- the new table
 abbrev pub new_table : TableDef → Table
 new_table definition = record { definition = definition; indexes = [] }
 
--- the entries, and one more under its table's name
+-- the entries, and one more, stored under its table's name
 abbrev pub IsPushed : TableDef → Tables → Tables → Type 0
 IsPushed definition old new = new.entries ≡ old.entries ++ (definition.name, new_table definition) ∷ []
 
@@ -96,7 +96,7 @@ indexes_pushed : (definition : TableDef) (ts : List Table) → indexes_of (ts ++
 indexes_pushed definition [] = refl
 indexes_pushed definition (t ∷ ts) = ap (λ is. t.indexes ++ is) (indexes_pushed definition ts)
 
--- One more entry under its table's name leaves each under its own.
+-- One more entry under its table's name preserves that each is stored under its own.
 pub sound_push : (definition : TableDef) (old new : Tables) → IsPushed definition old new → IsSound old → IsSound new
 sound_push definition old new pushed sound = record {
   keyed = subst (All IsKeyed) (sym pushed) (All-push IsKeyed old.entries _ sound.keyed refl);
@@ -112,7 +112,7 @@ view_push {standing} definition old new schema pushed view =
     ap (λ ts. record { tables = ts; standing = standing }) (tables_pushed definition old new pushed)
     ∙ ap (with_table definition) view
 
--- ---- a table gone
+-- ---- a dropped table
 
 -- the tables of some entries
 abbrev pub seconds : List Entry → List Table
@@ -156,7 +156,7 @@ module _ (name : List ℕ) where
         ap seconds removed
         ∙ tables_left old.entries (recursion_from_All IsKeyed old.entries sound.keyed) (subst HasDistinctNames (sym view) distinct)
 
-    -- Without a table each still stands under its own name, ..
+    -- Without a table, each is still stored under its own name, ..
     pub sound_without : IsSound new
     sound_without = record {
       keyed = subst (All IsKeyed) (sym removed)
@@ -165,6 +165,6 @@ module _ (name : List ℕ) where
       in_place = subst (All HasOwnIndexes) (sym left) (All-filter other HasOwnIndexes (tables_of old) sound.in_place);
     }
 
-    -- .. and the others are there in order.
+    -- .. and the others are in order.
     pub view_without : record { tables = tables_of new; standing = standing } ≡ without_table name schema
     view_without = ap (λ ts. record { tables = ts; standing = standing }) left ∙ ap (without_table name) view

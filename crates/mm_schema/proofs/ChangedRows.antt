@@ -1,4 +1,4 @@
--- What a change makes of the rows of a table: which rows are there afterwards, in which order, and what additions make.
+-- The rows of a table after a change: which rows, in which order, and the effect of inserts.
 use Rattle.std.proofs.Common.{◌≡◌, ℕ, ◌<◌, Bool, true, false, not, List, [], ◌∷◌, ◌++◌, Option, Some, None, length, ◌⊎◌, inl, inr, refl, sym, ap, ◌∙◌, subst}
 use Rattle.std.proofs.Common.{arith}
 use Rattle.std.specs.List.{Contains, filter, filter_map, list_any}
@@ -16,7 +16,7 @@ use Rattle.mm_schema.proofs.Orderings.{equal_from_is_eq}
 use Rattle.mm_schema.proofs.StrictOrder.{IsIn, IsIn-from_Contains, Contains-from_IsIn}
 use Rattle.mm_schema.proofs.Duplicates.{Row, has_duplicate_keys-IsPermutation}
 
--- ---- what a filter leaves
+-- ---- the result of a filter
 
 module _ {X : Type 0} (p : X → Bool) where
   passes_in_filter : (xs : List X) (x : X) → IsIn x xs → p x ≡ true → IsIn x (filter p xs)
@@ -40,9 +40,9 @@ module _ {X : Type 0} (p : X → Bool) where
         let found = from_filter ys x kept in (inr found.0, found.1)
   ]
 
--- ---- the rows that come
+-- ---- new rows
 
--- a row comes in a pair of the list
+-- a row is the new row of a pair in the list
 abbrev ComesIn : Row → List Pair → Type 0
 ComesIn row pairs = (old : Option Row) × IsIn {X = Pair} (old, Some row) pairs
 
@@ -59,9 +59,9 @@ new_comes_in row ((was, Some new) ∷ ps) (inl same) = (was, inl (ap (λ (r : Ro
 new_comes_in row ((was, Some new) ∷ ps) (inr later) = let found = new_comes_in row ps later in (found.0, inr found.1)
 new_comes_in row ((was, None) ∷ ps) here = let found = new_comes_in row ps here in (found.0, inr found.1)
 
--- ---- the rows that stay
+-- ---- kept rows
 
--- no row that goes has the row's key
+-- no old row of the pairs has the row's key
 abbrev StaysIn : ℕ → Row → List Pair → Type 0
 StaysIn key row pairs = (old : Row) (new : Option Row) → IsIn {X = Pair} (Some old, new) pairs → column_cmp key row old ≡ Equal → ⊥
 
@@ -89,13 +89,13 @@ stays_from_none key row ((gone, come) ∷ ps) none old new (inr later) same =
     let parts = or_parts (goes key row gone) (list_any (λ (p : Pair). goes key row p.0) ps) none in
     stays_from_none key row ps parts.1 old new later same
 
--- ---- which rows are there after a change
+-- ---- the rows after a change
 
 pub not_true : (b : Bool) → not b ≡ true → b ≡ false
 not_true true e = (cc)
 not_true false e = refl
 
--- the rows before they are sorted are those afterwards
+-- the rows before sorting are those after it
 to_changed : (key : ℕ) (pairs : List Pair) (rows : List Row) (row : Row) → Contains (unsorted key pairs rows) row → 0 < length pairs
     → Contains (changed key pairs rows) row
 to_changed key [] rows row here some = absurd (omega arith)
@@ -109,7 +109,7 @@ staying : (key : ℕ) (pairs : List Pair) (row : Row)
     → StaysIn key row pairs
 staying key pairs row stays old new here same = stays old new (Contains-from_IsIn {X = Pair} pairs (Some old, new) here) same
 
--- A row that has the key of no row that goes is still there.
+-- A row whose key no old row of the change has is kept.
 pub row_stays : (key : ℕ) (pairs : List Pair) (rows : List Row) (row : Row) → Contains rows row
     → ((old : Row) (new : Option Row) → Contains {X = Pair} pairs (Some old, new) → column_cmp key row old ≡ Equal → ⊥) → Contains (changed key pairs rows) row
 row_stays key [] rows row here stays = here
@@ -121,7 +121,7 @@ row_stays key (p ∷ ps) rows row here stays =
     (passes_in_filter (λ r. not (list_any (λ (q : Pair). goes key r q.0) (p ∷ ps))) rows row (IsIn-from_Contains rows row here) kept)))
     (omega arith)
 
--- A row that comes is there.
+-- A new row is in the table.
 pub row_comes : (key : ℕ) (pairs : List Pair) (rows : List Row) (old : Option Row) (new : Row) → Contains {X = Pair} pairs (old, Some new)
     → Contains (changed key pairs rows) new
 row_comes key pairs rows old new here =
@@ -129,7 +129,7 @@ row_comes key pairs rows old new here =
     (Contains-append_right _ _ new (Contains-from_IsIn _ new (comes_in_new new pairs old (IsIn-from_Contains {X = Pair} pairs (old, Some new) here))))
     (some_pairs pairs (old, Some new) here)
 
--- Each other row is one that stays.
+-- Each other row was kept.
 pub no_other_row : (key : ℕ) (pairs : List Pair) (rows : List Row) (row : Row) → Contains (changed key pairs rows) row
     → ((old : Option Row) × Contains {X = Pair} pairs (old, Some row))
     ⊎ (Contains rows row × ((old : Row) (new : Option Row) → Contains {X = Pair} pairs (Some old, new) → column_cmp key row old ≡ Equal → ⊥))
@@ -151,7 +151,7 @@ no_other_row key (p ∷ ps) rows row here =
           inl (found.0, Contains-from_IsIn {X = Pair} (p ∷ ps) (found.0, Some row) found.1)
     ]
 
--- ---- additions
+-- ---- inserts
 
 none_goes_for_additions : (key : ℕ) (row : Row) (fresh : List Row) → list_any (λ (p : Pair). goes key row p.0) (additions fresh) ≡ false
 none_goes_for_additions key row [] = refl
@@ -165,19 +165,19 @@ all_come : (fresh : List Row) → filter_map (λ (p : Pair). p.1) (additions fre
 all_come [] = refl
 all_come (f ∷ fs) = ap (λ xs. f ∷ xs) (all_come fs)
 
--- New rows stand behind the old ones before they are sorted.
+-- Before sorting, new rows follow the old ones.
 pub unsorted-additions : (key : ℕ) (fresh rows : List Row) → unsorted key (additions fresh) rows ≡ rows ++ fresh
 unsorted-additions key fresh rows =
     ap (λ xs. xs ++ filter_map (λ (p : Pair). p.1) (additions fresh)) (all_stay key fresh rows) ∙ ap (λ xs. rows ++ xs) (all_come fresh)
 
--- The old rows with new ones among them are the same rows in another order, ..
+-- The old and new rows together are a permutation of the changed rows, ..
 pub IsPermutation-additions : (key : ℕ) (fresh rows : List Row) → IsPermutation (rows ++ fresh) (changed key (additions fresh) rows)
 IsPermutation-additions key [] rows = subst (λ xs. IsPermutation xs rows) (sym (append-nil rows)) (IsPermutation-refl rows)
 IsPermutation-additions key (f ∷ fs) rows =
     subst (λ xs. IsPermutation xs (in_order (column_cmp key) (unsorted key (additions (f ∷ fs)) rows))) (unsorted-additions key (f ∷ fs) rows)
     (IsPermutation-in_order (column_cmp key) (unsorted key (additions (f ∷ fs)) rows))
 
--- .. and what is in key order and has the same rows is just that.
+-- .. and a permutation of them in key order equals the changed rows.
 pub changed-additions : (key : ℕ) (fresh rows ordered : List Row) → IsInKeyOrder key rows → IsPermutation (rows ++ fresh) ordered → IsInKeyOrder key ordered
     → changed key (additions fresh) rows ≡ ordered
 changed-additions key [] rows ordered order moved ascends =
@@ -188,7 +188,7 @@ changed-additions key (f ∷ fs) rows ordered order moved ascends =
 
 -- ---- in key order
 
--- Rows in key order that are changed are in key order again, unless two of them have one key.
+-- Rows in key order are in key order after a change, unless two of them have the same key.
 pub IsInKeyOrder-changed : (key : ℕ) (pairs : List Pair) (rows : List Row) → IsInKeyOrder key rows → has_duplicate_keys key (changed key pairs rows) ≡ false
     → IsInKeyOrder key (changed key pairs rows)
 IsInKeyOrder-changed key [] rows order none = order

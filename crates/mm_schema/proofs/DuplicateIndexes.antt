@@ -1,4 +1,4 @@
--- Indexes of one name: what keeps a list free of them.
+-- Indexes with the same name: operations that create none.
 use Rattle.std.proofs.Common.{◌≡◌, ℕ, ◌||◌, Bool, true, false, cond, not, List, [], ◌∷◌, ◌++◌, ◌⊎◌, filter, map, inl, inr, refl, sym, ap, ◌∙◌, append_assoc}
 use Rattle.std.proofs.Common.{append-nil}
 use Rattle.std.specs.List.{IsDistinct, list_any}
@@ -31,7 +31,7 @@ free_with name [] new ys free differs = or_from _ _ differs free
 free_with name (x ∷ xs) new ys free differs =
     let p = or_parts (same_name name x.name) (is_taken name (xs ++ ys)) free in or_from _ _ p.0 (free_with name xs new ys p.1 differs)
 
--- An index of a new name may stand anywhere.
+-- An index with a new name creates no duplicate at any position.
 duplicates_with : (xs : List IndexDef) (new : IndexDef) (ys : List IndexDef) → is_taken new.name (xs ++ ys) ≡ false → has_duplicate_indexes (xs ++ ys) ≡ false
     → has_duplicate_indexes (xs ++ new ∷ ys) ≡ false
 duplicates_with [] new ys free none = or_from _ _ free none
@@ -52,7 +52,7 @@ free_among name keep (x ∷ xs) free =
     by true differs others = or_from _ _ differs others
     by false differs others = others
 
--- Fewer indexes have no duplicates either.
+-- A sublist has no duplicates either.
 duplicates_among : (keep : IndexDef → Bool) (xs : List IndexDef) → has_duplicate_indexes xs ≡ false → has_duplicate_indexes (filter keep xs) ≡ false
 duplicates_among keep [] none = refl
 duplicates_among keep (x ∷ xs) none =
@@ -63,12 +63,12 @@ duplicates_among keep (x ∷ xs) none =
     by true free others = or_from _ _ free others
     by false free others = others
 
--- The indexes behind others have none.
+-- The later indexes of a list have none.
 pub duplicates_behind : (xs ys : List IndexDef) → has_duplicate_indexes (xs ++ ys) ≡ false → has_duplicate_indexes ys ≡ false
 duplicates_behind [] ys none = none
 duplicates_behind (x ∷ xs) ys none = duplicates_behind xs ys (or_parts (is_taken x.name (xs ++ ys)) (has_duplicate_indexes (xs ++ ys)) none).1
 
--- Others may stand behind where they have no name that wasn't there.
+-- The later indexes may be replaced by ones without new names.
 duplicates_instead : (xs ys zs : List IndexDef) → ((name : List ℕ) → is_taken name ys ≡ false → is_taken name zs ≡ false)
     → has_duplicate_indexes (xs ++ ys) ≡ false → has_duplicate_indexes zs ≡ false → has_duplicate_indexes (xs ++ zs) ≡ false
 duplicates_instead [] ys zs fewer none others = others
@@ -79,7 +79,7 @@ duplicates_instead (x ∷ xs) ys zs fewer none others =
 
 -- ---- tables
 
--- Where an index comes, or that none does.
+-- The position at which an index is inserted, or that it is not inserted.
 record IsParted (index : IndexDef) (old new : List IndexDef) : Type 0 where
   before : List IndexDef
   behind : List IndexDef
@@ -87,7 +87,7 @@ record IsParted (index : IndexDef) (old new : List IndexDef) : Type 0 where
   new_is : (new ≡ before ++ index ∷ behind) ⊎ (new ≡ old)
 
 module _ (index : IndexDef) where
-  -- Tables of other names stay.
+  -- Tables with other names are unchanged.
   pub others_stay : (tables : List Table) → LackName index.table tables → map (table_with_index index) tables ≡ tables
   others_stay [] lack = refl
   others_stay (t ∷ ts) lack = λ i. cond (lack.0 i) (record t { indexes = t.indexes ++ index ∷ [] }) t ∷ others_stay ts lack.1 i
@@ -120,7 +120,7 @@ module _ (index : IndexDef) where
         ];
       }
 
-  -- An index of a new name leaves all names distinct.
+  -- An index with a new name keeps all names distinct.
   pub distinct_with : (tables : List Table) → IsDistinct same_name (map name_of tables) → is_taken index.name (indexes_of tables) ≡ false
       → has_duplicate_indexes (indexes_of tables) ≡ false → has_duplicate_indexes (indexes_of (map (table_with_index index) tables)) ≡ false
   distinct_with tables distinct free none =
@@ -142,7 +142,7 @@ module _ (name : List ℕ) where
       let p = or_parts (same_name name x.name) (is_taken name xs) free in
       λ i. cond (not (p.0 i)) (x ∷ all_kept xs p.1 i) (all_kept xs p.1 i)
 
-  -- A table without an index of the name stays, ..
+  -- A table without an index with the name is unchanged, ..
   pub stays_without : (t : Table) → is_taken name t.indexes ≡ false → table_without_index name t ≡ t
   stays_without t free = ap (λ is. record t { indexes = is }) (all_kept t.indexes free)
 
@@ -152,7 +152,7 @@ module _ (name : List ℕ) where
   stay_without (t ∷ ts) free =
       let p = is_taken-append name t.indexes (indexes_of ts) free in λ i. stays_without t p.0 i ∷ stay_without ts p.1 i
 
-  -- An index that comes and goes again leaves all tables as they were.
+  -- Appending an index and dropping it again leaves all tables as they were.
   pub with_and_without : (index : IndexDef) (tables : List Table) → name ≡ index.name → is_taken name (indexes_of tables) ≡ false
       → map (table_without_index name) (map (table_with_index index) tables) ≡ tables
   with_and_without index [] is free = refl
@@ -172,7 +172,7 @@ module _ (name : List ℕ) where
           ∙ append-nil (filter keeps t.indexes) ∙ all_kept t.indexes free_here)
       by false free_here = stays_without t free_here
 
-  -- A name that is taken in front is free behind.
+  -- A name used by an earlier index is not used by a later one.
   pub free_behind : (xs ys : List IndexDef) → is_taken name xs ≡ true → has_duplicate_indexes (xs ++ ys) ≡ false → is_taken name ys ≡ false
   free_behind [] ys taken none = cc
   free_behind (x ∷ xs) ys taken none =
@@ -189,7 +189,7 @@ module _ (name : List ℕ) where
   indexes_left [] = refl
   indexes_left (t ∷ ts) = ap (λ is. filter keeps t.indexes ++ is) (indexes_left ts) ∙ sym (filter-append keeps t.indexes (indexes_of ts))
 
-  -- Without an index all names stay distinct.
+  -- Without an index, all names are still distinct.
   pub distinct_without : (tables : List Table) → has_duplicate_indexes (indexes_of tables) ≡ false
       → has_duplicate_indexes (indexes_of (map (table_without_index name) tables)) ≡ false
   distinct_without tables none = ap has_duplicate_indexes (indexes_left tables) ∙ duplicates_among keeps (indexes_of tables) none
@@ -205,7 +205,7 @@ module _ (stays : Table → Bool) where
       by true first others = is_taken-joined name t.indexes (indexes_of (filter stays ts)) first others
       by false first others = others
 
-  -- Fewer tables have distinct names of indexes too.
+  -- The names of the indexes of fewer tables are distinct too.
   pub distinct_in_fewer : (tables : List Table) → has_duplicate_indexes (indexes_of tables) ≡ false
       → has_duplicate_indexes (indexes_of (filter stays tables)) ≡ false
   distinct_in_fewer [] none = refl

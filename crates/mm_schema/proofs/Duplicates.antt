@@ -1,4 +1,4 @@
--- Rows with one key: which lists have two, whatever their order.
+-- Rows with the same key: which lists have two, in any order.
 use Rattle.std.proofs.Common.{◌≡◌, ℕ, suc, ◌+◌, ◌<◌, ◌≤◌, Bool, true, false, cond, ◌||◌, List, [], ◌∷◌, ◌++◌, length, get_or, inl, inr, refl, sym, ap, ◌∙◌}
 use Rattle.std.proofs.Common.{arith, add-one}
 use Rattle.std.specs.Cmp.{IsTotalOrder}
@@ -24,7 +24,7 @@ use Rattle.mm_schema.proofs.StrictOrder.{IsStrictlySortedBy-before}
 abbrev pub Row : Type 0
 Row = List Value
 
--- rows compare by a column in a total order
+-- a column orders rows totally
 pub column_cmp_total : (key : ℕ) → IsTotalOrder (column_cmp key)
 column_cmp_total key = on_total (λ (row : Row). slice_get row key) (options_total value_cmp_total)
 
@@ -36,13 +36,13 @@ same_false false t f g = sym (f refl)
 pub same_in_column_comm : (key : ℕ) (a b : Row) → same_in_column key a b ≡ same_in_column key b a
 same_in_column_comm key a b = ap is_eq ((column_cmp_total key).antisymm a b) ∙ is_eq_reversed (column_cmp key b a)
 
--- rows with one key are like the same rows
+-- rows with the same key compare alike with others
 pub alike : (key : ℕ) (a b c : Row) → same_in_column key a b ≡ true → same_in_column key a c ≡ same_in_column key b c
 alike key a b c same = ap is_eq ((column_cmp_total key).congr a b c (equal_from_is_eq (column_cmp key a b) same))
 
 -- ---- counts
 
--- how many of the rows have the key of one
+-- the number of rows with the key of one row
 count_of : ℕ → Row → List Row → ℕ
 count_of key row rows = count_by (same_in_column key row) rows
 
@@ -88,7 +88,7 @@ alike_count key a b (r ∷ rs) same =
     let here : ◌≡◌ {A = ℕ} (cond (same_in_column key a r) 1 0) (cond (same_in_column key b r) 1 0) = ap (λ t. cond t 1 0) (alike key a b r same) in
     omega (arith, here, count_of-cons key a r rs, count_of-cons key b r rs, alike_count key a b rs same)
 
--- without duplicates each key stands once at most ..
+-- without duplicates each key occurs at most once ..
 counted_once : (key : ℕ) (rows : List Row) → has_duplicate_keys key rows ≡ false → (row : Row) → count_of key row rows ≤ 1
 counted_once key [] none row = omega (arith, count_of-nil key row)
 counted_once key (r ∷ rs) none row =
@@ -99,7 +99,7 @@ counted_once key (r ∷ rs) none row =
       | inr other ↦ omega (arith, count_of-no key row r rs other)
     ]
 
--- .. and where each key stands once at most there are no duplicates
+-- .. and if each key occurs at most once there are no duplicates
 no_duplicates_from_counts : (key : ℕ) (rows : List Row) → ((row : Row) → count_of key row rows ≤ 1) → has_duplicate_keys key rows ≡ false
 no_duplicates_from_counts key [] once = refl
 no_duplicates_from_counts key (r ∷ rs) once =
@@ -111,7 +111,7 @@ count_of-IsPermutation : (key : ℕ) (row : Row) (xs ys : List Row) → IsPermut
 unfolding count_of
 count_of-IsPermutation key row xs ys moved = sum_by-IsPermutation (λ x. cond (same_in_column key row x) 1 0) xs ys moved
 
--- another order changes nothing
+-- a permutation changes nothing
 pub has_duplicate_keys-IsPermutation : (key : ℕ) (xs ys : List Row) → IsPermutation xs ys → has_duplicate_keys key xs ≡ has_duplicate_keys key ys
 has_duplicate_keys-IsPermutation key xs ys moved =
     same_false _ _
@@ -131,7 +131,7 @@ no_duplicates_in_order key (r ∷ rs) order =
     or_from _ _ (none_below key r rs (IsStrictlySortedBy-head (column_cmp_total key) r rs order))
     (no_duplicates_in_order key rs (IsStrictlySortedBy-tail (column_cmp_total key) r rs order))
 
--- no row is less than the one before it
+-- no row is less than the previous one
 NoneFalls : ℕ → List Row → Type 0
 NoneFalls key rows = (k : ℕ) (d : Row) → suc k < length rows → is_lt (column_cmp key (get_or rows (suc k) d) (get_or rows k d)) ≡ false
 
@@ -160,7 +160,7 @@ none_of : (key : ℕ) (row : Row) (xs ys : List Row) → list_any (same_in_colum
     → (list_any (same_in_column key row) xs ≡ false) × (list_any (same_in_column key row) ys ≡ false)
 none_of key row xs ys none = or_parts _ _ (sym (list_any-append (same_in_column key row) xs ys) ∙ none)
 
--- without duplicates no row of a list has the key of one behind the list
+-- without duplicates no row of a list has the key of a later row
 pub apart_from_no_duplicates : (key : ℕ) (front : List Row) (x : Row) (middle : List Row) (y : Row) (back : List Row)
     → has_duplicate_keys key ((front ++ x ∷ []) ++ ((middle ++ y ∷ []) ++ back)) ≡ false → same_in_column key x y ≡ false
 apart_from_no_duplicates key [] x middle y back none =
@@ -189,7 +189,7 @@ list_any-nothing : {X : Type 0} (xs : List X) → list_any (λ (x : X). false) x
 list_any-nothing [] = refl
 list_any-nothing (x ∷ xs) = list_any-nothing xs
 
--- two lists in key order have duplicates where a row of the second has the key of one of the first
+-- two lists in key order have duplicates if and only if a row of the second has the key of a row of the first
 pub has_duplicate_keys-append : (key : ℕ) (old fresh : List Row) → IsStrictlySortedBy (column_cmp key) old → IsStrictlySortedBy (column_cmp key) fresh
     → has_duplicate_keys key (old ++ fresh) ≡ list_any (λ row. list_any (same_in_column key row) old) fresh
 has_duplicate_keys-append key [] fresh first second = no_duplicates_in_order key fresh second ∙ sym (list_any-nothing fresh)

@@ -1,4 +1,4 @@
--- Lists put in order: the same elements, sorted; and rows without duplicates, which are strictly in key order.
+-- Sorted lists have the same elements, in order; rows without duplicates are strictly in key order.
 use Rattle.std.proofs.Common.{◌≡◌, ℕ, zero, suc, ◌<◌, true, false, List, [], ◌∷◌, length, get_or, inl, inr, sym, refl, ap, ◌∙◌, arith, add-one}
 use Rattle.std.specs.Cmp.{IsTotalOrder}
 use Rattle.std.specs.List.{AllByRecursion, list_any}
@@ -19,7 +19,7 @@ use Rattle.mm_schema.proofs.Duplicates.{Row, column_cmp_total, has_duplicate_key
 -- ---- the same elements
 
 module _ {X : Type 0} (cmp : X → X → Ordering) where
-  -- An element that is put in order joins those that are there.
+  -- Inserting an element in order permutes it with the others.
   pub IsPermutation-put_in_order : (x : X) (xs : List X) → IsPermutation (x ∷ xs) (put_in_order cmp x xs)
   IsPermutation-put_in_order x [] = IsPermutation-refl (x ∷ [])
   IsPermutation-put_in_order x (y ∷ ys) =
@@ -30,7 +30,7 @@ module _ {X : Type 0} (cmp : X → X → Ordering) where
             (IsPermutation-cons y (x ∷ ys) _ (IsPermutation-put_in_order x ys)))
       ]
 
-  -- A list put in order has the same elements.
+  -- A sorted list has the same elements.
   pub IsPermutation-in_order : (xs : List X) → IsPermutation xs (in_order cmp xs)
   IsPermutation-in_order [] = IsPermutation-refl []
   IsPermutation-in_order (x ∷ xs) =
@@ -38,12 +38,12 @@ module _ {X : Type 0} (cmp : X → X → Ordering) where
 
 -- ---- sorted
 
--- no element is less than the one before it, from an element in front of the list on
+-- no element is less than the previous one, including one before the list
 abbrev Rises : {X : Type 0} → (X → X → Ordering) → X → List X → Type 0
 Rises cmp x [] = Unit {0}
 Rises cmp x (y ∷ ys) = (is_lt (cmp y x) ≡ false) × Rises cmp y ys
 
--- the same of a list alone
+-- the same for a list alone
 abbrev RisesAll : {X : Type 0} → (X → X → Ordering) → List X → Type 0
 RisesAll cmp [] = Unit {0}
 RisesAll cmp (x ∷ xs) = Rises cmp x xs
@@ -92,7 +92,7 @@ module _ {X : Type 0} {cmp : X → X → Ordering} (total : IsTotalOrder cmp) wh
   IsSorted-from_RisesAll [] rises = λ k d low within. absurd (omega arith)
   IsSorted-from_RisesAll (x ∷ xs) rises = λ k d low within. rw add-one (neighbours x xs k d (omega arith) rises)
 
-  -- A list put in order is sorted, with elements that compare as equal too.
+  -- A sorted list is in order, even if elements compare as equal.
   pub IsSorted-in_order : (xs : List X) → IsSorted cmp (in_order cmp xs)
   IsSorted-in_order xs = IsSorted-from_RisesAll (in_order cmp xs) (RisesAll-in_order xs)
 
@@ -140,7 +140,7 @@ module _ (key : ℕ) where
   in_from_permutation xs ys moved row here =
       IsIn-from_Contains ys row (Contains-permutation xs ys row moved (Contains-from_IsIn xs row here))
 
-  -- rows in key order are what any order of them sorts to
+  -- rows in key order are the result of sorting any permutation of them
   pub in_order_is : (rows ordered : List Row) → IsPermutation rows ordered → IsStrictlySortedBy (column_cmp key) ordered
       → in_order (column_cmp key) rows ≡ ordered
   in_order_is rows ordered moved order =

@@ -1,4 +1,4 @@
--- Indexes that come and go, in the entries of the catalog's map.
+-- Creating and dropping indexes, in the entries of the catalog's map.
 use Rattle.std.proofs.Common.{◌≡◌, ℕ, zero, suc, ◌+◌, ◌||◌, Bool, true, false, cond, not, List, [], ◌∷◌, ◌++◌, Option, Some, None, Result, Ok, Err, OnOk}
 use Rattle.std.proofs.Common.{OnErr, IfErr, All, find, is_none, is_some, map, position, slice_get, inr, refl, sym, ap, ◌∙◌, subst, arith}
 use Rattle.std.specs.List.{AllByRecursion, IsDistinct, list_any, position_or_len}
@@ -24,7 +24,7 @@ use Rattle.mm_schema.proofs.Places.{find_at_place, find_nowhere, place_from_some
 use Rattle.mm_schema.proofs.DuplicateIndexes.{distinct_with, distinct_without, duplicates_behind, free_behind, is_taken, others_stay, stay_without}
 use Rattle.mm_schema.proofs.DuplicateIndexes.{stays_without}
 
--- ---- one table changed
+-- ---- a single changed table
 
 set_same : (es : List Entry) (n : ℕ) (t : Table) → slice_get (seconds es) n ≡ Some t → seconds (set_value_at es n t) ≡ seconds es
 set_same [] n t here = refl
@@ -39,7 +39,7 @@ keyed_set (e ∷ es) zero t w keyed here same =
 keyed_set (e ∷ es) (suc n) t w keyed here same = (keyed.0, keyed_set es n t w keyed.1 here same)
 
 module _ (test : Table → Bool) (f : Table → Table) where
-  -- Where a table passes, those behind it stay; where it doesn't, it stays.
+  -- If a table passes, later ones are unchanged; if it does not, it is unchanged.
   abbrev ChangesFirst : List Table → Type 0
   ChangesFirst [] = Unit {0}
   ChangesFirst (t ∷ ts) = (test t ≡ true → map f ts ≡ ts) × (test t ≡ false → f t ≡ t) × ChangesFirst ts
@@ -83,7 +83,7 @@ changes_having name (t ∷ ts) none = (
   changes_having name ts (duplicates_behind t.indexes (indexes_of ts) none),
 )
 
--- Other indexes of a table leave each under its own name.
+-- With other indexes of a table, each table is still stored under its own name.
 keyed_with : (old new : Tables) (n : ℕ) (t : Table) (is : List IndexDef) → slice_get (tables_of old) n ≡ Some t
     → new.entries ≡ set_value_at old.entries n (record t { indexes = is }) → All IsKeyed old.entries → All IsKeyed new.entries
 keyed_with old new n t is here set keyed =
@@ -107,7 +107,7 @@ taken_by_table name [] = refl
 taken_by_table name (t ∷ ts) =
     list_any-append (λ (i : IndexDef). same_name name i.name) t.indexes (indexes_of ts) ∙ ap (λ b. is_taken name t.indexes || b) (taken_by_table name ts)
 
--- An index lacks where no table has it.
+-- An index does not exist if and only if no table has it.
 lacks_by_table : (name : List ℕ) (schema : Schema) → lacks_index name schema ≡ is_none (find (λ t. is_taken name t.indexes) schema.tables)
 lacks_by_table name schema =
     none_is_found (λ (i : IndexDef). same_name name i.name) (indexes_of schema.tables)
@@ -150,7 +150,7 @@ own_with index t own = by (same_name index.table (name_of t)) refl
     by true same = All-push (λ i. i.table ≡ name_of t) t.indexes index own (same_bytes index.table (name_of t) same)
     by false other = own
 
--- What an index may be refused for once nothing else refuses it.
+-- If nothing else refuses a new index, only Memory can.
 pub only_memory : {T : Type 0} (due : Option Refusal) (result : Result T Refusal) → due ≡ None → IfErr result (λ refusal. refusal ≡ Memory)
     → AnswersDue due result
 only_memory due (Ok value) none memory = none
@@ -186,7 +186,7 @@ module _ {standing : List StandingDef} (index : IndexDef) (old : Tables) (schema
     tables_same same =
         ap seconds set ∙ ap (λ js. seconds (set_value_at old.entries place (record t { indexes = js }))) same ∙ set_same old.entries place t here
 
-    -- The tables with the index, or the same tables where memory was refused.
+    -- The tables with the index, or unchanged tables if an allocation failed.
     pub sound_after_push : {T : Type 0} (result : Result T Refusal) → OnOk result (is ≡ t.indexes ++ index ∷ []) → OnErr result (is ≡ t.indexes) → IsSound new
     sound_after_push (Ok value) ok err = record {
       keyed = keyed_with old new place t is here set sound.keyed;
@@ -213,7 +213,7 @@ module _ {standing : List StandingDef} (index : IndexDef) (old : Tables) (schema
     view_same (Ok value) err = tt
     view_same (Err refusal) err = ap (λ ts. record { tables = ts; standing = standing }) (tables_same err) ∙ view
 
--- ---- an index gone
+-- ---- a dropped index
 
 module _ {standing : List StandingDef} (name : List ℕ) (old : Tables) (schema : Schema) (sound : IsSound old)
     (view : record { tables = tables_of old; standing = standing } ≡ schema) (place : ℕ)

@@ -1,4 +1,4 @@
--- Changes of the rows of one table among those of all.
+-- Changes of one table's rows among those of all tables.
 use Rattle.std.proofs.Common.{◌≡◌, ℕ, Bool, true, false, cond, not, List, [], ◌∷◌, ◌++◌, Option, Some, None, filter, find, map, refl, sym, ap, subst, ◌∙◌}
 use Rattle.std.specs.List.{AllByRecursion, IsDistinct, flat_map}
 use Rattle.std.specs.Option.{option_map_or}
@@ -16,7 +16,7 @@ use Rattle.mm_schema.proofs.Duplicates.{Row}
 abbrev pub name_of : Table → List ℕ
 name_of table = table.definition.name
 
--- the edits of one table alone
+-- the edits of a single table
 abbrev pub edits_of_one : List ℕ → List Pair → List TableEdits
 edits_of_one table pairs = record { table = table; pairs = pairs } ∷ []
 
@@ -25,7 +25,7 @@ pairs_by_test : (table : List ℕ) (pairs : List Pair) (b : Bool)
 pairs_by_test table pairs true = append-nil pairs
 pairs_by_test table pairs false = refl
 
--- They concern the table of that name, ..
+-- They belong to the table with that name, ..
 pub pairs_of-own : (table : List ℕ) (pairs : List Pair) (name : List ℕ) → same_name table name ≡ true → pairs_of name (edits_of_one table pairs) ≡ pairs
 pairs_of-own table pairs name own = pairs_by_test table pairs (same_name table name) ∙ ap (λ b. cond b pairs []) own
 
@@ -37,7 +37,7 @@ pairs_of-other table pairs name other = pairs_by_test table pairs (same_name tab
 abbrev pub LackName : List ℕ → List Table → Type 0
 LackName name tables = AllByRecursion (λ other. same_name name other ≡ false) (map name_of tables)
 
--- The tables behind the one of a name have other names.
+-- The tables after the one with a name have other names.
 pub others_lack : (name : List ℕ) (table : Table) (tables : List Table) → same_name name (name_of table) ≡ true
     → IsDistinct same_name (map name_of (table ∷ tables)) → LackName name tables
 others_lack name table tables own distinct =
@@ -51,7 +51,7 @@ AreBeside [] (rows ∷ others) = ⊥
 AreBeside (table ∷ tables) [] = ⊥
 
 module _ (name : List ℕ) (pairs : List Pair) where
-  -- Tables of other names keep their rows.
+  -- Tables with other names keep their rows.
   pub changed_instance-others : (tables : List Table) (rows : Instance) → AreBeside tables rows → LackName name tables
       → changed_instance tables (edits_of_one name pairs) rows ≡ rows
   changed_instance-others [] [] beside lack = refl
@@ -68,7 +68,7 @@ beside_from_order (t ∷ ts) (r ∷ rs) order = beside_from_order ts rs order.1
 beside_from_order [] (r ∷ rs) order = absurd order
 beside_from_order (t ∷ ts) [] order = absurd order
 
--- A new table has no row, so its rows are in order.
+-- A new table has no rows, so its rows are in order.
 pub AreInKeyOrder-push : (tables : List Table) (rows : Instance) (table : Table) (new : List Row) → AreInKeyOrder tables rows
     → IsInKeyOrder (key_place table.definition.columns) new
     → AreInKeyOrder (tables ++ table ∷ []) (rows ++ new ∷ [])
@@ -81,7 +81,7 @@ abbrev key_of : Option Table → ℕ
 key_of table = option_map_or (λ t. key_place t.definition.columns) table 0
 
 module _ (name : List ℕ) (pairs : List Pair) where
-  -- the rows and the key of the name, where the first table has it or the others are asked
+  -- the rows of the table with the name have distinct keys
   abbrev NoDuplicates : List Table → Instance → Type 0
   NoDuplicates tables rows = has_duplicate_keys (key_of (find (λ t. same_name name (name_of t)) tables)) (rows_named name tables rows) ≡ false
 
@@ -102,7 +102,7 @@ module _ (name : List ℕ) (pairs : List Pair) where
     rest none,
   )
 
-  -- Rows in key order are so after a change of one table, unless two of its rows have one key then.
+  -- Rows in key order are in key order after a change of one table, unless two of its rows then have the same key.
   pub AreInKeyOrder-changed : (tables : List Table) (rows : Instance) → AreInKeyOrder tables rows → IsDistinct same_name (map name_of tables)
       → NoDuplicates tables (changed_instance tables (edits_of_one name pairs) rows)
       → AreInKeyOrder tables (changed_instance tables (edits_of_one name pairs) rows)
@@ -126,7 +126,7 @@ module _ (table : Table) where
   names_before name [] others last = (last, tt)
   names_before name (t ∷ ts) others last = (others.0, names_before name ts others.1 last)
 
-  -- A new table with a name that is lacking leaves all names distinct.
+  -- A new table with an unused name keeps all names distinct.
   pub IsDistinct-push : (tables : List Table) → find (λ t. same_name (name_of table) (name_of t)) tables ≡ None → IsDistinct same_name (map name_of tables)
       → IsDistinct same_name (map name_of (tables ++ table ∷ []))
   IsDistinct-push [] none distinct = IsDistinct-cons same_name (name_of table) [] tt distinct
@@ -136,7 +136,7 @@ module _ (table : Table) where
       (names_before (name_of t) ts (IsDistinct-head same_name (name_of t) (map name_of ts) distinct) (differs_back (name_of table) (name_of t) others.0))
       (IsDistinct-push ts others.1 (IsDistinct-tail same_name (name_of t) (map name_of ts) distinct))
 
--- ---- a table that goes
+-- ---- a dropped table
 
 module _ (gone : List ℕ) where
   abbrev stays : Table → Bool
@@ -150,7 +150,7 @@ module _ (gone : List ℕ) where
       by true later = later
       by false later = (lack.0, later)
 
-  -- The names of the others are distinct still, ..
+  -- The names of the others are still distinct, ..
   pub IsDistinct-without : (tables : List Table) → IsDistinct same_name (map name_of tables) → IsDistinct same_name (map name_of (filter stays tables))
   IsDistinct-without [] distinct = distinct
   IsDistinct-without (t ∷ ts) distinct =
@@ -163,7 +163,7 @@ module _ (gone : List ℕ) where
           IsDistinct-cons same_name (name_of t) (map name_of (filter stays ts))
           (lack_still (name_of t) ts (IsDistinct-head same_name (name_of t) (map name_of ts) distinct)) later
 
-  -- .. and their rows are in key order still.
+  -- .. and their rows are still in key order.
   pub AreInKeyOrder-without : (tables : List Table) (rows : Instance) → AreInKeyOrder tables rows
       → AreInKeyOrder (filter stays tables) (without_rows gone tables rows)
   AreInKeyOrder-without [] [] order = tt
@@ -184,7 +184,7 @@ module _ (change : Table → Table) (same : (t : Table) → (change t).definitio
   names_kept [] = refl
   names_kept (t ∷ ts) = λ i. (same t i).name ∷ names_kept ts i
 
-  -- .. and their rows are in key order still.
+  -- .. and their rows are still in key order.
   pub AreInKeyOrder-kept : (tables : List Table) (rows : Instance) → AreInKeyOrder tables rows → AreInKeyOrder (map change tables) rows
   AreInKeyOrder-kept [] [] order = tt
   AreInKeyOrder-kept (t ∷ ts) (r ∷ rs) order =

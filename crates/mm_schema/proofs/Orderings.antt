@@ -1,4 +1,4 @@
--- What a test of a comparison tells.
+-- The meaning of tests of a comparison.
 use Rattle.std.proofs.Common.{◌≡◌, true, false, refl, sym, ap}
 use Rattle.std.specs.Ordering.{is_eq, is_gt, is_lt, ordering_index, ordering_reverse}
 use Rattle.std.specs.Prelude.{◌==◌}
@@ -30,13 +30,13 @@ less_from_neither Less e f = refl
 less_from_neither Equal e f = (cc)
 less_from_neither Greater e f = (cc)
 
--- neither equal nor less the other way round
+-- neither equal nor less in the reverse order
 pub less_from_no_tie : (o : Ordering) → is_eq o ≡ false → is_lt (ordering_reverse o) ≡ false → o ≡ Less
 less_from_no_tie Less e f = refl
 less_from_no_tie Equal e f = (cc)
 less_from_no_tie Greater e f = (cc)
 
--- what `== Ordering::Less` and `== Ordering::Greater` tell
+-- the meaning of `== Ordering::Less` and `== Ordering::Greater`
 pub less_from_index : (o answer : Ordering) → answer ≡ o → true ≡ (ordering_index answer == 0) → o ≡ Less
 less_from_index o Less is same = sym is
 less_from_index o Equal is same = (cc)

@@ -1,4 +1,4 @@
--- Tables by their places in the order of creation.
+-- Tables by their positions in the order of creation.
 use Rattle.std.proofs.Common.{◌≡◌, ℕ, ◌<◌, ◌≤◌, ◌||◌, Bool, true, false, cond, ltb, List, [], ◌∷◌, Option, Some, None, is_some, length, find, position}
 use Rattle.std.proofs.Common.{slice_get, refl, sym, ap, ◌∙◌, arith}
 use Rattle.std.specs.List.{position_or_len}
@@ -18,36 +18,36 @@ past : (at len : ℕ) → cond (ltb at len) (Some at) None ≡ None → len ≤ 
 past at len h = grind (arith, nat_tests)
 
 module _ {X : Type 0} (p : X → Bool) (xs : List X) where
-  -- A place that is found is the first that passes, ..
+  -- A position that is found is that of the first element that passes, ..
   pub place_from_some : (i : ℕ) → position p xs ≡ Some i → i ≡ position_or_len p xs
   place_from_some i h = (below _ _ i h).1
 
-  -- .. and lies within the list.
+  -- .. and is within the list.
   pub within_from_some : (i : ℕ) → position p xs ≡ Some i → i < length xs
   within_from_some i h = (below _ _ i h).0
 
-  -- Where no place is found, the first that passes lies past the end.
+  -- If no position is found, the first that passes is past the end.
   pub past_from_none : position p xs ≡ None → length xs ≤ position_or_len p xs
   past_from_none h = past _ _ h
 
-  -- What is found is at the place that is found.
+  -- The element that is found is at the position that is found.
   pub find_at_place : (i : ℕ) → position p xs ≡ Some i → find p xs ≡ slice_get xs i
   find_at_place i h = find_at p xs ∙ ap (slice_get xs) (sym (place_from_some i h))
 
-  -- Without a place nothing is found.
+  -- Without a position nothing is found.
   pub find_nowhere : position p xs ≡ None → find p xs ≡ None
   find_nowhere h = find_at p xs ∙ slice_get_past xs _ (past_from_none h)
 
--- The table of a name is the one at the name's place.
+-- The table with a name is the one at the name's position.
 pub table_at_place : (name : List ℕ) (schema : Schema) (place : ℕ) → table_place name schema ≡ Some place
     → table_named name schema ≡ slice_get schema.tables place
 table_at_place name schema place h = find_at_place _ schema.tables place h
 
--- The place of a name lies within the catalog.
+-- The position of a name is within the catalog.
 pub place_within : (name : List ℕ) (schema : Schema) (place : ℕ) → table_place name schema ≡ Some place → place < length schema.tables
 place_within name schema place h = within_from_some _ schema.tables place h
 
--- A name without a place has no table.
+-- A name without a position has no table.
 pub no_table : (name : List ℕ) (schema : Schema) → table_place name schema ≡ None → table_named name schema ≡ None
 no_table name schema h = find_nowhere _ schema.tables h
 

@@ -1,4 +1,4 @@
--- Columns that refer to tables which are there.
+-- Columns that refer to existing tables.
 use Rattle.std.proofs.Common.{◌≡◌, ℕ, Bool, true, false, cond, not, ◌&&◌, List, [], ◌∷◌, ◌++◌, Option, Some, None, filter, find, is_none, map, refl, sym, ap}
 use Rattle.std.proofs.Common.{◌∙◌}
 use Rattle.std.specs.List.{AllByRecursion, list_any}
@@ -24,7 +24,7 @@ use Rattle.mm_schema.proofs.NameLemmas.{same_bytes}
 abbrev pub lacks : List ℕ → List Table → Bool
 lacks name tables = is_none (find (λ t. same_name name (name_of t)) tables)
 
--- ---- tables that lack no name which others have
+-- ---- tables with at least the names of others
 
 module _ (old new : Schema) where
   by_target : (more : (name : List ℕ) → lacks_table name old ≡ false → lacks_table name new ≡ false) (target : Option (List ℕ))
@@ -32,7 +32,7 @@ module _ (old new : Schema) where
   by_target more None there = refl
   by_target more (Some name) there = more name there
 
-  -- Columns keep their targets where no name is lost.
+  -- Columns keep their targets if no name is lost.
   targets_stay : ((name : List ℕ) → lacks_table name old ≡ false → lacks_table name new ≡ false) → (columns : List Column)
       → list_any (lacks_target old) columns ≡ false → list_any (lacks_target new) columns ≡ false
   targets_stay more [] there = refl
@@ -70,7 +70,7 @@ targets_added definition schema whole due =
     (λ t. targets_stay schema new more t.definition.columns) schema.tables whole)
     (targets_stay schema new more definition.columns (first_none _ _ _ due))
 
--- ---- other indexes
+-- ---- changed indexes
 
 module _ (change : Table → Table) (same : (t : Table) → (change t).definition ≡ t.definition) where
   pub as_there : (name : List ℕ) (tables : List Table) → lacks name (map change tables) ≡ lacks name tables
@@ -85,7 +85,7 @@ module _ (change : Table → Table) (same : (t : Table) → (change t).definitio
       by true later = refl
       by false later = later
 
-  -- Where each table keeps its definition, targets stay.
+  -- If each table keeps its definition, targets are kept.
   targets_kept : (schema : Schema) → HasTargets schema → HasTargets (record schema { tables = map change schema.tables })
   targets_kept schema whole =
       let new : Schema = record schema { tables = map change schema.tables } in
@@ -106,14 +106,14 @@ same_with index t = by (same_name index.table (name_of t))
 pub targets_indexed : (index : IndexDef) (schema : Schema) → HasTargets schema → HasTargets (with_index index schema)
 targets_indexed index schema whole = targets_kept (table_with_index index) (same_with index) schema whole
 
--- .. and neither does one that goes.
+-- .. and neither does dropping one.
 pub same_without : (name : List ℕ) (t : Table) → (table_without_index name t).definition ≡ t.definition
 same_without name t = refl
 
 pub targets_unindexed : (name : List ℕ) (schema : Schema) → HasTargets schema → HasTargets (without_index name schema)
 targets_unindexed name schema whole = targets_kept (table_without_index name) (same_without name) schema whole
 
--- ---- a table dropped
+-- ---- a dropped table
 
 module _ (gone : List ℕ) where
   abbrev stays : Table → Bool

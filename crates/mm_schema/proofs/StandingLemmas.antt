@@ -1,4 +1,4 @@
--- Standing queries that come and go.
+-- Creating and dropping standing queries.
 use Rattle.std.proofs.Common.{◌≡◌, ℕ, ◌||◌, Bool, true, false, cond, not, List, [], ◌∷◌, ◌++◌, Some, None, filter, find, map, refl, sym, ◌∙◌, subst}
 use Rattle.std.specs.List.{AllByRecursion, IsDistinct, list_any}
 use Rattle.std.proofs.lemmas.Bool.{or_from, or_parts}
@@ -23,7 +23,7 @@ use Rattle.mm_schema.proofs.References.{as_there, same_with, same_without, secon
 abbrev pub names_of : List StandingDef → List (List ℕ)
 names_of queries = map (λ query. query.name) queries
 
--- No names are distinct.
+-- The empty list has distinct names.
 pub none_distinct : IsDistinct same_name []
 unfolding IsDistinct
 none_distinct = tt
@@ -38,7 +38,7 @@ not_among name (q ∷ qs) free = by (same_name name q.name) free (not_among name
     by true free later = cc
     by false free later = later free
 
--- A new name keeps them distinct, ..
+-- A new name keeps the names distinct, ..
 pub distinct_behind : (query : StandingDef) (qs : List StandingDef) → find (λ q. same_name query.name q.name) qs ≡ None
     → IsDistinct same_name (names_of qs) → IsDistinct same_name (names_of (qs ++ query ∷ []))
 distinct_behind query qs free distinct =
@@ -56,7 +56,7 @@ module _ (stays : StandingDef → Bool) where
       by true later = (all.0, later)
       by false later = later
 
-  -- .. and so do fewer.
+  -- .. and so does a sublist.
   pub distinct_among : (qs : List StandingDef) → IsDistinct same_name (names_of qs) → IsDistinct same_name (names_of (filter stays qs))
   distinct_among [] distinct = none_distinct
   distinct_among (q ∷ qs) distinct =
@@ -76,7 +76,7 @@ module _ (old new : Schema) (more : (name : List ℕ) → lacks_table name old �
   tables_stay [] there = refl
   tables_stay (t ∷ ts) there = let p = or_parts (lacks_table t old) (lacks_some_table ts old) there in or_from _ _ (more t p.0) (tables_stay ts p.1)
 
-  -- Where no table is lost, the same standing queries read what is there.
+  -- If no table is lost, the same standing queries read existing tables.
   reads_stay : new.standing ≡ old.standing → ReadsTables old → ReadsTables new
   reads_stay same reads =
       All-weaker (λ q. lacks_some_table q.tables old ≡ false) (λ q. lacks_some_table q.tables new ≡ false) (λ q. tables_stay q.tables) new.standing

@@ -1,4 +1,4 @@
--- Lists strictly in order by a total order: their parts, what goes between, and that their elements fix them.
+-- Lists strictly sorted by a total order: parts, inserts, and uniqueness.
 use Rattle.std.proofs.Common.{◌≡◌, ℕ, zero, suc, ◌+◌, ◌-◌, ◌<◌, List, [], ◌∷◌, ◌++◌, length, get_or, take, ◌⊎◌, inl, inr, refl, sym, ap, ◌∙◌, subst, arith}
 use Rattle.std.specs.Cmp.{IsTotalOrder}
 use Rattle.std.specs.List.{AllByRecursion, Contains}
@@ -9,7 +9,7 @@ use Rattle.std.specs.declared.cmp.Ordering.TheVariants.{Less, Equal, Greater}
 use Rattle.std.proofs.lemmas.Cmp.{tied_itself}
 use Rattle.std.proofs.lemmas.List.{take_all, take_more}
 
--- ---- what holds of each element
+-- ---- properties of all elements
 
 module _ {X : Type 0} {P Q : X → Type 0} where
   pub AllByRecursion-weaker : ((x : X) → P x → Q x) → (xs : List X) → AllByRecursion P xs → AllByRecursion Q xs
@@ -81,7 +81,7 @@ module _ {X : Type 0} {cmp : X → X → Ordering} (total : IsTotalOrder cmp) wh
       let tied : cmp x x ≡ Equal = tied_itself total x in
       cc
 
-  -- what is less than the first element of a list in order is less than all of it
+  -- an element less than the first one of a sorted list is less than all of it
   below_all : (x y : X) (ys : List X) → cmp x y ≡ Less → AllByRecursion (λ z. cmp y z ≡ Less) ys → AllByRecursion (λ z. cmp x z ≡ Less) (y ∷ ys)
   below_all x y ys less all = (less, AllByRecursion-weaker (λ z later. total.trans x y z less later) ys all)
 
@@ -113,11 +113,11 @@ module _ {X : Type 0} {cmp : X → X → Ordering} (total : IsTotalOrder cmp) wh
       IsStrictlySortedBy-cons x xs (AllByRecursion-append_left (λ y. cmp x y ≡ Less) xs ys (IsStrictlySortedBy-head x (xs ++ ys) order))
       (IsStrictlySortedBy-append_left xs ys (IsStrictlySortedBy-tail x (xs ++ ys) order))
 
-  -- an element less than the first puts a list in order behind itself
+  -- an element less than the first one, before a sorted list
   pub IsStrictlySortedBy-before : (x y : X) (ys : List X) → cmp x y ≡ Less → IsStrictlySortedBy cmp (y ∷ ys) → IsStrictlySortedBy cmp (x ∷ y ∷ ys)
   IsStrictlySortedBy-before x y ys less order = IsStrictlySortedBy-cons x (y ∷ ys) (below_all x y ys less (IsStrictlySortedBy-head y ys order)) order
 
-  -- an element put behind one that is less, before what is greater
+  -- an element between a lesser one and a greater one
   pub IsStrictlySortedBy-between : (front : List X) (x y : X) (back : List X) → cmp x y ≡ Less → IsStrictlySortedBy cmp (front ++ x ∷ back)
       → IsStrictlySortedBy cmp (y ∷ back) → IsStrictlySortedBy cmp (front ++ x ∷ y ∷ back)
   IsStrictlySortedBy-between [] x y back less order behind = IsStrictlySortedBy-before x y back less behind
@@ -130,7 +130,7 @@ module _ {X : Type 0} {cmp : X → X → Ordering} (total : IsTotalOrder cmp) wh
       (AllByRecursion-append (λ w. cmp z w ≡ Less) front (x ∷ y ∷ back) before (first, (total.trans z x y first less, after)))
       (IsStrictlySortedBy-between front x y back less (IsStrictlySortedBy-tail z (front ++ x ∷ back) order) behind)
 
-  -- a list behind one whose last element is less than its first
+  -- a list after one whose last element is less than its first
   pub IsStrictlySortedBy-append : (xs : List X) (x y : X) (ys : List X) → cmp x y ≡ Less → IsStrictlySortedBy cmp (xs ++ x ∷ [])
       → IsStrictlySortedBy cmp (y ∷ ys) → IsStrictlySortedBy cmp ((xs ++ x ∷ []) ++ (y ∷ ys))
   IsStrictlySortedBy-append [] x y ys less order behind = IsStrictlySortedBy-before x y ys less behind
@@ -158,7 +158,7 @@ module _ {X : Type 0} {cmp : X → X → Ordering} (total : IsTotalOrder cmp) wh
   IsStrictlySortedBy-from_neighbours (x ∷ y ∷ ys) next =
       IsStrictlySortedBy-before x y ys (next 0 x (omega arith)) (IsStrictlySortedBy-from_neighbours (y ∷ ys) (λ k d within. next (suc k) d (omega arith)))
 
-  -- ---- the elements fix the list
+  -- ---- the elements determine the list
 
   same_heads : (x y : X) (xs ys : List X) → IsStrictlySortedBy cmp (x ∷ xs) → IsStrictlySortedBy cmp (y ∷ ys) → IsIn x (y ∷ ys) → IsIn y (x ∷ xs) → x ≡ y
   same_heads x y xs ys first second (inl same) there = sym same

@@ -1,4 +1,4 @@
--- What a name is.
+-- Names.
 use Rattle.std.specs.Prelude.{ℕ, ◌==◌, ◌||◌, ◌&&◌, Bool, false, List, [], ◌∷◌, length, IsTrue, nat_eq, nat_le}
 use Rattle.std.specs.List.{list_all}
 use Rattle.std.specs.Cmp.Lexicographic.{pointwise}
@@ -11,12 +11,12 @@ is_lower b = nat_le 97 b && nat_le b 122
 abbrev pub is_name_byte : ℕ → Bool
 is_name_byte b = is_lower b || (nat_le 48 b && nat_le b 57) || (b == 95)
 
--- a letter first, and then letters, digits and _
+-- a letter, followed by letters, digits and _
 abbrev pub is_name_text : List ℕ → Bool
 is_name_text [] = false
 is_name_text (b ∷ bs) = is_lower b && list_all is_name_byte bs
 
--- at most 32 bytes: a letter, and then letters, digits and _
+-- at most 32 bytes: a letter, followed by letters, digits and _
 abbrev pub is_name : List ℕ → Bool
 is_name bytes = is_name_text bytes && nat_le (length bytes) 32
 
@@ -24,6 +24,6 @@ is_name bytes = is_name_text bytes && nat_le (length bytes) 32
 abbrev pub IsName : List ℕ → Type 0
 IsName bytes = IsTrue (is_name bytes)
 
--- Two names are one.
+-- Two names are equal.
 abbrev pub same_name : List ℕ → List ℕ → Bool
 same_name a b = pointwise nat_eq a b

@@ -1,4 +1,4 @@
--- Which refusal is answered.
+-- The order of refusals.
 use Rattle.std.specs.Prelude.{◌≡◌, ◌⊎◌, ℕ, Bool, true, ◌&&◌, if◌then◌else◌, List, [], ◌∷◌, Option, Some, None, Result, Ok, Err, nat_lt}
 use Rattle.mm_value.specs.declared.refusal.Refusal.{Refusal}
 use Rattle.mm_value.specs.declared.refusal.Refusal.TheVariants.{LineTooLong, Syntax, NumberOutOfRange, TextTooLong, NoSuchTable, NoSuchColumn, NoSuchIndex}
@@ -17,13 +17,13 @@ abbrev pub first_refusal : List Condition → Option Refusal
 first_refusal [] = None
 first_refusal (c ∷ cs) = if c.holds then Some c.refusal else first_refusal cs
 
--- A call succeeds only where no refusal is due, and answers the one that is due, or want of memory in its place.
+-- The call succeeds only if no refusal is due. Otherwise it fails with the refusal that is due, or with Memory.
 abbrev pub AnswersDue : {T : Type 0} → Option Refusal → Result T Refusal → Type 0
 AnswersDue due (Ok value) = due ≡ None
 AnswersDue due (Err refusal) = (due ≡ Some refusal) ⊎ (refusal ≡ Memory)
 
--- The one order of refusals: of two whose conditions hold, the one of lower rank is answered. A number and a text past
--- their limits have one rank: the first of them in the line is answered. Want of memory may come in place of any.
+-- The order of refusals: of two whose conditions hold, the one of lower rank is the result. Numbers and texts past their limits have one
+-- rank: the first of them in the line is the result. Memory may replace any result.
 abbrev pub rank : Refusal → ℕ
 rank LineTooLong = 1
 rank Syntax = 2
@@ -53,7 +53,7 @@ rank ResultTooLarge = 24
 rank StandingListTooLarge = 25
 rank Memory = 26
 
--- Each condition's refusal has a lower rank than those behind it.
+-- Each condition's refusal has a lower rank than those after it.
 abbrev pub ascend : List Condition → Bool
 ascend [] = true
 ascend (c ∷ []) = true

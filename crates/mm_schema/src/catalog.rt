@@ -21,19 +21,19 @@ use mm_value::Refusal;
 use std::alloc::{AllocError, Global};
 use std::marker::Model;
 
-/// The most tables that a catalog has.
+/// The maximum number of tables in a catalog.
 pub const MAX_TABLES: usize = 64;
-/// The most columns that a table has.
+/// The maximum number of columns in a table.
 pub const MAX_COLUMNS: usize = 16;
-/// The most rows that a table has.
+/// The maximum number of rows in a table.
 pub const MAX_ROWS: usize = 1_048_576;
-/// The most indexes that a table has, beside the one on its key.
+/// The maximum number of indexes on a table, not counting the one on its key.
 pub const MAX_INDEXES: usize = 16;
-/// The most standing queries that a catalog has.
+/// The maximum number of standing queries in a catalog.
 pub const MAX_STANDING: usize = 32;
 
-/// The tables and the standing queries that there are, each in order of creation, no two tables and no two standing queries
-/// of one name. A table and a standing query may have one name.
+/// All tables and all standing queries, each in order of creation. No two tables and no two standing queries have the same name, but a
+/// table and a standing query may.
 #[derive(Drop)]
 pub struct Catalog {
     tables: IndexMap<Name, Table>,
@@ -52,7 +52,7 @@ impl Model for Catalog {
 }
 
 impl Catalog {
-    /// A catalog with no table and no standing query. It takes no memory.
+    /// Returns a catalog with no tables and no standing queries. Allocates nothing.
     pub fn new(alloc: Global) -> Catalog
         ensures tables { result.tables ≡ [] }
         ensures standing { result.standing ≡ [] }
@@ -63,11 +63,14 @@ impl Catalog {
         }
     }
 
-    /// Adds a table, which comes last and has no indexes. `NoSuchTable` where a column refers to a table that isn't
-    /// there; else `NameTaken` where the catalog has its name or a column stands twice; else `TypeMismatch` where a
-    /// column differs in type from the key of the table that it refers to; else `TooMany` where there are 64 tables
-    /// already or it has more than 16 columns. `Memory` may come in their place and in that of success. A refused call
-    /// changes nothing.
+    /// Appends a table without indexes. Fails with the first of these refusals that applies:
+    ///
+    /// - `NoSuchTable`: a column refers to a table that does not exist.
+    /// - `NameTaken`: a table has the name, or a column occurs twice.
+    /// - `TypeMismatch`: a column and the key of the table that it refers to differ in type.
+    /// - `TooMany`: there are 64 tables already, or the new one has more than 16 columns.
+    ///
+    /// May instead fail with `Memory`. A failed call changes nothing.
     pub fn add_table(&mut self, definition: TableDef) -> Result<(), Refusal>
         ensures due { AnswersDue (first_refusal (table_conditions definition self.old)) result }
         ensures ok { OnOk result (self.new ≡ with_table definition self.old) }
@@ -86,8 +89,7 @@ impl Catalog {
         Ok(())
     }
 
-    /// What refuses a new table: the refusal that `add_table` answers where memory suffices, or none where it would be
-    /// added. It takes no memory.
+    /// Returns the refusal of a new table, or `None` if nothing but a failed allocation would refuse it. Allocates nothing.
     pub fn table_refusal(&self, definition: &TableDef) -> Option<Refusal>
         ensures { result ≡ first_refusal (table_conditions definition.now self.now) }
     {
@@ -104,7 +106,7 @@ impl Catalog {
         }
     }
 
-    /// Whether some column refers to a table that isn't there.
+    /// Returns whether any column refers to a table that does not exist.
     fn lacks_some_target(&self, definition: &TableDef) -> bool
         ensures { result ≡ list_any (lacks_target self.now) definition.now.columns }
     {
@@ -112,7 +114,7 @@ impl Catalog {
         columns.iter().any(|column| self.lacks_target(column))
     }
 
-    /// Whether a column refers to a table that isn't there.
+    /// Returns whether a column refers to a table that does not exist.
     fn lacks_target(&self, column: &Column) -> bool
         ensures { result ≡ lacks_target self.now column.now }
     {
@@ -122,14 +124,14 @@ impl Catalog {
         }
     }
 
-    /// Whether the catalog has the table's name, or a column stands twice.
+    /// Returns whether a table has the name of the new one, or a column occurs twice.
     fn has_taken_name(&self, definition: &TableDef) -> bool
         ensures { result ≡ (is_some (table_named definition.now.name self.now) || has_duplicate_names definition.now.columns) }
     {
         self.find_table(&definition.name).is_some() || definition.columns.has_duplicate_names()
     }
 
-    /// Whether some column refers to a table that is there, and differs in type from its key.
+    /// Returns whether any column refers to an existing table and differs in type from its key.
     fn mismatches_some_target(&self, definition: &TableDef) -> bool
         ensures { result ≡ list_any (mismatches_target self.now) definition.now.columns }
     {
@@ -137,7 +139,7 @@ impl Catalog {
         columns.iter().any(|column| self.mismatches_target(column))
     }
 
-    /// Whether a column refers to a table that is there, and differs in type from its key.
+    /// Returns whether a column refers to an existing table and differs in type from its key.
     fn mismatches_target(&self, column: &Column) -> bool
         ensures { result ≡ mismatches_target self.now column.now }
     {
@@ -148,16 +150,15 @@ impl Catalog {
         }
     }
 
-    /// Whether there are 64 tables already, or the new one has more than 16 columns.
+    /// Returns whether there are 64 tables already, or the new one has more than 16 columns.
     fn exceeds_limits(&self, definition: &TableDef) -> bool
         ensures { result ≡ exceeds_table_limits definition.now self.now }
     {
         self.tables.len() >= MAX_TABLES || definition.columns.as_slice().len() > MAX_COLUMNS
     }
 
-    /// Drops a table and its indexes. The others stay in order. It takes no memory. `NoSuchTable` where no table has
-    /// the name, else `InUse` where a column of another table refers to it or a standing query reads it. A refused call
-    /// changes nothing.
+    /// Drops a table and its indexes. The others keep their order. Allocates nothing. Fails with `NoSuchTable` if no table has the name,
+    /// and otherwise with `InUse` if a column of another table refers to it or a standing query reads it. A failed call changes nothing.
     pub fn drop_table(&mut self, name: &Name) -> Result<(), Refusal>
         ensures due { MatchResult result (λ _. first_refusal (drop_table_conditions name.now self.old) ≡ None)
             (λ refusal. first_refusal (drop_table_conditions name.now self.old) ≡ Some refusal) }
@@ -174,14 +175,14 @@ impl Catalog {
         Ok(())
     }
 
-    /// Whether a column of another table refers to the table of a name, or a standing query reads it.
+    /// Returns whether a column of another table refers to the table with a name, or a standing query reads it.
     fn is_in_use(&self, name: &Name) -> bool
         ensures { result ≡ is_in_use name.now self.now }
     {
         self.is_referred_to(name) || self.standing.read(name)
     }
 
-    /// Whether a column of another table refers to the table of a name.
+    /// Returns whether a column of another table refers to the table with a name.
     fn is_referred_to(&self, name: &Name) -> bool
         ensures { result ≡ list_any (is_other_referring_to name.now) self.now.tables }
     {
@@ -189,10 +190,14 @@ impl Catalog {
             && table.definition.columns.refer_to(name))
     }
 
-    /// Adds an index, which comes last in its table. `NoSuchTable` where its table isn't there; else `NoSuchColumn`
-    /// where that has no column of the name; else `NameTaken` where some index of any table has its name; else
-    /// `TooMany` where the table has 16 indexes already. `Memory` may come in their place and in that of success. A
-    /// refused call changes nothing.
+    /// Appends an index to its table. Fails with the first of these refusals that applies:
+    ///
+    /// - `NoSuchTable`: the table does not exist.
+    /// - `NoSuchColumn`: the table has no such column.
+    /// - `NameTaken`: an index of any table has the name.
+    /// - `TooMany`: the table has 16 indexes already.
+    ///
+    /// May instead fail with `Memory`. A failed call changes nothing.
     pub fn add_index(&mut self, index: IndexDef) -> Result<(), Refusal>
         ensures due { AnswersDue (first_refusal (index_conditions index self.old)) result }
         ensures ok { OnOk result (self.new ≡ with_index index self.old) }
@@ -207,7 +212,7 @@ impl Catalog {
         self.tables[place].indexes.push(index)
     }
 
-    /// What refuses a new index of a table.
+    /// Returns the refusal of a new index of a table, or `None` if nothing refuses it.
     fn index_refusal(&self, table: &Table, index: &IndexDef) -> Option<Refusal>
         requires { table_named index.now.table self.now ≡ Some table.now }
         ensures { result ≡ first_refusal (index_conditions index.now self.now) }
@@ -225,7 +230,7 @@ impl Catalog {
         None
     }
 
-    /// Drops an index. It takes no memory. `NoSuchIndex` where no index has the name. A refused call changes nothing.
+    /// Drops an index. Allocates nothing. Fails with `NoSuchIndex` if no index has the name. A failed call changes nothing.
     pub fn drop_index(&mut self, name: &Name) -> Result<(), Refusal>
         ensures due { MatchResult result (λ _. first_refusal (drop_index_conditions name.now self.old) ≡ None)
             (λ refusal. first_refusal (drop_index_conditions name.now self.old) ≡ Some refusal) }
@@ -239,9 +244,9 @@ impl Catalog {
         Ok(())
     }
 
-    /// Adds a standing query by its name and the tables that it reads, which are there. It comes last. `NameTaken` where some
-    /// standing query has its name, else `TooMany` where there are 32 already. `Memory` may come in their place and in that of
-    /// success. A refused call changes nothing.
+    /// Appends a standing query: its name and the tables that it reads. Requires that these tables exist. Fails with `NameTaken` if a
+    /// standing query has the name, and otherwise with `TooMany` if there are 32 already. May instead fail with `Memory`. A failed call
+    /// changes nothing.
     pub fn add_standing(&mut self, name: Name, tables: TableNames) -> Result<(), Refusal>
         requires { lacks_some_table tables self.old ≡ false }
         ensures due { AnswersDue (first_refusal (standing_conditions name self.old)) result }
@@ -254,8 +259,8 @@ impl Catalog {
         self.standing.push(StandingDef { name, tables })
     }
 
-    /// What refuses a new standing query by its name: the refusal that `add_standing` answers where memory suffices, or none
-    /// where it would be added. It takes no memory.
+    /// Returns the refusal of a new standing query with a name, or `None` if nothing but a failed allocation would refuse it. Allocates
+    /// nothing.
     pub fn standing_refusal(&self, name: &Name) -> Option<Refusal>
         ensures { result ≡ first_refusal (standing_conditions name.now self.now) }
     {
@@ -268,8 +273,8 @@ impl Catalog {
         }
     }
 
-    /// Drops a standing query. The others stay in order. It takes no memory. `NoSuchStandingQuery` where none has the name. A
-    /// refused call changes nothing.
+    /// Drops a standing query. The others keep their order. Allocates nothing. Fails with `NoSuchStandingQuery` if none has the name. A
+    /// failed call changes nothing.
     pub fn drop_standing(&mut self, name: &Name) -> Result<(), Refusal>
         ensures due { MatchResult result (λ _. first_refusal (drop_standing_conditions name.now self.old) ≡ None)
             (λ refusal. first_refusal (drop_standing_conditions name.now self.old) ≡ Some refusal) }
@@ -283,7 +288,7 @@ impl Catalog {
         Ok(())
     }
 
-    /// The standing queries, in order of creation. No two have one name.
+    /// Returns the standing queries in order of creation. No two have the same name.
     pub fn standing(&self) -> &[StandingDef]
         ensures value { result.now ≡ self.now.standing }
         ensures distinct { HasDistinctStanding self.now }
@@ -291,15 +296,15 @@ impl Catalog {
         self.standing.as_slice()
     }
 
-    /// The standing query of a name, none where none has it. It looks through all, at most 32.
+    /// Returns the standing query with a name, or `None` if there is none. Searches all, at most 32.
     pub fn find_standing(&self, name: &Name) -> Option<&StandingDef>
         ensures { option_copied result ≡ standing_named name.now self.now }
     {
         self.standing().iter().find(|query| *name == query.name)
     }
 
-    /// The place of the standing query of a name in the order of creation, counted from 0; none where none has it. It looks
-    /// through all, at most 32.
+    /// Returns the position of the standing query with a name in the order of creation, counted from 0, or `None` if there is none.
+    /// Searches all, at most 32.
     pub fn standing_place_of(&self, name: &Name) -> Option<usize>
         ensures place { result ≡ standing_place name.now self.now }
         ensures distinct { HasDistinctStanding self.now }
@@ -307,8 +312,8 @@ impl Catalog {
         self.standing().iter().position(|query| *name == query.name)
     }
 
-    /// The index of a name, or none where no index has it. It looks through the indexes of all tables, at most 1,024:
-    /// only commands that name an index ask it.
+    /// Returns the index with a name, or `None` if there is none. Searches the indexes of all tables, at most 1,024; only commands that
+    /// name an index need this.
     pub fn find_index(&self, name: &Name) -> Option<&IndexDef>
         ensures found { option_copied result ≡ index_named name.now self.now }
         ensures distinct { HasDistinctIndexes self.now }
@@ -320,8 +325,8 @@ impl Catalog {
             .find(|index| *name == index.name)
     }
 
-    /// The place of the table that has the index of a name, in the order of creation, counted from 0; none where no index
-    /// has it. It looks through the indexes of all tables, at most 1,024.
+    /// Returns the position of the table that has the index with a name, in the order of creation, counted from 0, or `None` if no index
+    /// has the name. Searches the indexes of all tables, at most 1,024.
     pub fn place_with_index(&self, name: &Name) -> Option<usize>
         ensures place { result ≡ position (λ t. list_any (λ i. same_name name.now i.name) t.indexes) self.now.tables }
         ensures distinct { HasDistinctIndexes self.now }
@@ -331,7 +336,7 @@ impl Catalog {
             .position(|table| table.indexes.has(name))
     }
 
-    /// The tables, in order of creation.
+    /// Returns the tables in order of creation.
     pub fn tables(&self) -> &[Table]
         ensures value { result.now ≡ self.now.tables }
         ensures distinct { HasDistinctIndexes self.now }
@@ -340,7 +345,7 @@ impl Catalog {
         self.tables.values().as_slice()
     }
 
-    /// The table of a name, none where no table has it. No two tables have one name.
+    /// Returns the table with a name, or `None` if there is none. No two tables have the same name.
     #[tactic(auto, using(crate::proofs::Places::table_at_place, crate::proofs::Places::no_table))]
     pub fn find_table(&self, name: &Name) -> Option<&Table>
         ensures found { option_copied result ≡ table_named name.now self.now }
@@ -350,7 +355,7 @@ impl Catalog {
         Some(self.table_at(place))
     }
 
-    /// The table at a place in the order of creation, counted from 0.
+    /// Returns the table at a position in the order of creation, counted from 0.
     pub fn table_at(&self, place: usize) -> &Table
         requires { place < length self.now.tables }
         ensures { slice_get self.now.tables place ≡ Some result.now }
@@ -358,7 +363,7 @@ impl Catalog {
         self.tables.get_index(place).unwrap().1
     }
 
-    /// The place of the table of a name in the order of creation, counted from 0; none where no table has it.
+    /// Returns the position of the table with a name in the order of creation, counted from 0, or `None` if there is none.
     pub fn place_of(&self, name: &Name) -> Option<usize>
         ensures place { result ≡ table_place name.now self.now }
         ensures distinct { HasDistinctNames self.now }
@@ -366,8 +371,8 @@ impl Catalog {
         self.tables.get_index_of(name)
     }
 
-    /// The foreign keys of a table that is to come last, one for each of its columns that refers to a table, in the order
-    /// of the columns. The place of a target that isn't there is 0. `AllocError` where memory is refused.
+    /// Returns the foreign keys of a table that is to be appended, one for each of its columns that refers to a table, in the order of the
+    /// columns. The position of a target that does not exist is 0. Fails with `AllocError` if an allocation fails.
     pub fn references(&self, alloc: Global, columns: &Columns) -> Result<Vec<Reference>, AllocError>
         ensures { IfOk result (λ found. found.items ≡ map (reference_at self.now (length self.now.tables)) (references_of columns.now)) }
     {

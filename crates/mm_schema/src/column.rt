@@ -10,27 +10,27 @@ use mm_value::ColType;
 use std::alloc::{AllocError, Global};
 use std::marker::Model;
 
-/// What a foreign key makes of it that a row is deleted to which rows refer.
+/// The rule of a foreign key for deleting a referenced row.
 #[derive(Clone, Copy, Debug, PartialEq, Eq)]
 pub enum OnDelete {
-    /// The row is not deleted as long as a row refers to it.
+    /// A row is not deleted as long as a row refers to it.
     Restrict,
-    /// The rows that refer to it are deleted too.
+    /// The rows that refer to a deleted row are deleted too.
     Cascade,
 }
 
-/// What a column is for.
+/// The role of a column.
 #[derive(Debug, PartialEq, Eq, Drop)]
 pub enum Role {
-    /// Its value is the row's key: no two rows of the table have the same.
+    /// Its value is the row's key: no two rows of the table have the same one.
     Key,
-    /// Nothing beside its value.
+    /// No role but to store a value.
     Plain,
     /// A foreign key: each value is the key of a row of another table.
     Reference {
-        /// The name of that table.
+        /// The name of the other table.
         table: Name,
-        /// What becomes of the rows that refer to a row that is deleted.
+        /// The rule for deleting a referenced row.
         on_delete: OnDelete,
     },
 }
@@ -38,16 +38,16 @@ pub enum Role {
 /// A column of a table.
 #[derive(Debug, Drop)]
 pub struct Column {
-    /// Its name, which no other column of the table has.
+    /// The name, which no other column of the table has.
     pub name: Name,
-    /// What its values are.
+    /// The type of its values.
     pub col_type: ColType,
-    /// What it is for.
+    /// The role.
     pub role: Role,
 }
 
 impl OnDelete {
-    /// Whether the rows that refer to a row are deleted with it.
+    /// Returns whether the rows that refer to a row are deleted with it.
     pub(crate) fn is_cascade(self) -> bool
         ensures { result ≡ is_cascade self }
     {
@@ -59,7 +59,7 @@ impl OnDelete {
 }
 
 impl Role {
-    /// A copy of the role. It takes no memory.
+    /// Returns a copy of the role. Allocates nothing.
     fn copy(&self) -> Role
         ensures { result ≡ self.now }
     {
@@ -75,7 +75,7 @@ impl Role {
 }
 
 impl Column {
-    /// A copy of the column. It takes no memory.
+    /// Returns a copy of the column. Allocates nothing.
     fn copy(&self) -> Column
         ensures { result ≡ self.now }
     {
@@ -86,7 +86,7 @@ impl Column {
         }
     }
 
-    /// Whether it is the key.
+    /// Returns whether the column is the key.
     pub fn is_key(&self) -> bool
         ensures { result ≡ is_key self.now }
     {
@@ -96,7 +96,7 @@ impl Column {
         }
     }
 
-    /// The table that it refers to, or none where it is no foreign key.
+    /// Returns the table that the column refers to, or `None` if it is not a foreign key.
     pub fn target(&self) -> Option<&Name>
         ensures { option_copied result ≡ target_of self.now }
     {
@@ -106,7 +106,7 @@ impl Column {
         }
     }
 
-    /// Whether a row is deleted with the row that it refers to by this column.
+    /// Returns whether a row is deleted with the row that it refers to by this column.
     pub fn cascades(&self) -> bool
         ensures { result ≡ cascades self.now }
     {
@@ -116,7 +116,7 @@ impl Column {
         }
     }
 
-    /// Whether it refers to the table of a name.
+    /// Returns whether the column refers to the table with a name.
     fn refers_to(&self, name: &Name) -> bool
         ensures { result ≡ refers_to name.now self.now }
     {
@@ -124,7 +124,7 @@ impl Column {
     }
 }
 
-/// The columns of a table from left to right: just one of them is the key.
+/// The columns of a table from left to right. Exactly one of them is the key.
 #[derive(Debug, Drop)]
 pub struct Columns {
     items: Vec<Column>,
@@ -144,7 +144,7 @@ impl Model for Columns {
 }
 
 impl Columns {
-    /// These columns, or none unless just one of them is the key.
+    /// Returns these columns, or `None` unless exactly one of them is the key.
     #[tactic(auto, using(crate::proofs::Keys::key_is_there, crate::proofs::Keys::place_of_key))]
     pub fn new(items: Vec<Column>) -> Option<Columns>
         ensures variant { IsSome result ↔ (key_count items.items ≡ 1) }
@@ -157,7 +157,7 @@ impl Columns {
         Some(Columns { items, key })
     }
 
-    /// A copy of the columns. `AllocError` where memory is refused.
+    /// Returns a copy of the columns. Fails with `AllocError` if an allocation fails.
     pub(crate) fn copy(&self, alloc: Global) -> Result<Columns, AllocError>
         ensures { IfOk result (λ copy. copy ≡ self.now) }
     {
@@ -171,7 +171,7 @@ impl Columns {
         })
     }
 
-    /// The columns from left to right, of which just one is the key.
+    /// Returns the columns from left to right. Exactly one of them is the key.
     pub fn as_slice(&self) -> &[Column]
         ensures value { result.now ≡ self.now }
         ensures one_key { key_count self.now ≡ 1 }
@@ -179,7 +179,7 @@ impl Columns {
         &self.items
     }
 
-    /// Whether some name stands twice among them.
+    /// Returns whether any two columns have the same name.
     pub(crate) fn has_duplicate_names(&self) -> bool
         ensures { result ≡ has_duplicate_names self.now }
     {
@@ -192,7 +192,7 @@ impl Columns {
         false
     }
 
-    /// The place of the key column, counted from 0.
+    /// Returns the position of the key column, counted from 0.
     #[tactic(auto, using(crate::proofs::Keys::key_within))]
     pub fn key(&self) -> usize
         ensures place { result ≡ key_place self.now }
@@ -201,7 +201,7 @@ impl Columns {
         self.key
     }
 
-    /// The place of the column of a name, counted from 0, or none where no column has it.
+    /// Returns the position of the column with a name, counted from 0, or `None` if there is none.
     pub fn place_of(&self, name: &NameRef<'_>) -> Option<usize>
         ensures { result ≡ column_place name.now self.now }
     {
@@ -210,14 +210,14 @@ impl Columns {
             .position(|column| *name == column.name.as_ref())
     }
 
-    /// Whether the key column is of another type.
+    /// Returns whether the key column has another type.
     pub(crate) fn key_differs_from(&self, col_type: ColType) -> bool
         ensures { result ≡ differs_from_key col_type self.now }
     {
         self.items[self.key].col_type != col_type
     }
 
-    /// Whether some column refers to the table of a name.
+    /// Returns whether any column refers to the table with a name.
     pub(crate) fn refer_to(&self, name: &Name) -> bool
         ensures { result ≡ list_any (refers_to name.now) self.now }
     {
@@ -225,21 +225,21 @@ impl Columns {
     }
 }
 
-/// How many of the columns are the key.
+/// Returns the number of columns that are the key.
 fn count_keys(columns: &[Column]) -> usize
     ensures { result ≡ key_count columns.now }
 {
     columns.iter().filter(|column| column.is_key()).count()
 }
 
-/// The place of the first column that is the key.
+/// Returns the position of the first column that is the key.
 fn find_key(columns: &[Column]) -> Option<usize>
     ensures { result ≡ position is_key columns.now }
 {
     columns.iter().position(|column| column.is_key())
 }
 
-/// Whether some column has the name.
+/// Returns whether any column has the name.
 fn has_name(columns: &[Column], name: &Name) -> bool
     ensures { result ≡ list_any (λ column. same_name name.now column.name) columns.now }
 {

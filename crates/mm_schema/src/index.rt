@@ -1,4 +1,4 @@
-//! Indexes as the catalog has them.
+//! Definitions of indexes.
 ghost use Rattle.std.specs.Prelude.{◌≡◌, ◌++◌, [], ◌∷◌, not, filter, position, IfErr, IfOk, OnOk, OnErr};
 ghost use Rattle.std.specs.List.{list_any};
 ghost use Rattle.mm_schema.specs.Name.{same_name};
@@ -9,30 +9,30 @@ use mm_value::Refusal;
 use std::alloc::{AllocError, Global};
 use std::marker::Model;
 
-/// How an index finds rows.
+/// The kind of an index.
 #[derive(Clone, Copy, Debug, PartialEq, Eq)]
 pub enum IndexKind {
-    /// In the order of the values, by a tree.
+    /// A tree, in the order of the values.
     Tree,
-    /// By the values' hashes.
+    /// A hash table, by the hashes of the values.
     Hash,
 }
 
-/// An index as it is defined.
+/// The definition of an index.
 #[derive(Debug, Drop)]
 pub struct IndexDef {
-    /// Its name, which no other index of any table has.
+    /// The name, which no other index of any table has.
     pub name: Name,
-    /// The table whose rows it finds.
+    /// The indexed table.
     pub table: Name,
-    /// The column by whose values it finds them.
+    /// The indexed column.
     pub column: Name,
-    /// How it finds them.
+    /// The kind.
     pub kind: IndexKind,
 }
 
 impl IndexDef {
-    /// A copy of the definition. It takes no memory.
+    /// Returns a copy of the definition. Allocates nothing.
     fn copy(&self) -> IndexDef
         ensures { result ≡ self.now }
     {
@@ -45,12 +45,12 @@ impl IndexDef {
     }
 }
 
-/// Which index is meant.
+/// The identity of an index.
 #[derive(Debug, PartialEq, Eq, Drop)]
 pub enum IndexId {
-    /// The one that each table has on its key, written `#key`.
+    /// The index on the key that each table has, written `#key`.
     Key,
-    /// The one of this name.
+    /// The index with this name.
     Named(Name),
 }
 
@@ -70,7 +70,7 @@ impl Model for Indexes {
 }
 
 impl Indexes {
-    /// No index. It takes no memory.
+    /// Returns an empty list. Allocates nothing.
     pub(crate) fn new(alloc: Global) -> Indexes
         ensures { result ≡ [] }
     {
@@ -79,7 +79,7 @@ impl Indexes {
         }
     }
 
-    /// A copy of the indexes' definitions. `AllocError` where memory is refused.
+    /// Returns a copy of the definitions. Fails with `AllocError` if an allocation fails.
     pub(crate) fn copy(&self, alloc: Global) -> Result<Indexes, AllocError>
         ensures { IfOk result (λ copy. copy ≡ self.now) }
     {
@@ -90,28 +90,28 @@ impl Indexes {
         Ok(Indexes { items })
     }
 
-    /// The indexes.
+    /// Returns the indexes in order.
     pub fn as_slice(&self) -> &[IndexDef]
         ensures { result.now ≡ self.now }
     {
         &self.items
     }
 
-    /// Whether some index has the name.
+    /// Returns whether any index has the name.
     pub(crate) fn has(&self, name: &Name) -> bool
         ensures { result ≡ list_any (λ index. same_name name.now index.name) self.now }
     {
         self.items.iter().any(|index| *name == index.name)
     }
 
-    /// The place of the index of a name, counted from 0; none where no index has it.
+    /// Returns the position of the index with a name, counted from 0, or `None` if there is none.
     pub fn place_of(&self, name: &Name) -> Option<usize>
         ensures { result ≡ position (λ index. same_name name.now index.name) self.now }
     {
         self.items.iter().position(|index| *name == index.name)
     }
 
-    /// Puts an index at the end. It is refused for want of memory alone, and then nothing changes.
+    /// Appends an index. Fails only with `Memory`, if an allocation fails; nothing changes then.
     pub(crate) fn push(&mut self, index: IndexDef) -> Result<(), Refusal>
         ensures ok { OnOk result (self.new ≡ self.old ++ index ∷ []) }
         ensures err { OnErr result (self.new ≡ self.old) }
@@ -121,7 +121,7 @@ impl Indexes {
         Ok(())
     }
 
-    /// Takes out each index of the name. It takes no memory.
+    /// Removes each index with the name. Allocates nothing.
     pub(crate) fn remove(&mut self, name: &Name)
         ensures { self.new ≡ filter (λ index. not (same_name name.now index.name)) self.old }
     {

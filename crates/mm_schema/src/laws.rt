@@ -1,4 +1,4 @@
-//! Laws of the definitions of this crate, which the clauses here and in the crates above speak of.
+//! Laws of the definitions of this crate, which the contracts here and in other crates use.
 ghost use Rattle.std.specs.Prelude.{◌≡◌, ◌⊎◌, ℕ, false, List, Option, Some, None, Contains};
 ghost use Rattle.std.specs.Cmp.{IsTotalOrder};
 ghost use Rattle.std.specs.List.Sorted.{IsPermutation, IsSorted};
@@ -16,15 +16,15 @@ ghost use Rattle.mm_schema.specs.declared.index.IndexDef.{IndexDef};
 ghost use Rattle.mm_schema.specs.declared.standing.StandingDef.{StandingDef};
 ghost use Rattle.mm_schema.specs.declared.table.TableDef.{TableDef};
 
-/// Putting in order sorts: the list has the same elements afterwards, and none is less than the one before it, in any
-/// total order, also where elements compare as equal.
+/// Sorting: `in_order` returns the same elements, and none is less than the previous one, in any total order, even if elements compare as
+/// equal.
 pub fn in_order_sorts<T>()
     ensures permutation { (cmp : T → T → Ordering) (xs : List T) → IsPermutation xs (in_order cmp xs) }
     ensures sorted { (cmp : T → T → Ordering) → IsTotalOrder cmp → (xs : List T) → IsSorted cmp (in_order cmp xs) }
 {}
 
-/// Changed rows are just those that a change leaves and those that it brings: a row that has the key of no row that goes
-/// is still there, each row that comes is there, and no other row is.
+/// The rows after a change are exactly those that it keeps and those that it inserts. It keeps each row whose key no old row of the change
+/// has, and inserts each new row.
 pub fn changes_are_exact()
     ensures stays { (key : ℕ) (pairs : List Pair) (rows : List (List Value)) (row : List Value) → Contains rows row
         → ((old : List Value) (new : Option (List Value)) → Contains pairs (Some old, new) → column_cmp key row old ≡ Equal → ⊥)
@@ -36,8 +36,8 @@ pub fn changes_are_exact()
         ⊎ (Contains rows row × ((old : List Value) (new : Option (List Value)) → Contains pairs (Some old, new) → column_cmp key row old ≡ Equal → ⊥)) }
 {}
 
-/// References have targets: where each column that refers to a table refers to one that is there, that is so after each
-/// change of the catalog that nothing refuses.
+/// Foreign keys have targets: if each column that refers to a table refers to an existing one, every change of the catalog that nothing
+/// refuses preserves this.
 pub fn references_have_targets()
     ensures table { (definition : TableDef) (schema : Schema) → HasTargets schema → first_refusal (table_conditions definition schema) ≡ None
         → HasTargets (with_table definition schema) }
@@ -49,8 +49,7 @@ pub fn references_have_targets()
     ensures no_standing { (name : List ℕ) (schema : Schema) → HasTargets schema → HasTargets (without_standing name schema) }
 {}
 
-/// Tables refer to others: where no column refers to its own table, that is so after each change of the catalog that
-/// nothing refuses.
+/// Tables refer to other tables: if no column refers to its own table, every change of the catalog that nothing refuses preserves this.
 pub fn tables_refer_to_others()
     ensures table { (definition : TableDef) (schema : Schema) → RefersToOthers schema → first_refusal (table_conditions definition schema) ≡ None
         → RefersToOthers (with_table definition schema) }
@@ -61,8 +60,8 @@ pub fn tables_refer_to_others()
     ensures no_standing { (name : List ℕ) (schema : Schema) → RefersToOthers schema → RefersToOthers (without_standing name schema) }
 {}
 
-/// Standing queries read tables that are there: where each reads only such tables, that is so after each change of the
-/// catalog that nothing refuses, where a new standing query reads such tables.
+/// Standing queries read existing tables: if each reads only such tables, every change of the catalog that nothing refuses preserves this.
+/// A new standing query must read only such tables.
 pub fn standing_queries_read_tables()
     ensures table { (definition : TableDef) (schema : Schema) → ReadsTables schema → ReadsTables (with_table definition schema) }
     ensures no_table { (name : List ℕ) (schema : Schema) → ReadsTables schema → first_refusal (drop_table_conditions name schema) ≡ None

@@ -1,4 +1,4 @@
-//! The catalog: names, columns, tables, indexes, and what a change of a table's rows is.
+//! The catalog: names, columns, tables and indexes; and the definition of a change of a table's rows.
 #![tactic(auto)]
 
 mod catalog;

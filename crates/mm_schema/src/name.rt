@@ -6,10 +6,10 @@ ghost use Rattle.mm_schema.specs.Name.{IsName, is_name, is_name_byte, is_name_te
 use arrayvec::ArrayVec;
 use std::marker::Model;
 
-/// The most bytes of a name.
+/// The maximum length of a name in bytes.
 const MAX_NAME_BYTES: usize = 32;
 
-/// A name: `a` to `z`, then `a` to `z`, `0` to `9` and `_`, at most 32 bytes in all. It lies in the value itself.
+/// A name: `a` to `z`, followed by `a` to `z`, `0` to `9` and `_`, at most 32 bytes in all. Stored inline.
 #[derive(Debug, PartialEq, Eq, Hash, Drop)]
 pub struct Name {
     bytes: ArrayVec<u8, 32>,
@@ -28,7 +28,7 @@ impl Model for Name {
     ghost inverse = { λ bytes. record { bytes = record { items = bytes } } };
 }
 
-/// A name that lies elsewhere, as in a line. It is `a` to `z`, then `a` to `z`, `0` to `9` and `_`, at most 32 bytes in all.
+/// A reference to a name, for example in a line: `a` to `z`, followed by `a` to `z`, `0` to `9` and `_`, at most 32 bytes in all.
 #[derive(Debug, Drop)]
 pub struct NameRef<'l> {
     bytes: &'l [u8],
@@ -60,7 +60,7 @@ impl<'l> PartialEq for NameRef<'l> {
 }
 
 impl<'l> NameRef<'l> {
-    /// The name of these bytes, or none where they are no name. Nothing is copied.
+    /// Returns a reference to the name with these bytes, or `None` if they are not a name. Copies nothing.
     pub fn new(bytes: &'l [u8]) -> Option<NameRef<'l>>
         ensures variant { IsSome result ↔ IsName bytes.now }
         ensures value { IfSome result (λ name. name ≡ bytes.now) }
@@ -71,7 +71,7 @@ impl<'l> NameRef<'l> {
         Some(NameRef { bytes })
     }
 
-    /// The bytes of the name: 1 to 32.
+    /// Returns the bytes of the name: 1 to 32.
     pub fn bytes(&self) -> &'l [u8]
         ensures value { result.now ≡ self.now }
         ensures is_name { IsName self.now }
@@ -79,7 +79,7 @@ impl<'l> NameRef<'l> {
         self.bytes
     }
 
-    /// A copy of the name, which lies in the value itself. It takes no memory.
+    /// Returns a copy of the name. Allocates nothing.
     pub fn to_name(&self) -> Name
         ensures { result ≡ self.now }
     {
@@ -89,7 +89,7 @@ impl<'l> NameRef<'l> {
 }
 
 impl Name {
-    /// The name of these bytes, or none where they are no name.
+    /// Returns the name with these bytes, or `None` if they are not a name.
     pub fn new(bytes: &[u8]) -> Option<Name>
         ensures variant { IsSome result ↔ IsName bytes.now }
         ensures value { IfSome result (λ name. name ≡ bytes.now) }
@@ -98,7 +98,7 @@ impl Name {
         Some(name.to_name())
     }
 
-    /// The name where it lies.
+    /// Returns a reference to the name.
     pub fn as_ref(&self) -> NameRef<'_>
         ensures { result ≡ self.now }
     {
@@ -107,14 +107,14 @@ impl Name {
         }
     }
 
-    /// A name of the same bytes. It takes no memory.
+    /// Returns a copy of the name. Allocates nothing.
     pub fn copy(&self) -> Name
         ensures { result ≡ self.now }
     {
         self.as_ref().to_name()
     }
 
-    /// The bytes of the name: 1 to 32.
+    /// Returns the bytes of the name: 1 to 32.
     pub fn bytes(&self) -> &[u8]
         ensures value { result.now ≡ self.now }
         ensures is_name { IsName self.now }
@@ -123,14 +123,14 @@ impl Name {
     }
 }
 
-/// Whether bytes are a name.
+/// Returns whether bytes are a name.
 fn is_name(bytes: &[u8]) -> bool
     ensures { result ≡ is_name bytes.now }
 {
     is_name_text(bytes) && bytes.len() <= MAX_NAME_BYTES
 }
 
-/// Whether a letter comes first, and then letters, digits and `_`.
+/// Returns whether bytes are a letter followed by letters, digits and `_`.
 #[tactic(auto, using(crate::proofs::NameLemmas::text_of_parts))]
 fn is_name_text(bytes: &[u8]) -> bool
     ensures { result ≡ is_name_text bytes.now }
@@ -141,14 +141,14 @@ fn is_name_text(bytes: &[u8]) -> bool
     }
 }
 
-/// Whether each byte may stand in a name after its first.
+/// Returns whether a name may contain each byte after its first.
 fn are_name_bytes(bytes: &[u8]) -> bool
     ensures { result ≡ list_all is_name_byte bytes.now }
 {
     bytes.iter().all(|b| is_name_byte(*b))
 }
 
-/// Whether a byte may stand in a name after its first.
+/// Returns whether a name may contain a byte after its first.
 fn is_name_byte(byte: u8) -> bool
     ensures { result ≡ is_name_byte byte }
 {

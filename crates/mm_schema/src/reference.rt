@@ -1,13 +1,13 @@
-//! Foreign keys by places.
+//! Foreign keys by position.
 
-/// A foreign key: a column of one table whose values are keys of another. Tables are meant by their places in the order of
+/// A foreign key: a column of one table whose values are keys of another. Tables are identified by their positions in the order of
 /// creation, counted from 0.
 #[derive(Clone, Copy, Debug, PartialEq, Eq)]
 pub struct Reference {
-    /// The place of the table whose rows refer.
+    /// The position of the referring table.
     pub from: usize,
-    /// The place of its column, counted from 0.
+    /// The position of its column, counted from 0.
     pub column: usize,
-    /// The place of the table that they refer to.
+    /// The position of the referenced table.
     pub to: usize,
 }

@@ -1,4 +1,4 @@
-//! Standing queries as the catalog has them.
+//! Standing queries in the catalog.
 ghost use Rattle.std.specs.Prelude.{◌≡◌, ◌++◌, [], ◌∷◌, None, not, filter, find, map, IfErr, OnOk, OnErr};
 ghost use Rattle.std.specs.List.{IsDistinct, list_any};
 ghost use Rattle.mm_schema.specs.Name.{same_name};
@@ -10,7 +10,7 @@ use mm_value::Refusal;
 use std::alloc::Global;
 use std::marker::Model;
 
-/// The names of tables, one after another.
+/// A list of names of tables.
 #[derive(Debug, Drop)]
 pub struct TableNames {
     items: Vec<Name>,
@@ -25,14 +25,14 @@ impl Model for TableNames {
 }
 
 impl TableNames {
-    /// The list of these names, in their order. It takes no memory.
+    /// Returns the list of these names in their order. Allocates nothing.
     pub fn new(items: Vec<Name>) -> TableNames
         ensures { result ≡ items.items }
     {
         TableNames { items }
     }
 
-    /// The names, in their order.
+    /// Returns the names in order.
     pub fn as_slice(&self) -> &[Name]
         ensures { result.now ≡ self.now }
     {
@@ -40,17 +40,17 @@ impl TableNames {
     }
 }
 
-/// A standing query of the catalog: its name, and which tables it reads.
+/// A standing query in the catalog: its name, and the tables that it reads.
 #[derive(Debug, Drop)]
 pub struct StandingDef {
-    /// Its name, which no other standing query has.
+    /// The name, which no other standing query has.
     pub name: Name,
-    /// The tables whose rows it combines, in the order of its FROM, each as often as it stands there.
+    /// The tables whose rows it combines, in the order of its FROM, with repetitions.
     pub tables: TableNames,
 }
 
 impl StandingDef {
-    /// Whether it reads the table of a name.
+    /// Returns whether it reads the table with a name.
     pub fn reads(&self, table: &Name) -> bool
         ensures { result ≡ reads_table table.now self.now }
     {
@@ -58,7 +58,7 @@ impl StandingDef {
     }
 }
 
-/// The standing queries that there are, in order of creation, no two of one name.
+/// All standing queries, in order of creation. No two have the same name.
 #[derive(Debug, Drop)]
 pub(crate) struct StandingQueries {
     items: Vec<StandingDef>,
@@ -78,7 +78,7 @@ impl Model for StandingQueries {
 }
 
 impl StandingQueries {
-    /// No standing query. It takes no memory.
+    /// Returns an empty list. Allocates nothing.
     pub(crate) fn new(alloc: Global) -> StandingQueries
         ensures { result ≡ [] }
     {
@@ -87,7 +87,7 @@ impl StandingQueries {
         }
     }
 
-    /// The standing queries.
+    /// Returns the standing queries in order of creation.
     pub(crate) fn as_slice(&self) -> &[StandingDef]
         ensures value { result.now ≡ self.now }
         ensures distinct { IsDistinct same_name (map (λ q. q.name) self.now) }
@@ -95,14 +95,14 @@ impl StandingQueries {
         &self.items
     }
 
-    /// Whether some of them reads the table of a name.
+    /// Returns whether any of them reads the table with a name.
     pub(crate) fn read(&self, table: &Name) -> bool
         ensures { result ≡ list_any (reads_table table.now) self.now }
     {
         self.items.iter().any(|query| query.reads(table))
     }
 
-    /// Puts a standing query of a new name at the end. It is refused for want of memory alone, and then nothing changes.
+    /// Appends a standing query. Requires a new name. Fails only with `Memory`, if an allocation fails; nothing changes then.
     pub(crate) fn push(&mut self, query: StandingDef) -> Result<(), Refusal>
         requires { find (λ other. same_name query.name other.name) self.old ≡ None }
         ensures ok { OnOk result (self.new ≡ self.old ++ query ∷ []) }
@@ -113,7 +113,7 @@ impl StandingQueries {
         Ok(())
     }
 
-    /// Takes out the standing query of the name. It takes no memory.
+    /// Removes the standing query with the name. Allocates nothing.
     pub(crate) fn remove(&mut self, name: &Name)
         ensures { self.new ≡ filter (λ query. not (same_name name.now query.name)) self.old }
     {

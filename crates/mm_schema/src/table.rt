@@ -1,4 +1,4 @@
-//! Tables as the catalog has them.
+//! Tables in the catalog.
 ghost use Rattle.std.specs.Prelude.{◌≡◌, IfOk};
 
 use crate::column::Columns;
@@ -6,26 +6,26 @@ use crate::index::Indexes;
 use crate::name::Name;
 use std::alloc::{AllocError, Global};
 
-/// A table as it is defined.
+/// The definition of a table.
 #[derive(Debug, Drop)]
 pub struct TableDef {
-    /// Its name.
+    /// The name.
     pub name: Name,
-    /// Its columns.
+    /// The columns.
     pub columns: Columns,
 }
 
 /// A table of the catalog.
 #[derive(Debug, Drop)]
 pub struct Table {
-    /// As it was defined.
+    /// The definition.
     pub definition: TableDef,
-    /// Its indexes, in order of creation.
+    /// The indexes, in order of creation.
     pub indexes: Indexes,
 }
 
 impl TableDef {
-    /// A copy of the definition. `AllocError` where memory is refused.
+    /// Returns a copy of the definition. Fails with `AllocError` if an allocation fails.
     fn copy(&self, alloc: Global) -> Result<TableDef, AllocError>
         ensures { IfOk result (λ copy. copy ≡ self.now) }
     {
@@ -38,7 +38,7 @@ impl TableDef {
 }
 
 impl Table {
-    /// A copy of the table's definition and of those of its indexes. `AllocError` where memory is refused.
+    /// Returns a copy of the definitions of the table and its indexes. Fails with `AllocError` if an allocation fails.
     pub fn copy(&self, alloc: Global) -> Result<Table, AllocError>
         ensures { IfOk result (λ copy. copy ≡ self.now) }
     {

@@ -1,4 +1,4 @@
--- Atoms that speak of a further table are false of no row of the first one alone.
+-- Atoms on a further table are false for no row of the first table alone.
 use Rattle.std.proofs.Common.{◌≡◌, ℕ, zero, suc, true, false, List, [], ◌∷◌, Option, None, Some, inl, inr, get_or, refl, ap}
 use Rattle.std.specs.Prelude.{◌==◌}
 use Rattle.std.specs.Option.{option_map}
@@ -17,7 +17,7 @@ row_behind : (row : List Value) (place : ℕ) → (place == 0) ≡ false → get
 row_behind row zero behind = cc
 row_behind row (suc place) behind = refl
 
--- A field of a further table has no value, ..
+-- A field of a further table has no value yet.
 field_behind : (row : List Value) (field : FieldPlace) → (field.place == 0) ≡ false → value_at (Some row ∷ []) field ≡ None
 field_behind row field behind = ap (option_map (value_in field.column)) (row_behind row field.place behind)
 
@@ -30,7 +30,7 @@ holds_without : (comparison : Comparison) (left right : Option Value) → right 
 holds_without comparison None right none = refl
 holds_without comparison (Some a) right none = ap (holds_of comparison (Some a)) none
 
--- .. so an atom with one is false of no row of the first table.
+-- So an atom with such a field is false for no row of the first table.
 pub holds_alone : (row : List Value) (atom : Atom FieldPlace) → asks_of_first atom ≡ false → holds (value_at (Some row ∷ [])) atom ≡ true
 holds_alone row atom silent =
     let right = operand_of (value_at (Some row ∷ [])) atom.right in

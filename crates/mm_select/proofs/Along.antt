@@ -24,7 +24,7 @@ use Rattle.mm_value.specs.declared.values.Value.{Value}
 
 -- ---- lists
 
--- A filter behind one that lets through whatever it does.
+-- Filtering first by a weaker test changes nothing.
 module _ {X : Type 0} (p q : X → Bool) where
   passed : (x : X) (xs : List X) (b : Bool) → b ≡ q x → (p x ≡ true → b ≡ true) → filter p (filter q xs) ≡ filter p xs
       → filter p (cond b (x ∷ filter q xs) (filter q xs)) ≡ cond (p x) (x ∷ filter p xs) (filter p xs)
@@ -39,7 +39,7 @@ module _ {X : Type 0} (p q : X → Bool) where
   filter_within [] implies = refl
   filter_within (x ∷ xs) implies = passed x xs (q x) refl (implies x) (filter_within xs implies)
 
-  -- Two tests that tell the same of each element.
+  -- Two tests that agree on each element filter a list in the same way.
   pub filter_same : (xs : List X) → All (λ x. p x ≡ q x) xs → filter p xs ≡ filter q xs
   filter_same [] all = refl
   filter_same (x ∷ xs) all =
@@ -47,7 +47,7 @@ module _ {X : Type 0} (p q : X → Bool) where
       let later = filter_same xs (All-tail (λ y. p y ≡ q y) x xs all) in
       λ i. cond (same i) (x ∷ later i) (later i)
 
--- What passes of a list is, in some order, what passes of the list in another order.
+-- The elements of a permuted list that pass are a permutation of those of the list.
 pub filter_moved : (p : RowRef → Bool) (xs ys : List RowRef) → IsPermutation xs ys → IsPermutation (filter p xs) (filter p ys)
 filter_moved p xs ys moved = IsPermutation-filter same_ref same_from_test (λ a. test_from_same a a refl) p xs ys moved
 
@@ -55,7 +55,7 @@ any_of : {X : Type 0} (xs : List X) (n : ℕ) → n < length xs → X
 any_of [] n within = absurd (omega arith)
 any_of (x ∷ xs) n within = x
 
--- What is appended to nothing is all there is.
+-- Elements appended to an empty list are the whole list.
 pub appended : (Holds : List RowRef → Type 0) (old new : List RowRef) → old ≡ [] → Appends Holds old new → Holds new
 appended Holds old new none (found, is, holds) = subst Holds (sym (is ∙ ap (λ xs. xs ++ found) none)) holds
 
@@ -65,7 +65,7 @@ module _ (stored : StoredRows) (kept : IsKept stored.places.types stored.key (sl
   pub all_live : All (IsLive stored.places) stored.refs
   all_live k d within = (kept.held (get_or stored.refs k d)).0 (Contains-get_or stored.refs k d within)
 
-  -- An index is on a column of the relation.
+  -- The column of an index is a column of the relation.
   pub column_in : (index column : ℕ) (kind : IndexKind) → HasIndex stored.indexes index column kind → column < length stored.places.types
   column_in index column kind has =
       let d : Index = any_of stored.indexes index has.0 in
@@ -76,7 +76,7 @@ module _ (stored : StoredRows) (kept : IsKept stored.places.types stored.key (sl
   on_column column (Tree place) has = column_in place column kind.Tree has
   on_column column (Hash place) has = column_in place column kind.Hash has
 
-  -- The range along the key is one, too.
+  -- The entries between two keys are a range along the key.
   pub key_range : (low high : Option Value) (found : List RowRef)
       → found ≡ entries_between (end_place stored.key (slot_at stored.places) low) (end_place stored.key (slot_at stored.places) high) stored.refs
       → IsRange stored.key stored low high found

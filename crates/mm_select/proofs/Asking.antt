@@ -1,4 +1,4 @@
--- What a row that fits alone tells of its columns.
+-- The columns of a row that fits alone.
 use Rattle.std.proofs.Common.{◌≡◌, ℕ, zero, suc, ◌<◌, Bool, true, false, List, [], ◌∷◌, length, get_or, Option, Some, None, refl, sym, ap, ◌∙◌, arith}
 use Rattle.std.specs.List.{Contains, list_all}
 use Rattle.std.specs.Ordering.{is_ge, is_le}
@@ -21,7 +21,7 @@ all_get p [] k d within all = absurd (omega arith)
 all_get p (x ∷ xs) zero d within all = (and_parts (p x) (list_all p xs) all).0
 all_get p (x ∷ xs) (suc k) d within all = all_get p xs k d (omega arith) (and_parts (p x) (list_all p xs) all).1
 
--- Each of the atoms holds where none fails.
+-- If no atom fails, each of them holds.
 pub holds_each : (atoms : List (Atom FieldPlace)) (rows : Partial) (atom : Atom FieldPlace) → Contains atoms atom → none_fails atoms rows ≡ true
     → holds (value_at rows) atom ≡ true
 holds_each atoms rows atom among all =

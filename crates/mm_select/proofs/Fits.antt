@@ -24,7 +24,7 @@ use Rattle.mm_select.specs.Matches.{matching}
 abbrev pub Row : Type 0
 Row = List Value
 
--- What passes a test of what is made of it.
+-- Filtering the images is filtering by the test of the image.
 pub filter-map : {X Y : Type 0} (p : Y → Bool) (f : X → Y) (xs : List X) → filter p (map f xs) ≡ map f (filter (λ x. p (f x)) xs)
 filter-map p f [] = refl
 filter-map {X} {Y} p f (x ∷ xs) = by (p (f x)) (filter-map p f xs)
@@ -43,11 +43,11 @@ fitting_one atoms rows =
 
 module _ (store : Tables) (table : ℕ) where
   module _ (stored : StoredRows) (here : IsAt store table stored) where
-    -- A reference is of the row that stands there.
+    -- The row of a reference is the row in its slot.
     pub row_here : (at : RowRef) → row_of store table at ≡ row_at (slot_at stored.places) at
     row_here at = ap (λ o. option_map_or (λ (s : StoredRows). row_at (slot_at s.places) at) o []) here
 
-    -- What reads along the rows of a table reads their references.
+    -- References that read as the rows of the relation read as the rows of the table.
     pub rows_along : (refs : List RowRef) → map (row_at (slot_at stored.places)) refs ≡ rows_of stored
         → map (row_of store table) refs ≡ rows_at store.tables table
     rows_along refs along =
@@ -57,7 +57,7 @@ module _ (store : Tables) (table : ℕ) where
     live_alone at live = ((stored, here, live), tt)
 
   module _ (list : Combos) (found : List RowRef) (one : list.tables ≡ table ∷ []) (are : list.combos ≡ map (λ at. at ∷ []) found) where
-    -- A list of live references is live, ..
+    -- A list of live references is live.
     pub refs_live : (stored : StoredRows) → IsAt store table stored → All (IsLive stored.places) found → All (AreLive store list.tables) list.combos
     refs_live stored here live =
         subst (λ ts. All (AreLive store ts) list.combos) (sym one)
@@ -73,7 +73,7 @@ module _ (store : Tables) (table : ℕ) where
           ∙ (ap (map (λ (row : Row). row ∷ [])) (sym (filter-map (λ row. none_fails atoms (Some row ∷ [])) (row_of store table) refs))
           ∙ (sym (fitting_one atoms (map (row_of store table) refs)) ∙ ap (λ rows. fitting atoms (rows ∷ [])) all))
 
-      -- .. and one of the references that match of all rows has the fitting rows.
+      -- A list of the matching references has the fitting rows.
       pub refs_fit : (refs : List RowRef) → map (row_of store table) refs ≡ rows_at store.tables table
           → IsPermutation found (matching store table atoms [] refs) → AreFitting store atoms list
       refs_fit refs all same =

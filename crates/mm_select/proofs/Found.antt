@@ -1,4 +1,4 @@
--- What is found along an index are the rows along the access.
+-- The rows found along an index are those along the access path.
 use Rattle.std.proofs.Common.{◌≡◌, ℕ, ◌<◌, ◌≤◌, ◌&&◌, Bool, true, List, [], length, get_or, Some, None, Option, refl, sym, ap, ◌∙◌, subst, arith}
 use Rattle.std.specs.Prelude.{pos}
 use Rattle.std.specs.List.{All, filter}
@@ -33,7 +33,7 @@ module _ (stored : StoredRows) (kept : IsKept stored.places.types stored.key (sl
   abbrev now : Slots
   now = slot_at stored.places
 
-  -- These references are those of the rows that pass a test.
+  -- The references are those of the rows that pass a test.
   abbrev pub Finds : (List Value → Bool) → List RowRef → Type 0
   Finds test found = IsPermutation found (filter (λ at. test (row_at now at)) stored.refs)
 
@@ -80,18 +80,18 @@ module _ (stored : StoredRows) (kept : IsKept stored.places.types stored.key (sl
   equal_along index column value old new on none appends =
       found_equal column (on_column stored kept column index on) value.now new (appended (AreMatches column now value.now stored.refs) old new none appends)
 
-  -- Along a HASH index there is what a search by it finds, ..
+  -- The references found in a HASH index are those along the access path.
   pub hash_along : (index : IndexRef) (column : ℕ) (value : Bor Value) (found : List RowRef) → IsServed stored (access.Equal index column value)
       → AreMatches column now value.now stored.refs found → AreAlong stored (access.Equal index column value) found
   hash_along index column value found on are = found_equal column (on_column stored kept column index on) value.now found are
 
-  -- .. which are as many.
+  -- If at most four rows are along the access path, at most four rows have the value.
   pub few_along : (index : IndexRef) (column : ℕ) (value : Bor Value) → IsServed stored (access.Equal index column value)
       → length (refs_along stored (access.Equal index column value)) ≤ 4 → length (filter (has_value column now value.now) stored.refs) ≤ 4
   few_along index column value on few =
       subst (λ (l : List RowRef). length l ≤ 4) (sym (equal_same column (on_column stored kept column index on) value.now)) few
 
-  -- Along the key there is what a search by it finds.
+  -- The references found by the key are those along the access path.
   pub key_along : (index : IndexRef) (column : ℕ) (value : Bor Value) (found : List RowRef) → index ≡ Key
       → IsServed stored (access.Equal index column value) → AreMatches stored.key now value.now stored.refs found
       → AreAlong stored (access.Equal index column value) found
@@ -107,7 +107,7 @@ module _ (stored : StoredRows) (kept : IsKept stored.places.types stored.key (sl
       found_between column (on_column stored kept column index on.0) (option_copied low) (option_copied high) new
       (appended (IsRange column stored (option_copied low) (option_copied high)) old new none appends)
 
-  -- What a range takes of the list of the references are those along it, in key order.
+  -- The references of a range are those of the rows along it, in key order.
   pub between_filtered : (index : IndexRef) (column : ℕ) (low high : Option (Bor Value)) → IsServed stored (access.Range index column low high)
       → (walk found : List RowRef) → walk ≡ stored.refs
       → found ≡ entries_between (end_place column now (option_copied low)) (end_place column now (option_copied high)) walk
@@ -116,7 +116,7 @@ module _ (stored : StoredRows) (kept : IsKept stored.places.types stored.key (sl
       is ∙ (ap (entries_between (end_place column now (option_copied low)) (end_place column now (option_copied high))) all
       ∙ between_same column (on_column stored kept column index on.0) (option_copied low) (option_copied high))
 
--- A key is looked up in the key's own index.
+-- A look-up by key uses the index on the key.
 pub key_looked_up : (index : IndexRef) (column : ℕ) (value : Bor Value) → IsOfKey (access.Equal index column value) → index ≡ Key
 key_looked_up Key column value of_key = refl
 key_looked_up (Tree place) column value of_key = absurd of_key
@@ -127,7 +127,7 @@ hash_looked_up Key column value of_hash = absurd of_hash
 hash_looked_up (Tree place) column value of_hash = absurd of_hash
 hash_looked_up (Hash place) column value of_hash = tt
 
--- Their rows lie along the access.
+-- The rows of the found references are along the access path.
 pub lie_along : (stored : StoredRows) (a : Access) (found : List RowRef) → AreAlong stored a found
     → All (λ at. is_along a (row_at (slot_at stored.places) at) ≡ true) found
 lie_along stored a found same =

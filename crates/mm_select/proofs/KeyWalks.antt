@@ -1,4 +1,4 @@
--- Walks in key order are the list of the references.
+-- Walks in key order are the list of references.
 use Rattle.std.proofs.Common.{◌≡◌, ℕ, suc, true, List, [], ◌∷◌, Option, drop, get_or, inl, inr, length, map, refl, sym, ap, ◌∙◌, subst, arith}
 use Rattle.std.specs.Borrow.{Bor}
 use Rattle.std.specs.List.{All}
@@ -38,7 +38,7 @@ module _ (stored : StoredRows) (table : IsTable stored) where
   abbrev now : Slots
   now = slot_at stored.places
 
-  -- Two references of one key are one.
+  -- Two references with the same key are equal.
   pub same_from_keys : (x y : RowRef) → HasRow now x → HasRow now y → column_cmp stored.key (row_at now x) (row_at now y) ≡ Equal → x ≡ y
   same_from_keys x y live_x live_y tie =
       elim (same_or_apart x y) [
@@ -46,7 +46,7 @@ module _ (stored : StoredRows) (table : IsTable stored) where
         | inr differ ↦ absurd (table.apart y live_y (x, live_x, differ, tie))
       ]
 
-  -- Live references of the same rows are the same.
+  -- Live references of the same rows are equal.
   same_from_rows : (xs ys : List RowRef) → All (HasRow now) xs → All (HasRow now) ys → map (row_at now) xs ≡ map (row_at now) ys → xs ≡ ys
   same_from_rows [] [] live_xs live_ys same = refl
   same_from_rows [] (y ∷ ys) live_xs live_ys same = cc
@@ -59,7 +59,7 @@ module _ (stored : StoredRows) (table : IsTable stored) where
       let rest : xs ≡ ys = same_from_rows xs ys (All-tail (HasRow now) x xs live_xs) (All-tail (HasRow now) y ys live_ys) (ap (drop 1) same) in
       λ i. first i ∷ rest i
 
-  -- A walk of all rows in key order is the list of the references.
+  -- A walk of all rows in key order is the list of references.
   pub walk_is : (walk : List RowRef) → map (row_at now) walk ≡ rows_of stored → All (IsLive stored.places) walk → walk ≡ stored.refs
   walk_is walk rows live =
       same_from_rows walk stored.refs live (λ k d within. (table.kept.held (get_or stored.refs k d)).0 (Contains-get_or stored.refs k d within)) rows
@@ -69,7 +69,7 @@ module _ (stored : StoredRows) (table : IsTable stored) where
       IsStrictlySortedBy-from_neighbours (refs_by_total stored.key stored.key now) refs
       (λ k d within. order.ascending k (suc k) d (omega arith) (omega (arith, within)))
 
-  -- So is one along the tree on the key.
+  -- A walk along the tree on the key is the list of references.
   tree_walk_is : (column : ℕ) → column ≡ stored.key → (walk : List RowRef) → IsWalk column stored walk → walk ≡ stored.refs
   tree_walk_is column on walk is =
       let ordered : InOrder stored.key stored.key now walk = subst (λ n. InOrder n stored.key now walk) on is.ordered in
@@ -85,7 +85,7 @@ module _ (stored : StoredRows) (table : IsTable stored) where
   range_in_order (Tree place) column low high found on range ordered = absurd (false≢true ordered)
   range_in_order (Hash place) column low high found on range ordered = absurd (false≢true ordered)
 
--- There is one for each row.
+-- A walk has one reference for each row.
 pub walk_counted : (store : Tables) (table : ℕ) (stored : StoredRows) → IsAt store table stored → (walk : List RowRef)
     → map (row_at (slot_at stored.places)) walk ≡ rows_of stored → length walk ≡ length (rows_at store.tables table)
 walk_counted store table stored here walk rows =

@@ -1,4 +1,4 @@
--- Atoms that all rows along an access meet.
+-- Atoms that hold for all rows along an access path.
 use Rattle.std.proofs.Common.{◌≡◌, ℕ, Bool, true, false, List, [], ◌∷◌, Option, None, Some, inl, inr, refl, sym, ap, ◌∙◌, subst}
 use Rattle.std.specs.Prelude.{◌==◌, ◌&&◌, ◌||◌, not}
 use Rattle.std.specs.List.{list_any}
@@ -26,7 +26,7 @@ use Rattle.mm_value.specs.declared.values.Value.{Value}
 
 -- ---- comparisons
 
--- What accepts the greater accepts nothing less, ..
+-- A comparison that accepts greater values accepts no lesser ones.
 accepts_ge : (c : Comparison) (o : Ordering) → stands c ordering.Greater ≡ true → stands c o ≡ true → is_ge o ≡ true
 accepts_ge c ordering.Equal greater met = refl
 accepts_ge c ordering.Greater greater met = refl
@@ -36,7 +36,7 @@ accepts_ge LessOrEqual ordering.Less greater met = greater
 accepts_ge Greater ordering.Less greater met = met
 accepts_ge GreaterOrEqual ordering.Less greater met = met
 
--- .. and what accepts the less nothing greater.
+-- A comparison that accepts lesser values accepts no greater ones.
 accepts_le : (c : Comparison) (o : Ordering) → stands c ordering.Less ≡ true → stands c o ≡ true → is_le o ≡ true
 accepts_le c ordering.Equal less met = refl
 accepts_le c ordering.Less less met = refl
@@ -73,7 +73,7 @@ less_behind value end other less ordering.Equal is not_greater = same_behind val
 less_behind value end other less ordering.Less is not_greater = value_cmp_total.trans value end other less is
 
 module _ (value other : Value) (c : Comparison) where
-  -- A value that is equal to one that stands so stands so.
+  -- A comparison that holds for a value holds for an equal one.
   equal_stands : (end : Value) → is_eq (value_cmp value end) ≡ true → stands c (value_cmp end other) ≡ true → stands c (value_cmp value other) ≡ true
   equal_stands end same met = by (value_cmp value end) refl same
     where
@@ -82,7 +82,7 @@ module _ (value other : Value) (c : Comparison) where
       by ordering.Equal is same = ap (stands c) (value_cmp_total.congr value end other is) ∙ met
       by ordering.Greater is same = absurd (false≢true same)
 
-  -- So does a value between ends of which one tells it.
+  -- It also holds for a value between bounds if one of the bounds implies it.
   from_stands : (low : Option Value) → is_from low value ≡ true → stand_from low c other ≡ true → stands c (value_cmp value other) ≡ true
   from_stands None from met = absurd (false≢true met)
   from_stands (Some end) from met = by (value_cmp value end) refl from
@@ -146,14 +146,14 @@ module _ (row : List Value) where
   operand_stands a along column c (Column field) met = absurd (false≢true met)
   operand_stands a along column c (Shifted field by) met = absurd (false≢true met)
 
-  -- An atom that all rows along an access meet is false of none of them, ..
+  -- An atom that holds for all rows along an access path is false for none of them.
   pub met_holds : (a : Access) → is_along a row ≡ true → (atom : Atom FieldPlace) → is_met_along a atom ≡ true → holds (value_at (Some row ∷ [])) atom ≡ true
   met_holds a along atom met =
       let both = and_parts (atom.left.place == 0) (all_stand_to a atom.left.column atom.comparison atom.right) met in
       ap (λ left. holds_of atom.comparison left (operand_of (value_at (Some row ∷ [])) atom.right)) (first_field atom.left.place atom.left.column both.0)
       ∙ operand_stands a along atom.left.column atom.comparison atom.right both.1
 
-  -- .. and so are all atoms, where none asks more than that of the first table alone.
+  -- If each atom on the first table alone holds for all rows along an access path, no atom is false for any of them.
   pub all_admit : (a : Access) → is_along a row ≡ true → (atoms : List (Atom FieldPlace)) → list_any (asks_along a) atoms ≡ false
       → none_fails atoms (Some row ∷ []) ≡ true
   all_admit a along [] none = refl

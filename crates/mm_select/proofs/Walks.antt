@@ -16,22 +16,22 @@ use Rattle.mm_value.specs.declared.values.Value.{Value}
 use Rattle.mm_select.proofs.Fits.{row_here}
 use Rattle.mm_select.specs.Matches.{matches, matching}
 
--- What holds of all elements holds of the next one, ..
+-- A property of all elements holds for the next one.
 pub holds_next : {X : Type 0} (P : X → Type 0) (all done rest : List X) (x : X) → all ≡ done ++ x ∷ rest → All P all → P x
 holds_next P all done rest x split every =
     All-contains P all x every
     (subst (λ l. Contains l x) (sym split) (Contains-append_right done (x ∷ rest) x (Contains-append_left (x ∷ []) rest x (Contains-push [] x))))
 
--- .. and in the end all are.
+-- At the end all elements are done.
 pub split_all : {X : Type 0} (all done left : List X) → all ≡ done ++ left → left ≡ [] → all ≡ done
 split_all all done left split none = split ∙ (ap (λ l. done ++ l) none ∙ append-nil done)
 
--- A list of one element has it first.
+-- The only element of a list is its first one.
 pub one_first : (tables : List ℕ) (table : ℕ) → tables ≡ table ∷ [] → tables ≡ get_or tables 0 0 ∷ []
 one_first tables table one = one ∙ ap (λ l. get_or l 0 0 ∷ []) (sym one)
 
 module _ (store : Tables) (table : ℕ) where
-  -- The row of a reference is the one that the store gives.
+  -- The row of a reference is the row that the store returns.
   pub row_given : (at : RowRef) (row : List Value) → table < length store.tables
       → ((stored : StoredRows) → IsAt store table stored → slot_at stored.places at ≡ Live row) → row_of store table at ≡ row
   row_given at row within given =
@@ -48,7 +48,7 @@ module _ (store : Tables) (table : ℕ) where
         ap (map (λ at. front ++ at ∷ [])) (filter-append fits xs ys)
         ∙ map-append (λ at. front ++ at ∷ []) (filter fits xs) (filter fits ys)
 
-    -- One candidate matches where its row fits.
+    -- A candidate matches if its row fits.
     pub matches_one : (at : RowRef) (row : List Value) (b : Bool) → row_of store table at ≡ row → b ≡ none_fails atoms (rows ++ Some row ∷ [])
         → matches store table atoms rows front (at ∷ []) ≡ cond b ((front ++ at ∷ []) ∷ []) []
     matches_one at row b is told =
@@ -58,15 +58,15 @@ module _ (store : Tables) (table : ℕ) where
         by b true same = ap (λ b. cond b ((front ++ at ∷ []) ∷ []) []) (sym same)
         by b false same = ap (λ b. cond b ((front ++ at ∷ []) ∷ []) []) (sym same)
 
--- One element more passes a test, ..
+-- One more element passes the test.
 filter_more : {X : Type 0} (p : X → Bool) (xs : List X) (x : X) → true ≡ p x → filter p (xs ++ x ∷ []) ≡ filter p xs ++ x ∷ []
 filter_more p xs x passes = filter-append p xs (x ∷ []) ∙ ap (λ b. filter p xs ++ cond b (x ∷ []) []) (sym passes)
 
--- .. or does not.
+-- One more element fails the test.
 filter_still : {X : Type 0} (p : X → Bool) (xs : List X) (x : X) → false ≡ p x → filter p (xs ++ x ∷ []) ≡ filter p xs
 filter_still p xs x fails = filter-append p xs (x ∷ []) ∙ (ap (λ b. filter p xs ++ cond b (x ∷ []) []) (sym fails) ∙ append-nil (filter p xs))
 
--- In a store that is the same, a reference more matches where its row fits, ..
+-- In the same store, one more reference matches if its row fits.
 module _ (store other : Tables) (same : other ≡ store) (table : ℕ) (atoms : List (Atom FieldPlace)) (done : List RowRef) (at : RowRef) where
   fits_same : none_fails atoms (Some (row_of other table at) ∷ []) ≡ none_fails atoms (Some (row_of store table at) ∷ [])
   fits_same = ap (λ s. none_fails atoms (Some (row_of s table at) ∷ [])) same
@@ -75,7 +75,7 @@ module _ (store other : Tables) (same : other ≡ store) (table : ℕ) (atoms : 
       → matching store table atoms [] (done ++ at ∷ []) ≡ matching store table atoms [] done ++ at ∷ []
   matching_more told = filter_more (λ x. none_fails atoms (Some (row_of store table x) ∷ [])) done at (told ∙ fits_same)
 
-  -- .. and does not where it does not.
+  -- One more reference does not match if its row does not fit.
   pub matching_still : false ≡ none_fails atoms (Some (row_of other table at) ∷ [])
       → matching store table atoms [] (done ++ at ∷ []) ≡ matching store table atoms [] done
   matching_still told = filter_still (λ x. none_fails atoms (Some (row_of store table x) ∷ [])) done at (told ∙ fits_same)

@@ -1,4 +1,4 @@
-//! Ways to the rows of a table.
+//! Access paths to the rows of a table.
 ghost use Rattle.std.specs.Prelude.{◌≡◌, ◌<◌, ◌≤◌, true, All, IfOk, IsOk, IsOkAnd, filter, length};
 ghost use Rattle.std.specs.Option.{option_copied, option_map};
 ghost use Rattle.mm_partition.specs.Places.{IsLive, slot_at};
@@ -18,10 +18,10 @@ use smallvec::SmallVec;
 use std::alloc::{AllocError, Global};
 use std::cmp::Ordering;
 
-/// A way to rows of a table.
+/// An access path to rows of a table.
 #[derive(Clone, Copy)]
 pub enum Access<'q> {
-    /// A look at every row, in key order.
+    /// A scan of all rows, in key order.
     Scan,
     /// A look-up of a value in an index on a column.
     Equal {
@@ -29,7 +29,7 @@ pub enum Access<'q> {
         column: usize,
         value: &'q Value,
     },
-    /// A range along a tree on a column, its ends included. An end that is not given leaves its side open.
+    /// A range along a tree on a column, between inclusive bounds. A side without a bound is open.
     Range {
         index: IndexRef,
         column: usize,
@@ -39,7 +39,7 @@ pub enum Access<'q> {
 }
 
 impl Access<'_> {
-    /// Whether the rows along the access are found in key order.
+    /// Returns whether the rows along the access path are found in key order.
     pub fn is_in_key_order(self) -> bool
         ensures { result ≡ is_in_key_order self.entry }
     {
@@ -51,8 +51,8 @@ impl Access<'_> {
     }
 }
 
-/// Whether an atom compares a column of the first table with a value, and holds of every row along an access, so that no row
-/// has to be looked at for it.
+/// Returns whether an atom compares a column of the first table with a literal and holds for every row along an access path. If so, no row
+/// must be read to evaluate it.
 pub(crate) fn is_met_along(access: Access<'_>, atom: &Atom<FieldPlace>) -> bool
     ensures { result ≡ is_met_along access.entry atom.now }
 {
@@ -63,7 +63,7 @@ pub(crate) fn is_met_along(access: Access<'_>, atom: &Atom<FieldPlace>) -> bool
     atom.left.place == 0 && all_stand
 }
 
-/// Whether what the rows along an access have in a column stands so to a value.
+/// Returns whether a comparison with a value holds for the column of every row along an access path.
 fn all_stand(access: Access<'_>, column: usize, comparison: Comparison, value: &Value) -> bool
     ensures { result ≡ all_stand access.entry column comparison value.now }
 {
@@ -86,7 +86,7 @@ fn all_stand(access: Access<'_>, column: usize, comparison: Comparison, value: &
     }
 }
 
-/// Whether every value from a lower end on stands so to this one.
+/// Returns whether a comparison with a value holds for every value from a lower bound up.
 fn stand_from(low: Option<&Value>, comparison: Comparison, value: &Value) -> bool
     ensures { result ≡ stand_from (option_copied low.entry) comparison value.now }
 {
@@ -98,7 +98,7 @@ fn stand_from(low: Option<&Value>, comparison: Comparison, value: &Value) -> boo
     }
 }
 
-/// Whether every value up to an upper end stands so to this one.
+/// Returns whether a comparison with a value holds for every value up to an upper bound.
 fn stand_up_to(high: Option<&Value>, comparison: Comparison, value: &Value) -> bool
     ensures { result ≡ stand_up_to (option_copied high.entry) comparison value.now }
 {
@@ -110,7 +110,7 @@ fn stand_up_to(high: Option<&Value>, comparison: Comparison, value: &Value) -> b
     }
 }
 
-/// The reference of the row that has a key, where a row has it. It takes no memory.
+/// Returns the reference of the row with a key, if there is one. Allocates nothing.
 fn row_of_key(alloc: Global, view: &View<'_>, table: usize, key: &Value) -> FoundRefs
     requires { table < length view.now.store.tables }
     ensures found { (stored : StoredRows) → IsAt view.now.store table stored
@@ -125,7 +125,7 @@ fn row_of_key(alloc: Global, view: &View<'_>, table: usize, key: &Value) -> Foun
     found
 }
 
-/// The references of the rows that have a value in the column of an index, whichever it is. `AllocError` where memory is refused.
+/// Returns the references of the rows with a value in the column of any index. Fails with `AllocError` if an allocation fails.
 fn matches_along(
     alloc: Global,
     view: &View<'_>,
@@ -145,8 +145,8 @@ fn matches_along(
     Ok(SmallVec::from_vec(found))
 }
 
-/// The references of the rows that have a value in the column of an index. Along the key it takes no memory, and finds one at most;
-/// along a HASH index it takes none for up to four. `AllocError` where memory is refused.
+/// Returns the references of the rows with a value in the column of an index. Along the key, finds at most one and allocates nothing; along
+/// a HASH index, allocates nothing for up to four. Fails with `AllocError` if an allocation fails.
 pub(crate) fn equal_to(
     alloc: Global,
     view: &View<'_>,
@@ -171,7 +171,7 @@ pub(crate) fn equal_to(
     }
 }
 
-/// An end of a range to read, if it is given.
+/// Returns a reference to a bound of a range, if there is one.
 fn end_ref(end: Option<&Value>) -> Option<ValueRef<'_>>
     ensures { option_map value_of result ≡ option_copied end.entry }
 {
@@ -181,8 +181,8 @@ fn end_ref(end: Option<&Value>) -> Option<ValueRef<'_>>
     }
 }
 
-/// The references of the rows between two ends along a tree, these included; along the tree on the key in key order. `AllocError` where
-/// memory is refused.
+/// Returns the references of the rows between two inclusive bounds along a tree; along the tree on the key, in key order. Fails with
+/// `AllocError` if an allocation fails.
 pub(crate) fn between(
     alloc: Global,
     view: &View<'_>,

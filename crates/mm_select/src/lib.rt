@@ -1,4 +1,4 @@
-//! Selections: the rows of a table that meet atoms, as references or as a temporary list of these.
+//! Selections: the rows of a table that satisfy atoms, as references or as a temporary list.
 #![tactic(auto)]
 
 mod access;

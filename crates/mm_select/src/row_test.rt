@@ -1,4 +1,4 @@
-//! What atoms ask of the rows of the first table alone.
+//! Tests of atoms on rows of the first table.
 ghost use Rattle.std.specs.Prelude.{◌≡◌, ◌+◌, ◌≤◌, ◌∷◌, ◌<◌, [], false, true, Some, length};
 ghost use Rattle.std.specs.List.{list_any};
 ghost use Rattle.mm_partition.specs.Places.{IsLive};
@@ -14,21 +14,21 @@ use mm_query::{Atom, FieldPlace, Operand, none_fails};
 use mm_store::View;
 use mm_value::RowRef;
 
-/// Atoms that are put to the rows of the first table along an access.
+/// Atoms to evaluate on the rows of the first table along an access path.
 #[derive(Clone, Copy)]
 pub(crate) struct RowTest<'q> {
-    /// The place of the table in the store.
+    /// The position of the table in the store.
     pub table: usize,
     pub atoms: &'q [Atom<FieldPlace>],
     pub access: Access<'q>,
-    /// Whether some atom tests this table alone and is not already guaranteed by the access. If not, every row passes
-    /// without a look at it.
+    /// Whether some atom tests this table alone and is not implied by the access path. If there is none, every row passes without being
+    /// read.
     pub asks: bool,
     ghost told: { asks ≡ list_any (asks_along access) atoms.now },
 }
 
 impl RowTest<'_> {
-    /// Whether no atom is false of the row of a reference, which lies along the access. The view counts the row if it is looked at.
+    /// Returns whether no atom is false for a row along the access path. Reads the row only if some atom must be evaluated.
     pub fn admits(&self, view: &mut View<'_>, at: RowRef) -> bool
         requires there { self.now.table < length view.old.store.tables }
         requires live { (stored : StoredRows) → IsAt view.old.store self.now.table stored → IsLive stored.places at }
@@ -46,7 +46,7 @@ impl RowTest<'_> {
     }
 }
 
-/// Whether an atom compares a column of the first table with a value or another column of it.
+/// Returns whether an atom compares a column of the first table with a literal or with another column of that table.
 fn asks_of_first(atom: &Atom<FieldPlace>) -> bool
     ensures { result ≡ asks_of_first atom.now }
 {
@@ -58,14 +58,14 @@ fn asks_of_first(atom: &Atom<FieldPlace>) -> bool
     atom.left.place == 0 && reads_first
 }
 
-/// Whether an atom asks something of the first table alone that not every row along an access meets.
+/// Returns whether an atom tests the first table alone, and some row along an access path may fail it.
 fn asks_along(access: Access<'_>, atom: &Atom<FieldPlace>) -> bool
     ensures { result ≡ asks_along access.entry atom.now }
 {
     asks_of_first(atom) && !is_met_along(access, atom)
 }
 
-/// Whether some atom asks something of the first table alone that not every row along an access meets.
+/// Returns whether some atom tests the first table alone, and some row along an access path may fail it.
 pub(crate) fn some_asks_along(access: Access<'_>, atoms: &[Atom<FieldPlace>]) -> bool
     ensures { result ≡ list_any (asks_along access.entry) atoms.now }
 {

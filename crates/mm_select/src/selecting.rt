@@ -18,8 +18,8 @@ use mm_templist::{Descriptor, FoundRefs, TempList};
 use smallvec::SmallVec;
 use std::alloc::{AllocError, Global};
 
-/// The rows of a table of which no atom is false, as a temporary list. They are found as `select_refs` finds them, whose references
-/// are not copied. `AllocError` where memory is refused.
+/// Returns the rows of a table for which no atom is false, as a temporary list. Finds them as `select_refs` does, and does not copy its
+/// references. Fails with `AllocError` if an allocation fails.
 pub fn select<'a>(
     alloc: Global,
     view: &mut View<'_>,
@@ -47,11 +47,11 @@ pub fn select<'a>(
     Ok(TempList::of_refs(descriptor, refs))
 }
 
-/// The references of the rows of a table of which no atom is false, each once, found along an access: by a look at each row, or by a
-/// look-up or a range in an index (the access paths of Lehman and Carey, SIGMOD 1986). They are in key order where the rows along
-/// the access are, and else in no promised order. It looks at no row that does not lie along the access, and at none at all where
-/// every row along it meets all that the atoms ask of the table alone. It takes memory for what lies along the access, and no more;
-/// a look-up by key takes none, and a look-up in a HASH index none for up to four rows. `AllocError` where memory is refused.
+/// Returns the references of the rows of a table for which no atom is false, each once. They are found along an access path: a scan, a
+/// look-up or a range in an index (the access paths of Lehman and Carey, SIGMOD 1986). They are in key order if the access path is, and
+/// otherwise in no particular order. Reads no row that is not along the access path, and none at all if every row along it satisfies each
+/// atom on this table alone. Allocates for the references along the access path only; a look-up by key allocates nothing, nor does a
+/// look-up in a HASH index for up to four rows. Fails with `AllocError` if an allocation fails.
 pub fn select_refs(
     alloc: Global,
     view: &mut View<'_>,
@@ -98,7 +98,7 @@ pub fn select_refs(
     }
 }
 
-/// The references of the rows of a table of which no atom is false, in key order. `AllocError` where memory is refused.
+/// Returns the references of the rows of a table for which no atom is false, in key order. Fails with `AllocError` if an allocation fails.
 fn scan(
     alloc: Global,
     view: &mut View<'_>,
@@ -128,7 +128,7 @@ fn scan(
     Ok(found)
 }
 
-/// Keeps of the references of the rows along an access those of the rows of which no atom is false, in their order. It takes no memory.
+/// Removes the references of rows along an access path for which an atom is false. The others stay in order. Allocates nothing.
 fn keep_fitting(
     view: &mut View<'_>,
     table: usize,

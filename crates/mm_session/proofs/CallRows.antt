@@ -1,4 +1,4 @@
--- The rows of lines and of runs, and the columns that are told of them.
+-- The rows of lines and of runs, and their columns.
 use Rattle.std.proofs.Common.{◌≡◌, ℕ, Bool, true, false, ◌&&◌, cond, ltb, List, Option, Some, None, Result, Ok, Err, IsTrue, inl, inr, ⊎_elim}
 use Rattle.std.proofs.Common.{length, refl, sym, ap, subst, ◌∙◌}
 use Rattle.std.specs.Prelude.{◌⊎◌}
@@ -44,7 +44,7 @@ blank_columns command.Rollback state = refl
 blank_columns (command.Savepoint name) state = refl
 blank_columns (command.RollbackTo name) state = refl
 
--- Commands that differ in their literals alone have the same columns.
+-- Commands that differ only in their literals have the same columns.
 columns_alike : (own filled : Command) (state : State) → blank filled ≡ blank own → columns_of filled state ≡ columns_of own state
 columns_alike own filled state same =
     sym (blank_columns filled state) ∙ ap (λ (c : Command). columns_of c state) same ∙ blank_columns own state
@@ -59,7 +59,7 @@ unholed_or_nothing false true holed spelled own e = inl refl
 unholed_or_nothing false false true spelled own e = absurd (cc)
 unholed_or_nothing false false false spelled own e = inr refl
 
--- What a line reads as, it also reads as if it may have holes.
+-- A line without holes reads as the same command if it may have holes.
 reading_template : (line : List ℕ) (own : Command) → (has_hole (tokens line) ≡ false → template_of line ≡ reading line) → reading line ≡ Ok own
     → template_of line ≡ Ok own
 unfolding reading
@@ -76,7 +76,7 @@ refused_rows refusal rows e = cc
 
 module _ (state : State) (sound : IsSound state) (own : Command) (columns : List Column) (are : columns ≡ columns_of own state)
     (rows : List (List Value)) where
-  -- A reply to what was read has rows of the types of the columns.
+  -- A reply to a command that was read has rows of the types of the columns.
   read_rows : (read : Result Command Refusal) → ((filled : Command) → read ≡ Ok filled → columns_of filled state ≡ columns_of own state)
       → (outcome_of read state).reply ≡ Some (Rows rows) → All (HasTypesOf columns) rows
   read_rows (Ok filled) alike replied =

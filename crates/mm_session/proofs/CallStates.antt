@@ -28,7 +28,7 @@ use Rattle.mm_session.specs.declared.misuse.Misuse.{Misuse}
 
 -- ---- one call
 
--- A state is what a call left: what it asks for was done, or nothing.
+-- The state after a call: its call on the database was made, or none.
 abbrev pub Left : SessionCall → SessionState → State → Type 0
 Left call old state = (own : List Call) × IsDoneBy call old own × (state ≡ after_calls own old.state)
 
@@ -39,7 +39,7 @@ module _ (call : SessionCall) (old : SessionState) (state : State) where
   one_done : (asked : Call) → Asks call old.lines asked → state ≡ after_call asked old.state → Left call old state
   one_done asked asks is = (asked ∷ [], inr (asked, asks, refl), is)
 
-  -- What was read was done, or its refusal left all as it was.
+  -- The command that was read was run, or its refusal changed nothing.
   read_done : (read : Result Command Refusal) → ((own : Command) → read ≡ Ok own → Asks call old.lines (RunCommand own))
       → state ≡ (outcome_of read old.state).state → Left call old state
   read_done (Ok own) asks is = one_done (RunCommand own) (asks own refl) is
@@ -152,7 +152,7 @@ later_calls : (own later : List Call) (state : State) → after_calls (own ++ la
 later_calls [] later state = refl
 later_calls (call ∷ own) later state = later_calls own later (after_call call state)
 
--- The state is the one after what the calls asked for.
+-- The state is the one after the calls on the database.
 pub calls_left : (calls : List SessionCall) (old new : SessionState) → LeadTo calls old new
     → (done : List Call) × AreDoneBy calls old done new × (new.state ≡ after_calls done old.state)
 calls_left [] old new is = ([], (refl, is), same_state old new is)

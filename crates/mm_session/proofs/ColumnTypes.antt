@@ -130,7 +130,7 @@ module _ (state : State) (typed : AreTyped state.schema.tables state.rows) where
         All-map (HasTypesOf (bound_columns state.schema query)) (projected query) (filter (fits query) (combinations (lists query.from)))
         (All-weaker (AreRowsOf query.from) _ projected_typed _ (All-filter (fits query) (AreRowsOf query.from) _ (combined query.from)))
 
-    -- The rows that a query gives have the types of its columns.
+    -- The rows of a query's result have the types of its columns.
     answer_typed : All (HasTypesOf (bound_columns state.schema query)) (answer_in state query)
     answer_typed =
         All-permutation (HasTypesOf (bound_columns state.schema query)) _ _
@@ -188,15 +188,15 @@ module _ (schema : Schema) (query : Query) (due : first_refusal (query_condition
       let aliases = or_parts (list_any (lacks_alias query.from) query.fields) (list_any (some_side (lacks_alias query.from)) query.atoms) hold.1.1.1.0 in
       fields_found schema query.from hold.0 query.fields columns.0 aliases.0
 
-  -- A query that the catalog does not refuse has the columns that its places stand for, ..
+  -- A query that the catalog does not refuse has the columns at its places, ..
   pub bound_alike : bound_columns schema (placed_query schema query) ≡ query_columns schema query
   bound_alike = same_columns schema query.from query.fields each_found
 
-  -- .. and they have the names that its fields give.
+  -- .. and they have the names of its fields.
   pub names_of_fields : map (λ (column : Column). column.name) (query_columns schema query) ≡ map (λ (field : FieldName). field.column) query.fields
   names_of_fields = same_names schema query.from query.fields each_found
 
--- ---- what a command replies
+-- ---- the reply of a command
 
 -- The bound query of a name is one of them.
 named_holds : (P : BoundQuery → Type 0) (name : List ℕ) (standing : List StandingDef) (queries : List BoundQuery) → All P queries

@@ -1,8 +1,7 @@
--- Bound forms that are good, and what running them leads to.
-use Rattle.std.proofs.Common.{◌≡◌, ℕ, Bool, false, List, Option, Some, None, Result, Ok, Err, IsTrue, length, inl, inr, ⊎_elim, refl, sym, ap, subst, ◌∙◌}
-use Rattle.std.specs.Borrow.{Bor}
+-- Correct bound forms, and the outcomes of running them.
+use Rattle.std.proofs.Common.{◌≡◌, ℕ, Bool, List, Option, Some, None, Result, Ok, Err, IsTrue, length, inl, inr, ⊎_elim, refl, sym, ap, subst, ◌∙◌}
 use Rattle.std.specs.Option.{option_map}
-use Rattle.std.specs.Prelude.{IfOk, IfSome, IsSome}
+use Rattle.std.specs.Prelude.{IfOk, IfSome}
 use Rattle.std.specs.Result.{result_ok}
 use Rattle.mm_value.specs.declared.refusal.Refusal.{Refusal}
 use Rattle.mm_value.specs.declared.refusal.Refusal.TheVariants.{Memory}
@@ -24,19 +23,15 @@ use Rattle.mm_statement.proofs.FilledAnew.{change_anew, query_anew}
 use Rattle.mm_statement.specs.Filling.{AnswersFilling, Filled, IsFilling, blank}
 use Rattle.mm_statement.specs.Holes.{HolePlaces, hole_count, hole_places}
 use Rattle.mm_statement.specs.Refilling.{RefillsChange, RefillsQuery}
-use Rattle.mm_txn.specs.Bound.{IsBoundChange, IsBoundQuery, bound_of}
-use Rattle.mm_txn.specs.declared.bound.ChangeToRun.{ChangeToRun}
+use Rattle.mm_txn.specs.Bound.{IsBoundChange, IsBoundQuery}
 use Rattle.mm_session.proofs.LineReadings.{takes_alike}
 use Rattle.mm_session.specs.Statements.{Runs}
 use Rattle.mm_session.specs.declared.bound_form.BoundForm.{BoundForm}
 use Rattle.mm_session.specs.declared.bound_form.BoundForm.TheVariants as form
-use Rattle.mm_reply.specs.declared.bound_command.BoundCommand.TheVariants as line
-use Rattle.mm_session.specs.declared.refilling.Refilled.{Refilled}
-use Rattle.mm_reply.specs.BoundCommands.{IsBoundCommand}
-use Rattle.mm_session.specs.steps.Filled.{IsToRun, RefillsToRun, change_to_run, form_to_run}
+use Rattle.mm_session.specs.steps.Filled.{IsToRun, RefillsToRun, RunsAs, change_to_run}
 use Rattle.mm_session.specs.steps.Forms.{HasForm, IsBoundForm, IsChangeForm, IsFormOf, IsFormWith, IsQueryForm}
 
--- What differs in literals alone from a SELECT is one, ..
+-- A command that differs from a SELECT only in literals is a SELECT, ..
 select_shape : (command : Command) (query : Query) → blank (Select query) ≡ blank command → (template : Query) × (command ≡ Select template)
 select_shape (Select template) query same = (template, refl)
 select_shape _ query same = absurd (cc)
@@ -83,7 +78,7 @@ form_with schema holes values command (Change mutation) (form.Change bound) coun
 form_with schema holes values command (Select query) (form.Change bound) count fills within binds = absurd binds
 form_with schema holes values command _ _ count fills within binds = absurd binds
 
--- A call that gives a filling gives one.
+-- A call that returns a filling returns a correct one.
 pub filling_of : (holes : List Bool) (values : List Value) (command filled : Command) (result : Result Command Refusal)
     → Some filled ≡ result_ok result → AnswersFilling holes values command result → IsFilling holes values command (Ok filled)
 filling_of holes values command filled (Ok c) is answers =
@@ -95,7 +90,7 @@ filling_of holes values command filled (Ok c) is answers =
     answers)
 filling_of holes values command filled (Err e) is answers = absurd (cc)
 
--- What holds of a call's value, where it gives one.
+-- A property of a call's value, if it returns one.
 pub of_ok : {X E : Type 0} (P : X → Type 0) (result : Result X E) (x : X) → Some x ≡ result_ok result → IfOk result P → P x
 of_ok P (Ok y) x is holds = let same : y ≡ x = cc in subst P same holds
 of_ok P (Err e) x is holds = absurd (cc)
@@ -171,7 +166,7 @@ filled_of schema holes values command (form.Change bound) with_values = record {
   binds = bound_change schema holes values command bound with_values;
 }
 
--- Running the bound form of a command with values leads to what a statement of the command with these values leads to.
+-- Running the bound form of a command with values has an outcome of a statement of the command with these values.
 module _ (line : List ℕ) (values : List Value) (command : Command) (ran : BoundForm) (before : State) (outcome : Outcome)
     (own : HasFilled before.schema (holes_of line) values command ran) (leads : MayLeadTo (Ok own.filled) before outcome) where
   pub runs_form : template_of line ≡ Ok command → Runs line values before outcome
@@ -188,56 +183,60 @@ module _ (line : List ℕ) (values : List Value) (command : Command) (ran : Boun
 
 -- ---- forms to run
 
--- A form that is run has a bound change that is run, where it is a change of rows, ..
-pub change_of_run : (bound : BoundChange) (filled : Refilled) → IsSome (form_to_run (form.Change bound) filled) → IsSome (change_to_run bound filled)
-change_of_run bound filled some = by (change_to_run bound filled) some
-  where
-    by : (o : Option BoundChange) → IsSome (option_map (λ (change : BoundChange). form.Change change) o) → IsSome o
-    by None some = some
-    by (Some change) some = some
+-- A command with the bound form of a query is a SELECT, ..
+form_of_query : (schema : Schema) (command : Command) (bound : Bound) → IsBoundForm schema command (form.Query bound)
+    → (query : Query) × (command ≡ Select query) × IsBoundQuery schema query bound
+form_of_query schema (Select query) bound is = (query, refl, is)
+form_of_query schema (Change mutation) bound is = absurd is
+form_of_query schema _ bound is = absurd is
 
--- .. and is lent as that.
-pub lent_change : (schema : Schema) (command : Command) (bound : BoundChange) (filled : Refilled) (ran : BoundForm) (lent : ChangeToRun)
-    → form_to_run (form.Change bound) filled ≡ Some ran → ((own : BoundChange) → change_to_run bound filled ≡ Some own → bound_of lent ≡ own)
-    → IsBoundForm schema command ran → IsBoundCommand schema command (line.Change lent)
-lent_change schema command bound filled ran lent is lends binds = by (change_to_run bound filled) refl is
-  where
-    of_change : (c : Command) (own : BoundChange) → bound_of lent ≡ own → IsBoundForm schema c (form.Change own) → IsBoundCommand schema c (line.Change lent)
-    of_change (Change mutation) own same is = subst (IsBoundChange schema mutation) (sym same) is
-    of_change (Select query) own same is = absurd is
-    of_change _ own same is = absurd is
+-- .. and one with that of a change of rows is such a change.
+form_of_change : (schema : Schema) (command : Command) (bound : BoundChange) → IsBoundForm schema command (form.Change bound)
+    → (mutation : Mutation) × (command ≡ Change mutation) × IsBoundChange schema mutation bound
+form_of_change schema (Change mutation) bound is = (mutation, refl, is)
+form_of_change schema (Select query) bound is = absurd is
+form_of_change schema _ bound is = absurd is
 
-    by : (o : Option BoundChange) → change_to_run bound filled ≡ o → option_map (λ (change : BoundChange). form.Change change) o ≡ Some ran
-        → IsBoundCommand schema command (line.Change lent)
+-- A query that is run is a SELECT.
+pub query_run : (schema : Schema) (command : Command) (bound : Bound) (rows : Option (List (List Value))) → RunsAs schema command (form.Query bound) rows
+    → (query : Query) × (command ≡ Select query) × IsBoundQuery schema query bound
+query_run schema command bound rows runs =
+    let both : ◌≡◌ {A = Option BoundForm} (Some (form.Query bound)) (Some runs.ran) = runs.is in
+    let same : runs.ran ≡ form.Query bound = cc in
+    form_of_query schema command bound (subst (IsBoundForm schema command) same runs.binds)
+
+-- A command that changes rows, and the bound change that is run for it in a catalog.
+pub record RunsChange (schema : Schema) (command : Command) (bound : BoundChange) (rows : Option (List (List Value))) : Type 0 where
+  pub mutation : Mutation
+  pub is : command ≡ Change mutation
+  pub ran : BoundChange
+  pub runs : change_to_run bound rows ≡ Some ran
+  pub binds : IsBoundChange schema mutation ran
+
+-- A change of rows that is run is one.
+pub change_run : (schema : Schema) (command : Command) (bound : BoundChange) (rows : Option (List (List Value)))
+    → RunsAs schema command (form.Change bound) rows → RunsChange schema command bound rows
+change_run schema command bound rows runs = by (change_to_run bound rows) refl runs.is
+  where
+    by : (o : Option BoundChange) → change_to_run bound rows ≡ o → option_map form.Change o ≡ Some runs.ran → RunsChange schema command bound rows
     by None own is = absurd (cc)
     by (Some change) own is =
-        let same : form.Change change ≡ ran = cc in
-        of_change command change (lends change own) (subst (IsBoundForm schema command) (sym same) binds)
-
--- A query that is run is lent.
-pub lent_query : (schema : Schema) (command : Command) (bound : Bor Bound) (filled : Refilled) (ran : BoundForm)
-    → form_to_run (form.Query bound.now) filled ≡ Some ran → IsBoundForm schema command ran → IsBoundCommand schema command (line.Query bound)
-lent_query schema command bound filled ran is binds =
-    let same : form.Query bound.now ≡ ran = cc in
-    of_query command (subst (IsBoundForm schema command) (sym same) binds)
-  where
-    of_query : (c : Command) → IsBoundForm schema c (form.Query bound.now) → IsBoundCommand schema c (line.Query bound)
-    of_query (Select query) is = is
-    of_query (Change mutation) is = absurd is
-    of_query _ is = absurd is
+        let same : runs.ran ≡ form.Change change = cc in
+        let found = form_of_change schema command change (subst (IsBoundForm schema command) same runs.binds) in
+        record { mutation = found.0; is = found.1; ran = change; runs = own; binds = found.2 }
 
 module _ (schema : Schema) (holes : HolePlaces) (values : List Value) (command : Command) (count : length values ≡ hole_count holes.are_holes)
-    (old new : BoundChange) (filled : Refilled) (has : HasForm schema holes command (form.Change old))
-    (refills : RefillsToRun holes values old new filled) where
+    (old new : BoundChange) (rows : Option (List (List Value))) (has : HasForm schema holes command (form.Change old))
+    (refills : RefillsToRun holes values old new rows) where
   -- A bound change with new values is to be run, ..
-  pub change_filled : IsToRun schema holes.are_holes values command (form.Change new) filled
+  pub change_filled : IsToRun schema holes.are_holes values command (form.Change new) rows
   change_filled = record {
     ran = form.Change refills.ran;
-    is = ap (option_map (λ (change : BoundChange). form.Change change)) refills.is;
+    is = ap (option_map form.Change) refills.is;
     binds = change_again schema holes values command count old refills.ran has refills.refills;
   }
 
-  -- .. and what is kept of it is still a bound form of its command.
+  -- .. and the form that is kept is still a bound form of its command.
   pub change_stays : IsFormOf schema holes.are_holes command (form.Change new)
   change_stays =
       ⊎_elim

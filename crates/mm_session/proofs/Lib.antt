@@ -5,7 +5,9 @@ pub mod FilledForms
 pub mod FormLemmas
 mod FoundColumns
 pub mod KindLemmas
+pub mod LineEnds
 pub mod LineReadings
+pub mod LoadedScripts
 mod ParameterCounts
 pub mod PlanReadings
 mod ReachedStates

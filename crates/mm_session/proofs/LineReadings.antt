@@ -1,4 +1,4 @@
--- Lines that read as templates, their fillings, and what these lead to.
+-- Lines that read as templates, their fillings, and the outcomes of these.
 use Rattle.std.proofs.Common.{◌≡◌, ◌≢◌, ℕ, Bool, true, false, cond, ltb, List, [], ◌∷◌, Option, Some, None, Result, Ok, Err, IsTrue}
 use Rattle.std.proofs.Common.{length, inl, inr, ⊎_elim, refl, sym, ap, ◌∙◌, arith}
 use Rattle.std.specs.List.{cons_option}
@@ -17,7 +17,7 @@ use Rattle.mm_lang.specs.Answering.{MayLeadTo}
 use Rattle.mm_lang.specs.Grammar.{literal_of}
 use Rattle.mm_lang.specs.Reading.{Reads, command_takes_memory, first_fault, is_nothing, literals_of, plain_command, read_as, reading}
 use Rattle.mm_lang.specs.Reading.{reading_takes_memory, takes_memory, unless}
-use Rattle.mm_lang.specs.Templates.{Prepares, holes_among, holes_of, template_command, template_of}
+use Rattle.mm_lang.specs.Templates.{holes_among, holes_of, template_command, template_of}
 use Rattle.mm_lang.specs.Tokens.{Token, Word, Signed, Quoted, Mark, Hole, Unreadable, has_hole, tokens}
 use Rattle.mm_statement.proofs.Fillers.{merged_no_values}
 use Rattle.mm_statement.specs.Filling.{AnswersFilling, IsFilling, blank, merged}
@@ -42,7 +42,7 @@ line_within true nothing read c e = absurd (cc)
 line_within false true read c e = let same : ◌≡◌ {A = Command} Nothing c = cc in ap (λ (d : Command). first_fault (literals_of d)) (sym same)
 line_within false false read c e = read_within read c e
 
--- Of what a line with holes reads as no literal is past its limit.
+-- No literal of a command that a line with holes reads as is past its limit.
 pub template_within : (line : List ℕ) (c : Command) → template_of line ≡ Ok c → first_fault (literals_of c) ≡ None
 unfolding template_of
 template_within line c e = line_within (ltb 4096 (length line)) (is_nothing line) (template_command (tokens line)) c e
@@ -68,7 +68,7 @@ nothing_plain line nothing =
     ap (λ b. cond (ltb 4096 (length line)) (Err LineTooLong) (cond b (Ok Nothing) (read_as (template_command (tokens line))))) nothing
     ∙ sym (ap (λ b. cond (ltb 4096 (length line)) (Err LineTooLong) (cond b (Ok Nothing) (read_as (plain_command (tokens line))))) nothing)
 
--- A line that has no holes reads as a line, where a line does without whose tokens are none.
+-- A line without holes reads as a line if a line does none of whose tokens is a hole.
 plain_line : (line : List ℕ) → (has_hole (tokens line) ≡ false → template_of line ≡ reading line) → hole_count (holes_of line) ≡ 0
     → template_of line ≡ reading line
 plain_line line plain none =
@@ -77,9 +77,9 @@ plain_line line plain none =
     (λ some. plain (unholed (tokens line) (ap hole_count (sym (cond-false (is_nothing line) _ _ some)) ∙ none)))
     (cases_Bool (is_nothing line))
 
--- ---- commands that take memory
+-- ---- commands that allocate
 
--- A command with literals takes memory, ..
+-- A command with literals allocates, ..
 takes_literals : (c : Command) → literals_of c ≢ [] → IsTrue (command_takes_memory c)
 takes_literals Nothing some = absurd (some refl)
 takes_literals (Define definition) some = refl
@@ -121,7 +121,7 @@ blank_takes Rollback = refl
 blank_takes (Savepoint name) = refl
 blank_takes (RollbackTo name) = refl
 
--- What differs in literals alone takes memory alike, ..
+-- Commands that differ only in literals allocate alike, ..
 pub takes_alike : (c d : Command) → blank d ≡ blank c → IsTrue (command_takes_memory d) → IsTrue (command_takes_memory c)
 takes_alike c d same takes = sym (blank_takes c) ∙ (sym (ap command_takes_memory same) ∙ (blank_takes d ∙ takes))
 
@@ -172,15 +172,7 @@ module _ (line : List ℕ) (command : Command) (values : List Value) (read : tem
       fills_without e h.0 (sym (ap reading_takes_memory (sym (plain_line line plain none) ∙ read)) ∙ h.1))
       reads
 
-  -- .. and of one with holes each refusal is want of memory.
-  pub fills_refused : (e : Refusal) → length (holes_of line) ≡ length (literals_of command) → hole_count (holes_of line) ≢ 0
-      → Prepares line (Err e) → FillsLine line values (Err e)
-  fills_refused e places some prepares =
-      ⊎_elim
-      (λ (h : template_of line ≡ Err e). absurd (let clash : Ok command ≡ Err e = sym read ∙ h in cc))
-      (λ (h : e ≡ Memory). fills_without e h (holes_take line command places some))
-      prepares
-
+  -- .. and one with holes by a filling.
   pub fills_filled : (result : Result Command Refusal) → length (holes_of line) ≡ length (literals_of command) → hole_count (holes_of line) ≢ 0
       → AnswersFilling (holes_of line) values command result → FillsLine line values result
   fills_filled result places some answers =
@@ -192,7 +184,7 @@ module _ (line : List ℕ) (command : Command) (values : List Value) (read : tem
 -- ---- runs
 
 module _ (line : List ℕ) (values : List Value) (before : State) (outcome : Outcome) where
-  -- What a filled command leads to is what the statement leads to.
+  -- An outcome of a filled command is one of the statement.
   pub runs_filled : (filled : Command) → FillsLine line values (Ok filled) → MayLeadTo (Ok filled) before outcome → Runs line values before outcome
   runs_filled filled line_fills leads = record {
     command = line_fills.command;
@@ -222,7 +214,7 @@ module _ (line : List ℕ) (values : List Value) (before : State) (outcome : Out
         line_fills.fills;
   }
 
-  -- So is what a reading leads to.
+  -- So is an outcome of a reading.
   pub runs_read : (read : Result Command Refusal) → FillsLine line values read → MayLeadTo read before outcome → Runs line values before outcome
   runs_read (Ok filled) fills leads = runs_filled filled fills leads
   runs_read (Err refusal) fills leads = runs_refused refusal fills leads

@@ -19,7 +19,7 @@ use Rattle.mm_session.specs.Kinds.{query_of}
 use Rattle.mm_session.specs.Statements.{Explains}
 use Rattle.mm_session.specs.steps.Readings.{FillsExplain, explained}
 
--- What a line reads as has a query if one of its readings has.
+-- The command of a line has a query if one of its readings has.
 pub asked_query : (line : List ℕ) (one other : Command) → template_of line ≡ Ok one → template_of line ≡ Ok other → is_some (query_of one) ≡ true
     → (query : Query) × (query_of other ≡ Some query)
 asked_query line one other p q some =
@@ -41,7 +41,7 @@ module _ (line : List ℕ) (values : List Value) where
       (λ (h : e ≡ Memory). explain_without command query e read asks h)
       prepares
 
-  -- What is filled is the EXPLAIN of the query.
+  -- The filled command is the EXPLAIN of the query.
   pub explain_filled : (command : Command) (query : Query) (result : Result Command Refusal) → template_of line ≡ Ok command
       → query_of command ≡ Some query → AnswersFilling (holes_of line) values (explained command) result → FillsExplain line values result
   explain_filled command query result read asks answers = record {
@@ -53,7 +53,7 @@ module _ (line : List ℕ) (values : List Value) where
   }
 
   module _ (before : State) (outcome : Outcome) where
-    -- What a filled EXPLAIN leads to is what explaining the statement leads to.
+    -- An outcome of a filled EXPLAIN is one of explaining the statement.
     explains_filled : (filled : Command) → FillsExplain line values (Ok filled) → MayLeadTo (Ok filled) before outcome
         → Explains line values before outcome
     explains_filled filled fills leads = record {
@@ -86,12 +86,12 @@ module _ (line : List ℕ) (values : List Value) where
           fills.fills;
     }
 
-    -- So is what a reading leads to.
+    -- So is an outcome of a reading.
     pub explains_read : (read : Result Command Refusal) → FillsExplain line values read → MayLeadTo read before outcome → Explains line values before outcome
     explains_read (Ok filled) fills leads = explains_filled filled fills leads
     explains_read (Err refusal) fills leads = explains_refused refusal fills leads
 
-  -- What a statement is explained by is no definition.
+  -- The command that explains a statement is no definition.
   pub explain_defines : (read : Result Command Refusal) → FillsExplain line values read → defines read ≡ false
   explain_defines (Ok filled) fills =
       ⊎_elim

@@ -10,7 +10,7 @@ use Rattle.mm_laws.proofs.StandingQueries.{watched_at_first, watched_by_step}
 use Rattle.mm_laws.proofs.Throughout.{HoldsThroughout, held_by_all}
 use Rattle.mm_laws.proofs.TypedSteps.{typed_at_first, typed_by_step}
 
--- what each step keeps
+-- each step keeps these properties
 pub record IsSound (state : State) : Type 0 where
   pub kept : HoldsThroughout IsKept state
   pub beside : HasQueries state

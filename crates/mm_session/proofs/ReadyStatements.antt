@@ -1,5 +1,5 @@
--- Statements that are ready, and what sessions come to.
-use Rattle.std.proofs.Common.{◌≡◌, ◌++◌, ◌∷◌, ℕ, Bool, true, false, List, [], Option, Some, None, Result, Ok, Err, IsTrue, length, map, get_or, set}
+-- Statements that are ready, and the sessions that calls reach.
+use Rattle.std.proofs.Common.{◌≡◌, ◌++◌, ◌∷◌, ℕ, Bool, false, List, [], Option, Some, None, Result, Ok, Err, IsTrue, length, map, get_or, set}
 use Rattle.std.proofs.Common.{inl, inr, ⊎_elim, refl, sym, ap, subst, ◌∙◌}
 use Rattle.std.specs.List.{All}
 use Rattle.std.specs.Option.{option_map}
@@ -34,7 +34,7 @@ use Rattle.mm_session.specs.steps.Places.{PutsStatement, forgotten, line_in}
 use Rattle.mm_reply.specs.Sinks.{Delivers, defines, is_definition}
 use Rattle.mm_session.specs.steps.Readings.{FillsLine, is_of_catalog}
 
--- What holds of a refusal that may be there implies more of it.
+-- A consequence of a property of a refusal, if there is one.
 pub if_err : {X E : Type 0} (P Q : E → Type 0) (result : Result X E) → ((e : E) → P e → Q e) → IfErr result P → IfErr result Q
 if_err P Q (Ok x) more holds = tt
 if_err P Q (Err e) more holds = more e holds
@@ -49,7 +49,7 @@ module _ (schema : Schema) (statement : Statement) (values : List Value) (filled
   same : fills.command ≡ ready.command
   same = same_command statement.line.items fills.command ready.command fills.read ready.read
 
-  -- What the line was filled to is its command with the values.
+  -- The filled command is that of the line with the values.
   pub is_filled : IsFilling (holes_of statement.line.items) values fills.command (Ok filled)
   is_filled =
       ⊎_elim
@@ -74,14 +74,14 @@ module _ (schema : Schema) (statement : Statement) (values : List Value) (filled
       defines_alike fills.command filled is_filled.0.same ∙ (ap is_definition same
       ∙ (sym (kind_defines ready.command) ∙ (ap is_of_catalog (sym ready.kind) ∙ other)))
 
--- What a statement of another kind is filled to is no definition.
+-- The filled command of a statement of another kind is no definition.
 pub run_defines : (schema : Schema) (statement : Statement) (values : List Value) (read : Result Command Refusal) → IsReadyStatement schema statement
     → length values ≡ hole_count (holes_of statement.line.items) → FillsLine statement.line.items values read → is_of_catalog statement.kind ≡ false
     → defines read ≡ false
 run_defines schema statement values (Ok filled) ready count fills other = filled_defines schema statement values filled ready count fills other
 run_defines schema statement values (Err refusal) ready count fills other = refl
 
--- A statement tells where the holes of its line are, ..
+-- A statement knows where the holes of its line are, ..
 pub flags : (schema : Schema) (statement : Statement) → IsReadyStatement schema statement → statement.holes.are_holes ≡ holes_of statement.line.items
 flags schema statement ready = ap (λ (h : HolePlaces). h.are_holes) ready.holes
 
@@ -94,16 +94,13 @@ has_form schema statement ready bound is = record {
       (subst (λ (o : Option BoundForm). IfSome o (IsFormOf schema (holes_of statement.line.items) ready.command)) is ready.bound);
 }
 
--- A statement with no bound form is ready whatever the catalog.
-pub ready_unbound : (schema after : Schema) (statement : Statement) → IsReadyStatement schema statement → statement.bound ≡ None
-    → IsReadyStatement after statement
-ready_unbound schema after statement ready none = record {
-  command = ready.command;
-  read = ready.read;
-  holes = ready.holes;
-  kind = ready.kind;
-  bound = subst (λ (o : Option BoundForm). IfSome o (IsFormOf after (holes_of statement.line.items) ready.command)) (sym none) tt;
-}
+-- A statement stays ready if a run consumes the rows that were built for it.
+pub ready_run : (before after : Schema) (old new : Statement) → after ≡ before → new ≡ record old { rows = new.rows } → IsReadyStatement before old
+    → IsReadyStatement after new
+ready_run before after old new same kept ready =
+    subst (λ (schema : Schema). IsReadyStatement schema new) (sym same)
+    (subst (IsReadyStatement before) (sym kept)
+    (record { command = ready.command; read = ready.read; holes = ready.holes; kind = ready.kind; bound = ready.bound }))
 
 -- A statement is ready whatever the catalog once its bound form is forgotten.
 unbound_ready : (schema after : Schema) (slot : Option Statement) → IsReady schema slot → IsReady after (forgotten slot)
@@ -130,7 +127,7 @@ pub lines_kept : (slots : List (Option Statement)) → map line_in (map forgotte
 lines_kept [] = refl
 lines_kept (slot ∷ slots) = ap (λ l. l ∷ map line_in (map forgotten slots)) (line_kept slot) ∙ ap (λ ls. line_in slot ∷ ls) (lines_kept slots)
 
--- A statement that is put among others is ready as they are, ..
+-- A statement that is stored among others is ready as they are, ..
 pub put_ready : (schema : Schema) (statement : Statement) (number : ℕ) (old new : List (Option Statement)) → PutsStatement statement number old new
     → IsReadyStatement schema statement → All (IsReady schema) old → All (IsReady schema) new
 put_ready schema statement number old new puts ready all =
@@ -164,32 +161,32 @@ pub removed_ready : (schema : Schema) (number : ℕ) (old new : List (Option Sta
 removed_ready schema number old new (Ok done) gone kept all = subst (All (IsReady schema)) (sym gone) (All-set (IsReady schema) old number None tt all)
 removed_ready schema number old new (Err misuse) gone kept all = subst (All (IsReady schema)) (sym kept) all
 
--- A statement tells as many holes as its line has.
+-- A statement knows as many holes as its line has.
 pub counted : (schema : Schema) (statement : Statement) → IsReadyStatement schema statement
     → hole_count statement.holes.are_holes ≡ hole_count (holes_of statement.line.items)
 counted schema statement ready = ap (λ (h : HolePlaces). hole_count h.are_holes) ready.holes
 
 module _ (before after : Schema) (slots : List (Option Statement)) (number : ℕ) (slot : Option Statement) (all : All (IsReady before) slots)
     (ready : IsReady after slot) where
-  -- All statements are ready after one of them was run, where the catalog stays, ..
+  -- All statements are ready after one of them was run, if the catalog stays, ..
   pub ready_beside : after ≡ before → All (IsReady after) (set slots number slot)
   ready_beside same =
       All-set (IsReady after) slots number slot ready (subst (λ (schema : Schema). All (IsReady schema) slots) (sym same) all)
 
-  -- .. and where they forget their bound forms.
+  -- .. and if they forget their bound forms.
   pub ready_forgotten : All (IsReady after) (map forgotten (set slots number slot))
   ready_forgotten =
       forgotten_ready after (set slots number slot)
       (All-set (λ s. (schema : Schema) × IsReady schema s) slots number slot (after, ready) (some_ready before slots all))
 
--- Lines stay where one stays in its place.
+-- The lines stay the same if a line is replaced by itself.
 pub lines_beside : (slots : List (Option Statement)) (number : ℕ) (slot d : Option Statement) → line_in slot ≡ line_in (get_or slots number d)
     → map line_in (set slots number slot) ≡ map line_in slots
 lines_beside slots number slot d same = map-set_same line_in slots number slot d same
 
 -- ---- sessions
 
--- What took a statement away, or found none.
+-- A statement was deleted, or there was none.
 pub finalized : (number : ℕ) (state : State) (reply : Option Reply) (changes : ℕ) (old new : List (Option Statement)) (result : Result (Unit {0}) Misuse)
     → OnOk result (new ≡ set old number None) → OnOk result ((line : List ℕ) × (line_at number (map line_in old) ≡ Some line))
     → IfErr result (λ misuse. (misuse ≡ NoSuchStatement) × (line_at number (map line_in old) ≡ None)) → OnErr result (new ≡ old)
@@ -209,7 +206,7 @@ finalized number state reply changes old new (Err misuse) gone stands misused ke
   misused.1,
 )
 
--- What was delivered to the stored reply is the outcome of the call.
+-- The reply passed to the stored reply is that of the call's outcome.
 pub stored_outcome : {T : Type 0} {old new : Option Reply} {taken : T} {after : State} {IsOutcome : Outcome → Type 0}
     → Delivers (λ (_ : Option Reply) (stored : Option Reply) (reply : Option Reply) (_ : T). stored ≡ reply) old new taken after IsOutcome
     → IsOutcome (record { reply = new; state = after })

@@ -45,7 +45,7 @@ module _ (gone : List ℕ) where
   abbrev stays : StandingDef → Bool
   stays standing = not (same_name gone standing.name)
 
-  -- A name that goes is that of none.
+  -- A dropped name is that of no standing query.
   none_left : (ss : List StandingDef) → is_none (find (is_named gone) (filter stays ss)) ≡ true
   none_left [] = refl
   none_left (s ∷ ss) = by (same_name gone s.name) refl (none_left ss)
@@ -78,7 +78,7 @@ module _ (old new : Schema) where
       each (field ∷ fields) = λ i. cons_option (column_stays old new query.from there field.place field.column i) (each fields i)
 
   module _ (out : List ℕ → Bool) (stays : Stays old new out) where
-    -- The query of a name has the columns that it had, where it reads only tables that keep theirs.
+    -- The query of a name has the same columns as before, if it reads only tables that keep theirs.
     named_kept : (name : List ℕ) (ss : List StandingDef) (qs : List BoundQuery) → AreBeside ss qs → All (IsQueryWithin old) qs
         → list_any (λ (standing : StandingDef). list_any out standing.tables) ss ≡ false
         → option_map_or (bound_columns new) (query_named name ss qs) [] ≡ option_map_or (bound_columns old) (query_named name ss qs) []

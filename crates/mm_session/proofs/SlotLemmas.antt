@@ -9,7 +9,7 @@ use Rattle.std.specs.Prelude.{slice_get}
 use Rattle.std.proofs.lemmas.List.{drop-set-lt, get_or-set_same, map_more, length-set, take_all, take_more_set}
 use Rattle.std.proofs.Math.Seq.{drop-cons}
 use Rattle.std.proofs.lemmas.List.Quantifiers.{position-Some}
-use Rattle.std.proofs.lemmas.Option.{slice_get-get_or, slice_get-map, slice_get_past}
+use Rattle.std.proofs.lemmas.Option.{slice_get-get_or, slice_get-map}
 use Rattle.std.specs.Option.{option_map}
 use Rattle.mm_session.specs.Session.{AreTaken}
 use Rattle.mm_session.specs.Statements.{line_at, line_found}
@@ -20,7 +20,7 @@ none_is : {X : Type 0} (o : Option X) → is_none o ≡ true → o ≡ None
 none_is None h = refl
 none_is (Some x) h = absurd (cc)
 
--- Where the first None is, there is one.
+-- The first None is at its place.
 pub free_place : {X : Type 0} (slots : List (Option X)) (number : ℕ) → position is_none slots ≡ Some number → slice_get slots number ≡ Some None
 free_place slots number is =
     let h = position-Some is_none slots number None is in
@@ -81,24 +81,20 @@ taken_below slots number is = λ k below.
     let h = position-Some is_none slots number None is in
     stands_there slots k None (omega (arith, h.0, below)) (some_is (get_or slots k None) (h.2 k below))
 
--- .. and all have one where there is no such place.
+-- .. and all have one if there is no such place.
 pub all_taken : (slots : List (Option Statement)) → position is_none slots ≡ None → AreTaken (length slots) (map line_in slots)
 all_taken slots is = λ k below.
     let end : length slots ≤ position_or_len is_none slots = grind (arith, common_steps) in
     stands_there slots k None below (some_is (get_or slots k None) (fails_before_first is_none slots k None (omega (arith, end, below))))
 
--- Past the end no statement stands.
-pub none_past : (slots : List (Option Statement)) (number : ℕ) → length slots ≤ number → line_at number (map line_in slots) ≡ None
-none_past slots number past = ap line_found (slice_get-map line_in slots number ∙ ap (option_map line_in) (slice_get_past slots number past))
-
--- What is put into a place stands there.
+-- A value put at a place is there.
 pub put_there : {X : Type 0} (slots : List (Option X)) (number : ℕ) (slot : Option X) → number < length slots
     → slice_get (set slots number slot) number ≡ Some slot
 put_there slots number slot within =
     slice_get-get_or (set slots number slot) number slot (omega (arith, length-set slots number slot, within))
     ∙ ap (λ o. Some o) (get_or-set_same slots number slot slot within)
 
--- A statement that stands in a place has its line there.
+-- A statement at a place has its line there.
 pub line_of_statement : (slots : List (Option Statement)) (number : ℕ) (statement : Statement) → slice_get slots number ≡ Some (Some statement)
     → line_at number (map line_in slots) ≡ Some statement.line.items
 line_of_statement slots number statement is = ap line_found (slice_get-map line_in slots number ∙ ap (option_map line_in) is)

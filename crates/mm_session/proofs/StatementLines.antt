@@ -1,4 +1,4 @@
--- A run of a statement does what its line does with the values in place of its holes.
+-- A run of a statement has the effect of its line with the values in place of its holes.
 use Rattle.std.proofs.Common.{◌≡◌, ◌≤◌, ℕ, Bool, true, false, cond, ltb, List, [], ◌∷◌, Option, Some, None, Result, Ok, Err, IsTrue, ⊎_elim}
 use Rattle.std.proofs.Common.{length, refl, sym, ap, subst, ◌∙◌}
 use Rattle.std.specs.List.{AllZip}
@@ -58,14 +58,14 @@ not_long line short e =
 
 -- ---- the line of a statement
 
--- A line whose reading takes memory, if it is a command, takes memory.
+-- A line that reads as a command that allocates, if it reads as a command, allocates.
 reading_takes : (line : List ℕ) → length line ≤ 4096 → ((own : Command) → reading line ≡ Ok own → command_takes_memory own ≡ true)
     → (read : Result Command Refusal) → reading line ≡ read → reading_takes_memory read ≡ true
 reading_takes line short takes (Ok own) is = takes own is
 reading_takes line short takes (Err LineTooLong) is = absurd (not_long line short is)
 reading_takes line short takes (Err refusal) is = refl
 
--- The line of a statement does what a run does, with texts of the values in place of the holes.
+-- The line of a statement has the effect of a run, with texts of the values in place of the holes.
 answers_as : (number : ℕ) (line : List ℕ) (texts : List (List ℕ)) (values : List Value) (old new : SessionState) (h : RunsAt number values old new)
     → h.runs.line ≡ line → AllZip Spells texts values → keeps_signs (tokens line) texts ≡ true
     → length (filled_line line texts) ≤ 4096 → AnswersLine (filled_line line texts) old new

@@ -1,4 +1,4 @@
--- Calls on a session, made one after another, and what they ask the database to do.
+-- Calls on a session, made one after another, and their calls on the database.
 use Rattle.std.specs.Prelude.{◌≡◌, ◌⊎◌, ◌++◌, ◌∷◌, ℕ, List, [], Option, Some, None, Result, Ok}
 use Rattle.mm_value.specs.declared.refusal.Refusal.{Refusal}
 use Rattle.mm_value.specs.declared.values.Value.{Value}
@@ -17,7 +17,7 @@ use Rattle.mm_session.specs.Session.{SessionState, AnswersLine, ExplainsStatemen
 use Rattle.mm_session.specs.Statements.{line_at}
 use Rattle.mm_session.specs.declared.misuse.Misuse.{Misuse}
 
--- A call on a session, with its arguments. All other calls leave the session as it is.
+-- A call on a session, with its arguments. A load executes each line of its script. All other calls leave the session as it is.
 pub data SessionCall : Type 0 where
   Execute : (line : List ℕ) → SessionCall
   Prepare : (line : List ℕ) → SessionCall
@@ -26,7 +26,7 @@ pub data SessionCall : Type 0 where
   Finalize : (number : ℕ) → SessionCall
   Release : (name : List ℕ) → SessionCall
 
--- What a call does to a session, whatever the call returns.
+-- The effect of a call on a session, whatever the call returns.
 abbrev pub Does : SessionCall → SessionState → SessionState → Type 0
 Does (Execute line) old new = AnswersLine line old new
 Does (Prepare line) old new = (result : Result ℕ Refusal) × IsPrepared line old new result
@@ -44,9 +44,9 @@ LeadTo (call ∷ calls) old new = (between : SessionState) × Does call old betw
 abbrev pub first_session : SessionState
 first_session = record { state = first_state; lines = []; reply = None; changes = 0 }
 
--- ---- what calls ask the database to do
+-- ---- calls on the database
 
--- A run of a statement asks for the command that its line reads as, with the values in its holes.
+-- A run of a statement runs the command of its line, with the values in its holes.
 pub record AsksFilled (number : ℕ) (values : List Value) (lines : List (Option (List ℕ))) (asked : Call) : Type 0 where
   pub line : List ℕ
   pub is : line_at number lines ≡ Some line
@@ -56,7 +56,7 @@ pub record AsksFilled (number : ℕ) (values : List Value) (lines : List (Option
   pub fills : IsFilling (holes_of line) values template (Ok filled)
   pub same : asked ≡ RunCommand filled
 
--- EXPLAIN of a statement asks for the EXPLAIN of its query, with the values in its holes.
+-- EXPLAIN of a statement runs the EXPLAIN of its query, with the values in its holes.
 pub record AsksExplained (number : ℕ) (values : List Value) (lines : List (Option (List ℕ))) (asked : Call) : Type 0 where
   pub line : List ℕ
   pub is : line_at number lines ≡ Some line
@@ -68,8 +68,8 @@ pub record AsksExplained (number : ℕ) (values : List Value) (lines : List (Opt
   pub fills : IsFilling (holes_of line) values (command.Explain query) (Ok filled)
   pub same : asked ≡ RunCommand filled
 
--- What a call asks the database to do, where the statements have these lines. A line asks for the command that it reads as. A call that
--- only prepares or deletes a statement asks for nothing.
+-- The call that a session makes on the database, if the statements have these lines. A line runs the command that it reads as. Preparing or
+-- deleting a statement makes no call.
 abbrev pub Asks : SessionCall → List (Option (List ℕ)) → Call → Type 0
 Asks (Execute line) lines asked = (own : Command) × (reading line ≡ Ok own) × (asked ≡ RunCommand own)
 Asks (Prepare line) lines asked = ⊥
@@ -78,11 +78,11 @@ Asks (Explain number values) lines asked = AsksExplained number values lines ask
 Asks (Finalize number) lines asked = ⊥
 Asks (Release name) lines asked = IsName name × (asked ≡ ReleaseSavepoint name)
 
--- What a call did to the database: what the call asks for, or nothing.
+-- The calls on the database that a call on a session made: its own call, or none.
 abbrev pub IsDoneBy : SessionCall → SessionState → List Call → Type 0
 IsDoneBy call old done = (done ≡ []) ⊎ ((asked : Call) × Asks call old.lines asked × (done ≡ asked ∷ []))
 
--- Calls made one after another lead from a session to another, and did this to the database, in order.
+-- Calls made one after another lead from a session to another, and made these calls on the database, in order.
 abbrev pub AreDoneBy : List SessionCall → SessionState → List Call → SessionState → Type 0
 AreDoneBy [] old done new = (done ≡ []) × (new ≡ old)
 AreDoneBy (call ∷ calls) old done new =

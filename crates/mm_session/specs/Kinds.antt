@@ -39,7 +39,7 @@ query_of (Select query) = Some query
 query_of (Explain query) = Some query
 query_of command = None
 
--- The kinds whose commands have such a query.
+-- The kinds whose commands have a query whose plan EXPLAIN shows.
 abbrev pub has_plan : StatementKind → Bool
 has_plan kind.Select = true
 has_plan kind.Explain = true

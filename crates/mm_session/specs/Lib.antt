@@ -1,7 +1,10 @@
 pub mod Calls
 pub mod Columns
+pub mod Definitions
 pub mod Kinds
+pub mod Loading
 pub mod Replies
+pub mod Scripts
 pub mod Session
 pub mod Statements
 pub mod steps

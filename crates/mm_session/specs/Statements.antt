@@ -1,4 +1,4 @@
--- What running a prepared statement does.
+-- The effect of running a prepared statement.
 use Rattle.std.specs.Prelude.{◌≡◌, ◌≢◌, ◌⊎◌, ℕ, List, Option, Some, None, Result, Ok, IsTrue, length, slice_get}
 use Rattle.std.specs.Option.{option_map}
 use Rattle.mm_value.specs.declared.refusal.Refusal.{Refusal}

@@ -1,4 +1,5 @@
 -- Contracts between the parts of the crate. No promise to callers depends on them.
+pub mod Defined
 pub mod Filled
 pub mod Forms
 pub mod Kept

@@ -1,5 +1,5 @@
 //! Laws of sequences of calls on a session.
-ghost use Rattle.std.specs.Prelude.{◌≡◌, ◌≤◌, ℕ, All, List, [], ◌∷◌, None, Some, codes, count_by, false, length, map, true};
+ghost use Rattle.std.specs.Prelude.{◌≡◌, ◌≤◌, ℕ, All, List, [], ◌∷◌, None, Result, Some, codes, count_by, false, length, map, true};
 ghost use Rattle.std.specs.List.{AllZip};
 ghost use Rattle.mm_value.specs.Literal.{Spells};
 ghost use Rattle.mm_value.specs.Types.{type_of};
@@ -15,15 +15,18 @@ ghost use Rattle.mm_lang.specs.Tokens.{is_hole, tokens};
 ghost use Rattle.mm_statement.specs.Texts.{filled_line, keeps_signs};
 ghost use Rattle.mm_txn.specs.Releasing.{Call, after_calls};
 ghost use Rattle.mm_session.specs.Calls.{AreDoneBy, LeadTo, SessionCall, first_session};
+ghost use Rattle.mm_session.specs.Calls.SessionCall.{Execute};
 ghost use Rattle.mm_session.specs.Columns.{AreColumnsOf};
+ghost use Rattle.mm_session.specs.Loading.{Loads, lines_tried};
 ghost use Rattle.mm_session.specs.Session.{AnswersLine, RunsAt, SessionState};
 ghost use Rattle.mm_session.specs.Statements.{AreColumnsFound, line_at, parameters_at};
+ghost use Rattle.mm_session.specs.declared.loading.LoadError.{LoadError as Stop};
 
 use mm_lang::templates_read_as_lines;
 use mm_txn::releases_lead_to_no_other_states;
 
-/// The state of a session is the state after what its calls asked of the database, in order: each call did its command or its release, or
-/// nothing. A new session reaches no other states than commands do. A call whose reply is a refusal did nothing.
+/// The state of a session is the state after its calls on the database, in order: each call on the session ran its command or its release,
+/// or nothing. A new session reaches no other states than commands do. A call whose reply is a refusal does not change the state.
 pub fn calls_lead_to_states_of_commands()
     ensures states { (calls : List SessionCall) (old new : SessionState) → LeadTo calls old new
         → (done : List Call) × AreDoneBy calls old done new × (new.state ≡ after_calls done old.state) }
@@ -37,7 +40,13 @@ pub fn calls_lead_to_states_of_commands()
     releases_lead_to_no_other_states();
 }
 
-/// Whatever calls were made, each row of the reply to a line, or to a run of a statement, has a value of the type of each column of the
+/// A load of a script has the effect on a session of executing its lines one after another, up to the first that is refused.
+pub fn loads_execute_lines()
+    ensures { (script : List ℕ) (old new : SessionState) (result : Result ℕ Stop) → Loads script old new result
+        → LeadTo (map Execute (lines_tried script result)) old new }
+{}
+
+/// After any calls, each row of the reply to a line, or to a run of a statement, has one value of the type of each column of the
 /// line or of the statement, in order, and no more values. The line of a statement may have holes.
 pub fn rows_of_calls_have_the_types_of_columns()
     ensures lines { (calls : List SessionCall) (old new : SessionState) (line : List ℕ) (columns : List Col) (rows : List (List Val))
@@ -52,9 +61,9 @@ pub fn rows_of_calls_have_the_types_of_columns()
     templates_read_as_lines();
 }
 
-/// A run of a statement does what its line does with literals of the values in place of its holes, in the same state: the same reply, the
-/// same state and the same count. This holds if the line with the literals is not longer than 4,096 bytes, and no literal with a minus
-/// follows the sign of a shift.
+/// A run of a statement has the effect of its line with literals of the values in place of its holes, in the same state: the same reply,
+/// the same new state and the same count. This holds if the line with the literals is not longer than 4,096 bytes, and no literal with a
+/// minus follows the sign of a shift.
 pub fn statements_answer_as_their_lines()
     ensures { (number : ℕ) (line : List ℕ) (texts : List (List ℕ)) (values : List Val) (old new : SessionState)
         → line_at number old.lines ≡ Some line → AllZip Spells texts values → keeps_signs (tokens line) texts ≡ true

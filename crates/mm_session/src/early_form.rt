@@ -30,8 +30,8 @@ pub(crate) fn bind_template(
     bind(alloc, database, command).ok()?
 }
 
-/// Returns a value for each hole of a command, of the type of the column that it is compared with or written to. Returns `None` if a table or
-/// a column does not exist, and if an allocation fails.
+/// Returns a value for each hole of a command, of the type of the column that it is compared with or written to. Returns `None` if a table
+/// or a column does not exist, and if an allocation fails.
 fn sample_values(
     alloc: Global,
     catalog: &Catalog,
@@ -120,7 +120,7 @@ fn columns_named<'c>(catalog: &'c Catalog, table: &Name) -> Option<&'c [Column]>
 /// Values for the holes among the literals of a command, in written order.
 #[derive(Drop)]
 struct Samples<'h> {
-    /// Whether each literal that is left is a hole.
+    /// Whether each remaining literal is a hole.
     are_holes: &'h [bool],
     values: Vec<Value>,
 }

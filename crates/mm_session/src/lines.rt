@@ -1,4 +1,4 @@
-//! Lines that are executed.
+//! Executing lines.
 ghost use Rattle.std.specs.List.{All};
 ghost use Rattle.std.specs.Prelude.{◌≡◌, map};
 ghost use Rattle.mm_reply.specs.Sinks.{Delivers, IsAnswerTo, defines};
@@ -11,13 +11,13 @@ use crate::statement::Statement;
 use crate::templates::Templates;
 use mm_lang::parse;
 use mm_query::Command;
-use mm_reply::{ReplySink, respond, run_bound};
+use mm_reply::{ReplySink, respond};
 use mm_txn::Db;
 use mm_value::Refusal;
 use std::alloc::Global;
 
-/// Executes a line, and passes the reply to a sink. A line whose template is kept runs by its bound form, and any other line is read. Drops
-/// all bound forms if the catalog may have changed.
+/// Executes a line, and passes the reply to a sink. If the line's template is kept, runs its bound form; reads any other line. Drops all
+/// bound forms if the catalog may have changed.
 pub(crate) fn execute_line<S: ReplySink>(
     alloc: Global,
     database: &mut Db,
@@ -34,8 +34,8 @@ pub(crate) fn execute_line<S: ReplySink>(
     ensures templates { AreReady database.new.schema templates.new }
     ensures lines { map line_in statements.new.items ≡ map line_in statements.old.items }
 {
-    if let Some(found) = templates.find(alloc, database, line) {
-        return run_bound(alloc, database, templates.bound(found), sink);
+    if let Some(number) = templates.find(alloc, database, line) {
+        return templates.run(alloc, database, number, sink);
     }
     let read = parse(alloc, line);
     let is_definition = is_definition(&read);

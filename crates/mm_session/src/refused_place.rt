@@ -7,7 +7,7 @@ use mm_value::Refusal;
 use std::alloc::Global;
 
 /// Returns the byte offset in a line to show in the message of a refusal: where reading stopped, a literal past its limit, or a name that
-/// does not exist; else 0. The offset is a hint, and at most the length of the line.
+/// does not exist. Otherwise returns 0. The offset is a hint, and at most the length of the line.
 pub(crate) fn place_of_refusal(
     alloc: Global,
     catalog: &Catalog,

@@ -15,7 +15,7 @@ use mm_value::Refusal;
 use std::alloc::Global;
 use std::marker::Model;
 
-/// How the reply to the last call is stored.
+/// The stored form of the reply to the last call.
 #[derive(Drop)]
 enum Kept {
     /// No reply.
@@ -26,7 +26,7 @@ enum Kept {
     Other(Reply),
 }
 
-/// The reply to the last call, seen as the reply. A sink that stores each reply in place of the last one.
+/// The stored reply to the last call. Its model is the reply. As a sink, it replaces the last reply by each new one.
 #[derive(Drop)]
 pub(crate) struct KeptReply {
     /// The rows of the reply, if it has any. The buffer's allocations are reused.

@@ -1,15 +1,20 @@
 //! Sessions.
-ghost use Rattle.std.specs.Prelude.{◌≡◌, ◌≤◌, ◌⊎◌, [], Err, IfErr, IfOk, None, Ok, is_some, length, map};
+ghost use Rattle.std.specs.Prelude.{◌≡◌, ◌≤◌, ◌⊎◌, [], Err, IfErr, IfOk, None, Ok, OnOk, Some, is_some, length, map};
 
 use crate::columns::columns_of_line;
+use crate::definition::{DefinitionKind, add_definition};
+use crate::dumping::add_dump;
 use crate::lines::execute_line;
+use crate::loading::{LoadError, refusal_in};
 use crate::misuse::{ColumnsError, Misuse};
 use crate::refused_place::place_of_refusal;
 use crate::replies::{KeptReply, LastReply};
+use crate::script::split_line;
 use crate::slots::{add, columns_at, explain_at, kind, parameters, remove, run_at};
 use crate::statement::Statement;
 use crate::statement_kind::StatementKind;
 use crate::templates::Templates;
+use mm_dump::DumpPlace;
 use mm_reply::ReplySink;
 use mm_schema::{Column, Name};
 use mm_txn::Db;
@@ -27,7 +32,7 @@ pub struct Session {
     last: KeptReply,
     /// The number of rows that all calls changed, modulo 2^64.
     changes: u64,
-    /// The templates of lines that came more than once.
+    /// The templates of lines that occurred more than once.
     templates: Templates,
 }
 
@@ -52,10 +57,16 @@ impl Model for Session {
 }
 
 impl Session {
+    ghost use Rattle.std.specs.Option.{option_map};
+    ghost use Rattle.mm_dump.specs.Entries.{entry_text};
+    ghost use Rattle.mm_dump.specs.Places.{IsPiece, dump_rest};
     ghost use Rattle.mm_lang.specs.Templates.{template_of};
     ghost use Rattle.mm_query.specs.State.{first_state};
     ghost use Rattle.mm_reply.specs.Sinks.{Delivers, IsAnswerTo};
+    ghost use Rattle.mm_schema.specs.Refused.{AnswersDue};
     ghost use Rattle.mm_session.specs.Columns.{AreColumnsOf};
+    ghost use Rattle.mm_session.specs.Definitions.{definition_refusal, entry_named};
+    ghost use Rattle.mm_session.specs.Loading.{Loads};
     ghost use Rattle.mm_session.specs.Replies.{reply_lent};
     ghost use Rattle.mm_value.specs.declared.refusal.Refusal.TheVariants.{Memory};
     ghost use Rattle.mm_session.specs.Session.{AnswersLine, ExplainsStatement, Finalizes, IsPrepared, Releases, RunsStatement};
@@ -74,8 +85,8 @@ impl Session {
         }
     }
 
-    /// Executes a line, without its line feed and carriage return, and stores the reply. The line is read as [`mm_lang::parse`] does. If the
-    /// line differs from earlier ones in its literals alone, it is not read again.
+    /// Executes a line, without its line feed and carriage return, and stores the reply. The line is read as [`mm_lang::parse`] does. A
+    /// line that differs from earlier ones only in its literals is not read again if its template is kept.
     pub fn execute(&mut self, alloc: Global, line: &[u8])
         ensures { AnswersLine line.now self.old self.new }
     {
@@ -105,6 +116,25 @@ impl Session {
             line,
             sink,
         )
+    }
+
+    /// Executes the lines of a script one after another, as [`Session::execute`] does, and returns their number. A line ends with a line
+    /// feed; the last line needs none. One carriage return at the end of a line is dropped. Stops at the first line that is refused: the
+    /// lines before it stay executed, and the refusal is the reply. If the script has no lines, the reply is unchanged.
+    pub fn load(&mut self, alloc: Global, script: &[u8]) -> Result<usize, LoadError>
+        ensures { Loads script.now self.old self.new result }
+    {
+        let mut lines = 0;
+        let mut rest = script;
+        while let Some((line, behind)) = split_line(rest) {
+            self.execute(alloc, line);
+            if let Some(refusal) = refusal_in(&self.reply()) {
+                return Err(LoadError { lines, refusal });
+            }
+            lines += 1;
+            rest = behind;
+        }
+        Ok(lines)
     }
 
     /// Prepares a line, as [`mm_lang::prepare`] reads it, and returns the statement's number: the least free one. Fails as
@@ -216,7 +246,7 @@ impl Session {
     }
 
     /// Returns the byte offset in a line to show in the message of a refusal: where reading stopped, a literal past its limit, or a name
-    /// that does not exist; else 0. The offset is a hint, and at most the length of the line.
+    /// that does not exist. Otherwise returns 0. The offset is a hint, and at most the length of the line.
     pub fn place_of_refusal(&self, alloc: Global, line: &[u8], refusal: Refusal) -> usize
         ensures { result ≤ length line.now }
     {
@@ -238,5 +268,40 @@ impl Session {
         ensures { result ≡ is_some self.now.state.saved }
     {
         self.database.is_in_transaction()
+    }
+
+    /// Writes the line that defines a table, an index or a standing query: `TABLE`, `INDEX` or `WATCH`, without its line feed. A dump has
+    /// the same line. Fails with `Syntax` if the bytes are not a name, with `NoSuchTable`, `NoSuchIndex` or `NoSuchStandingQuery` if no
+    /// object of the kind has the name, and with `Memory` if an allocation fails. Tables, indexes and standing queries may have the same
+    /// name.
+    pub fn definition(
+        &self,
+        kind: DefinitionKind,
+        name: &[u8],
+        bytes: &mut Vec<u8>,
+    ) -> Result<(), Refusal>
+        requires { bytes.old.items ≡ [] }
+        ensures refusal { AnswersDue (definition_refusal kind name.now self.now.state) result }
+        ensures text { OnOk result (option_map entry_text (entry_named kind name.now self.now.state) ≡ Some bytes.new.items) }
+    {
+        add_definition(&self.database, kind, name, bytes)
+    }
+
+    /// Appends the next piece of the dump of the database, from a place on: as many whole lines as fit into `room` bytes. Returns the place
+    /// after them. Appends no line only at the end of the dump. If a transaction is open, its changes are in the dump. Fails with `Memory`
+    /// if the next line cannot be appended: an allocation failed, or the line is longer than `room`.
+    pub fn dump(
+        &self,
+        alloc: Global,
+        from: DumpPlace,
+        room: usize,
+        bytes: &mut Vec<u8>,
+    ) -> Result<DumpPlace, Refusal>
+        requires { bytes.old.items ≡ [] }
+        ensures piece { IfOk result (λ to. IsPiece self.now.state bytes.new.items from to) }
+        ensures end { OnOk result (bytes.new.items ≡ [] → dump_rest self.now.state from ≡ []) }
+        ensures room { length bytes.new.items ≤ room }
+    {
+        add_dump(alloc, &self.database, from, room, bytes)
     }
 }

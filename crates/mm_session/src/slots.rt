@@ -91,7 +91,7 @@ pub(crate) fn run_at<S: ReplySink>(
 
 /// The result of running a statement.
 struct Ran<T> {
-    /// What the sink returned for the reply.
+    /// The sink's result for the reply.
     taken: T,
     /// Whether the command was a definition, which changes the catalog.
     is_definition: bool,

@@ -1,26 +1,27 @@
 //! Prepared statements.
-ghost use Rattle.std.specs.Option.{IfNone};
-ghost use Rattle.std.specs.Prelude.{◌≡◌, IfErr, IfOk, IfSome, None, false, length, true};
+ghost use Rattle.std.specs.Prelude.{◌≡◌, IfErr, IfOk, IfSome, None, Ok, false, length, true};
+ghost use Rattle.mm_lang.specs.Answering.{MayLeadTo};
 ghost use Rattle.mm_lang.specs.Templates.{holes_of};
 ghost use Rattle.mm_query.specs.Machine.{refused_outcome};
+ghost use Rattle.mm_query.specs.declared.command.Command.{Command as AnyCommand};
 ghost use Rattle.mm_reply.specs.Sinks.{Delivers};
 ghost use Rattle.mm_schema.specs.Schema.{Schema};
 ghost use Rattle.mm_statement.specs.Holes.{hole_count};
 ghost use Rattle.mm_session.specs.Statements.{Explains, Runs};
-ghost use Rattle.mm_session.specs.steps.Filled.{IsFilledStatement};
+ghost use Rattle.mm_session.specs.steps.Filled.{IsFilledStatement, RunsCommand};
 ghost use Rattle.mm_session.specs.steps.Forms.{IsReadyStatement, ReadsStatement};
 ghost use Rattle.mm_session.specs.Kinds.{has_plan};
 ghost use Rattle.mm_session.specs.steps.Readings.{is_of_catalog};
 
 use crate::bound_form::{BoundForm, bind_into};
 use crate::early_form::bind_template;
-use crate::lending::lend;
 use crate::reading::{read_explain, read_filled};
-use crate::refilling::{Refilled, refill};
+use crate::refilling::refill;
+use crate::running::run_form;
 use crate::statement_kind::StatementKind;
 use mm_lang::{Template, prepare, templates_read_as_lines};
-use mm_query::Reply;
-use mm_reply::{ReplySink, respond, run_bound};
+use mm_query::{Reply, RowList};
+use mm_reply::{ReplySink, respond};
 use mm_statement::Holes;
 use mm_txn::Db;
 use mm_value::{Refusal, Value};
@@ -37,6 +38,8 @@ pub(crate) struct Statement {
     pub(crate) kind: StatementKind,
     /// The bound form of its command, with the values of the last run, until the catalog changes.
     pub(crate) bound: Option<BoundForm>,
+    /// The rows of an INSERT with new values, until it is run.
+    pub(crate) rows: Option<RowList>,
 }
 
 impl Statement {
@@ -56,6 +59,7 @@ impl Statement {
             holes: places,
             kind,
             bound,
+            rows: None,
         })
     }
 
@@ -77,28 +81,28 @@ impl Statement {
         ensures schema { is_of_catalog self.old.kind ≡ false → database.new.schema ≡ database.old.schema }
     {
         match self.fill(alloc, database, values) {
-            Ok(Some(filled)) => self.run_filled(alloc, database, values, filled, sink),
-            Ok(None) => self.run_line(alloc, database, values, sink),
+            Ok(true) => self.run_filled(alloc, database, sink),
+            Ok(false) => self.run_line(alloc, database, values, sink),
             Err(refusal) => sink.take(Some(Reply::Refused(refusal))),
         }
     }
 
-    /// Runs the bound form, which has the values, and passes the reply to a sink.
-    fn run_filled<S: ReplySink>(
-        &self,
+    /// Runs the bound form, which has values, and passes the reply to a sink. The catalog is unchanged.
+    pub(crate) fn run_filled<S: ReplySink>(
+        &mut self,
         alloc: Global,
         database: &mut Db,
-        values: &[Value],
-        filled: Refilled,
         sink: &mut S,
     ) -> S::Taken
         requires can { S.can_take sink.old }
-        requires filled { IsFilledStatement database.old.schema self.now.line.items values.now self.now filled }
-        ensures runs { Delivers S.takes sink.old sink.new result database.new (Runs self.now.line.items values.now database.old) }
+        requires runs { (command : AnyCommand) × RunsCommand database.old.schema command self.old }
+        ensures delivers { (command : AnyCommand) → RunsCommand database.old.schema command self.old
+            → Delivers S.takes sink.old sink.new result database.new (MayLeadTo (Ok command) database.old) }
         ensures schema { database.new.schema ≡ database.old.schema }
+        ensures kept { self.new ≡ record self.old { rows = self.new.rows } }
     {
         match &self.bound {
-            Some(form) => run_bound(alloc, database, lend(form, filled), sink),
+            Some(form) => run_form(alloc, database, form, &mut self.rows, sink),
             None => unreachable!(),
         }
     }
@@ -121,49 +125,48 @@ impl Statement {
         respond(alloc, database, read, sink)
     }
 
-    /// Writes values into the holes of the bound form, and tells where they are. Reads and binds the line if there is no form. Returns
-    /// `None` for a command that has no bound form, and if the values do not fit the form, which is then dropped. Fails if the values or the
+    /// Writes values into the holes of the bound form, and returns whether it did. Reads and binds the line if there is no form. Returns
+    /// `false` for a command that has no bound form, and if the values do not fit the form, which is then dropped. Fails if the values or the
     /// catalog refuse the command, or if an allocation fails.
     pub(crate) fn fill(
         &mut self,
         alloc: Global,
         database: &Db,
         values: &[Value],
-    ) -> Result<Option<Refilled>, Refusal>
+    ) -> Result<bool, Refusal>
         requires ready { IsReadyStatement database.now.schema self.old }
         requires values { length values.now ≡ hole_count (holes_of self.old.line.items) }
         ensures ready { IsReadyStatement database.now.schema self.new }
         ensures line { self.new.line ≡ self.old.line }
         ensures kind { self.new.kind ≡ self.old.kind }
-        ensures filled { IfOk result (λ filled. IfSome filled (IsFilledStatement database.now.schema self.old.line.items values.now self.new)) }
-        ensures unbound { IfOk result (λ filled. IfNone filled (self.new.bound ≡ None)) }
+        ensures filled { IfOk result (λ is_filled. is_filled ≡ true
+            → IsFilledStatement database.now.schema self.old.line.items values.now self.new) }
+        ensures unbound { IfOk result (λ is_filled. is_filled ≡ false → self.new.bound ≡ None) }
         ensures refused { IfErr result (λ refusal. Runs self.old.line.items values.now database.now (refused_outcome refusal database.now)) }
     {
         self.bind_line(alloc, database, values)?;
         Ok(self.refill(alloc, values))
     }
 
-    /// Writes values into the holes of the bound form, and tells where they are. Drops the form if they do not fit.
-    fn refill(&mut self, alloc: Global, values: &[Value]) -> Option<Refilled>
+    /// Writes values into the holes of the bound form, and returns whether it did. Drops the form if they do not fit.
+    fn refill(&mut self, alloc: Global, values: &[Value]) -> bool
         requires ready { (schema : Schema) × IsReadyStatement schema self.old }
         requires values { length values.now ≡ hole_count (holes_of self.old.line.items) }
         ensures ready { (schema : Schema) → IsReadyStatement schema self.old → IsReadyStatement schema self.new }
         ensures line { self.new.line ≡ self.old.line }
         ensures kind { self.new.kind ≡ self.old.kind }
-        ensures filled { IfSome result (λ filled. (schema : Schema) → IsReadyStatement schema self.old
-            → IsFilledStatement schema self.old.line.items values.now self.new filled) }
-        ensures unbound { IfNone result (self.new.bound ≡ None) }
+        ensures filled { result ≡ true → (schema : Schema) → IsReadyStatement schema self.old
+            → IsFilledStatement schema self.old.line.items values.now self.new }
+        ensures unbound { result ≡ false → self.new.bound ≡ None }
     {
         let Some(form) = &mut self.bound else {
-            return None;
+            return false;
         };
-        match refill(alloc, &self.holes, values, form) {
-            Some(filled) => Some(filled),
-            None => {
-                forget(&mut self.bound);
-                None
-            }
+        if refill(alloc, &self.holes, values, form, &mut self.rows) {
+            return true;
         }
+        self.bound = None;
+        false
     }
 
     /// Reads the line, and binds its command with the values, unless there is a bound form or the command has none. Fails as
@@ -203,11 +206,4 @@ impl Statement {
         let read = read_explain(alloc, self.line.as_slice(), values);
         respond(alloc, database, read, sink)
     }
-}
-
-/// Drops a bound form, if there is one.
-fn forget(bound: &mut Option<BoundForm>)
-    ensures { bound.new ≡ None }
-{
-    *bound = None;
 }

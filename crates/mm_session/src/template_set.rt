@@ -1,4 +1,4 @@
-//! What the table of templates knows about each of its sets of slots.
+//! The state of each set of slots of the table of templates.
 ghost use Rattle.std.specs.Prelude.{◌≡◌, ◌<◌, IfOk, IfSome, length};
 ghost use Rattle.mm_lang.specs.Templates.{holes_of};
 ghost use Rattle.mm_session.specs.steps.Forms.{IsReadyStatement};
@@ -9,13 +9,13 @@ use mm_txn::Db;
 use mm_value::{Refusal, Value};
 use std::alloc::Global;
 
-/// The number of sets. A template's hash tells its set.
+/// The number of sets. A template's hash determines its set.
 pub(crate) const SETS: usize = 32;
 
 /// A set of two slots of the table of templates.
 #[derive(Clone, Copy)]
 pub(crate) struct TemplateSet {
-    /// The hash of the last template that came and was not there. It is kept if it comes again.
+    /// The hash of the last template that was looked up and not found. The template is kept if it occurs again.
     seen: u64,
     /// The hash of the last template whose names the catalog refused. It is not kept until the catalog changes.
     refused: u64,
@@ -24,7 +24,7 @@ pub(crate) struct TemplateSet {
 }
 
 impl TemplateSet {
-    /// Returns a set of which nothing is known.
+    /// Returns the state of a set that was not used yet.
     pub(crate) fn new() -> TemplateSet {
         TemplateSet {
             seen: 0,
@@ -33,19 +33,19 @@ impl TemplateSet {
         }
     }
 
-    /// Returns whether to keep a template that is not there: it was the last one that came, and the catalog did not refuse it.
+    /// Returns whether to keep a template that was not found: it was the last one looked up, and the catalog did not refuse it.
     pub(crate) fn expects(&mut self, hash: u64) -> bool {
         let is_expected = self.seen == hash && self.refused != hash;
         self.seen = hash;
         is_expected
     }
 
-    /// Notes that a slot was used. The second slot of a set has an odd number.
+    /// Records that a slot was used. The second slot of a set has an odd number.
     pub(crate) fn note_use(&mut self, number: usize) {
         self.is_second_last = number % 2 == 1;
     }
 
-    /// Returns the number of the slot that was not used last, for the set at a place, and notes its use.
+    /// Returns the number of the slot that was not used last, for the set at a place, and records its use.
     pub(crate) fn next_number(&mut self, place: usize) -> usize
         requires { place < 32 }
     {
@@ -102,13 +102,14 @@ fn bound_statement(
     ensures line { IfOk result (λ found. IfSome found (λ statement. statement.line.items ≡ template.now)) }
 {
     let mut statement = Statement::read(alloc, database, template)?;
-    match statement.fill(alloc, database, values)? {
-        Some(_) => Ok(Some(statement)),
-        None => Ok(None),
+    if statement.fill(alloc, database, values)? {
+        Ok(Some(statement))
+    } else {
+        Ok(None)
     }
 }
 
-/// Returns whether a refusal depends on the names of a line alone, and not on its values.
+/// Returns whether a refusal depends only on the names of a line, and not on its values.
 fn is_of_names(refusal: Refusal) -> bool {
     matches!(
         refusal,

@@ -1,17 +1,14 @@
 //! The slots of the table of templates.
-ghost use Rattle.std.specs.Prelude.{◌≡◌, ◌<◌, ℕ, IfOk, IfSome, List, None, Some, length, map, true};
+ghost use Rattle.std.specs.Prelude.{◌≡◌, ◌<◌, ℕ, IfOk, IfSome, List, Some, length, map, true};
 ghost use Rattle.std.specs.List.{All};
-ghost use Rattle.std.specs.Option.{IfNone};
 ghost use Rattle.mm_lang.specs.Templates.{holes_of};
 ghost use Rattle.mm_schema.specs.Schema.{Schema};
 ghost use Rattle.mm_session.specs.Statements.{line_at};
-ghost use Rattle.mm_session.specs.steps.Filled.{IsFilledAt, IsFilledIn, form_at};
+ghost use Rattle.mm_session.specs.steps.Filled.{IsFilledAt, IsFilledIn};
 ghost use Rattle.mm_session.specs.steps.Forms.{IsReady, IsReadyStatement};
 ghost use Rattle.mm_session.specs.steps.Places.{line_in};
 ghost use Rattle.mm_statement.specs.Holes.{hole_count};
 
-use crate::bound_form::BoundForm;
-use crate::refilling::Refilled;
 use crate::slots::statement_at;
 use crate::statement::Statement;
 use crate::template_set::SETS;
@@ -44,49 +41,44 @@ fn has_template(slots: &[Option<Statement>], number: usize, template: &[u8]) -> 
     }
 }
 
-/// Fills the bound form of the statement with a number. Binds the statement if it has no form. Returns `None`, and drops the form, if the
-/// values do not fit it, if the catalog refuses the command, or if an allocation fails.
+/// Fills the bound form of the statement with a number, and returns whether it did. Binds the statement if it has no form. Returns `false`,
+/// and drops the form, if the values do not fit it, if the catalog refuses the command, or if an allocation fails.
 pub(crate) fn fill_at(
     alloc: Global,
     database: &Db,
     slots: &mut Vec<Option<Statement>>,
     number: usize,
     values: &[Value],
-) -> Option<Refilled>
+) -> bool
     requires ready { All (IsReady database.now.schema) slots.old.items }
     requires count { (template : List ℕ) → line_at number (map line_in slots.old.items) ≡ Some template
         → length values.now ≡ hole_count (holes_of template) }
     ensures ready { All (IsReady database.now.schema) slots.new.items }
-    ensures filled { IfSome result (λ filled. (template : List ℕ) → line_at number (map line_in slots.old.items) ≡ Some template
-        → IsFilledAt database.now.schema template values.now number filled slots.new.items) }
+    ensures filled { result ≡ true → (template : List ℕ) → line_at number (map line_in slots.old.items) ≡ Some template
+        → IsFilledAt database.now.schema template values.now number slots.new.items }
 {
     if number >= slots.len() {
-        return None;
+        return false;
     }
     fill_slot(alloc, database, &mut slots[number], values)
 }
 
 /// Fills the bound form of a slot's statement as [`fill_at`] does.
-fn fill_slot(
-    alloc: Global,
-    database: &Db,
-    slot: &mut Option<Statement>,
-    values: &[Value],
-) -> Option<Refilled>
+fn fill_slot(alloc: Global, database: &Db, slot: &mut Option<Statement>, values: &[Value]) -> bool
     requires ready { IsReady database.now.schema slot.old }
     requires count { (template : List ℕ) → line_in slot.old ≡ Some template → length values.now ≡ hole_count (holes_of template) }
     ensures ready { IsReady database.now.schema slot.new }
-    ensures filled { IfSome result (λ filled. (template : List ℕ) → line_in slot.old ≡ Some template
-        → IsFilledIn database.now.schema template values.now filled slot.new) }
+    ensures filled { result ≡ true → (template : List ℕ) → line_in slot.old ≡ Some template
+        → IsFilledIn database.now.schema template values.now slot.new }
 {
     match slot {
-        Some(statement) => statement.fill(alloc, database, values).ok()?,
-        None => None,
+        Some(statement) => statement.fill(alloc, database, values).unwrap_or(false),
+        None => false,
     }
 }
 
-/// Puts a statement into the slot with a number, and returns the number. Makes the slots if there are none. Returns `None` if an allocation
-/// fails.
+/// Stores a statement in the slot with a number, and returns the number. Allocates the slots if there are none. Returns `None` if an
+/// allocation fails.
 pub(crate) fn put(
     alloc: Global,
     slots: &mut Vec<Option<Statement>>,
@@ -105,7 +97,7 @@ pub(crate) fn put(
     Some(number)
 }
 
-/// Makes all slots, with no statements, if there are none.
+/// Allocates all slots, without statements, if there are none.
 fn make_slots(alloc: Global, slots: &mut Vec<Option<Statement>>) -> Result<(), AllocError>
     ensures { (schema : Schema) → All (IsReady schema) slots.old.items → All (IsReady schema) slots.new.items }
 {
@@ -124,18 +116,4 @@ fn empty_slots(alloc: Global) -> Result<Vec<Option<Statement>>, AllocError>
         slots.push(None)?;
     }
     Ok(slots)
-}
-
-/// Returns the bound form of the statement with a number, if there is one.
-pub(crate) fn form_at(slots: &[Option<Statement>], number: usize) -> Option<&BoundForm>
-    ensures found { IfSome result (λ form. form_at number slots.now ≡ Some form.now) }
-    ensures none { IfNone result (form_at number slots.now ≡ None) }
-{
-    match slots.get(number)? {
-        Some(statement) => match &statement.bound {
-            Some(form) => Some(form),
-            None => None,
-        },
-        None => None,
-    }
 }

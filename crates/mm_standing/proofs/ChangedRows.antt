@@ -1,4 +1,4 @@
--- Rows whose counts change have the types that the rows before and after have.
+-- Rows whose counts change have the types of the rows before and after.
 use Rattle.std.proofs.Common.{
   ◌≡◌,
   ◌≢◌,
@@ -44,7 +44,7 @@ use Rattle.mm_standing.proofs.Others.{Rows, tally}
 abbrev pub ChangesSome : Signed → Type 0
 ChangesSome change = change.count ≢ pos 0
 
--- Each row has no change but its own.
+-- Each row has only its own change.
 own_change : (changes : List Signed) → IsOnceEach changes → All ChangesSome changes → (k : ℕ) (d : Signed) → k < length changes
     → signed_count (get_or changes k d).row changes ≡ (get_or changes k d).count
 own_change [] once some k d within = absurd (omega (arith, within))
@@ -58,7 +58,7 @@ own_change (c ∷ cs) once some (suc k) d within =
     by false e own = sym (others_in_rest c cs once (get_or cs k d).row e) ∙ own
 
 module _ (types : List ColType) where
-  -- A row that some rows have has what they have.
+  -- A row that occurs among some rows has their property.
   counted_typed : (row : List Value) (rows : Rows) → count_of row rows ≢ 0 → All (HasTypes types) rows → HasTypes types row
   counted_typed row [] some typed = absurd (some refl)
   counted_typed row (x ∷ xs) some typed =
@@ -79,7 +79,7 @@ module _ (types : List ColType) where
         nothing : (z : ℤ) (a b : ℕ) → z ≡ pos a -ℤ pos b → a ≡ 0 → b ≡ 0 → z ≡ pos 0
         nothing z a b e p q = omega (arith, ints)
 
-    -- So do the rows of changes, where each row's count changes at most once, and by another number than 0.
+    -- So do the rows of changes, if each row's count changes at most once, and by a number other than 0.
     pub changed_typed : (changes : List Signed) → IsOnceEach changes → All ChangesSome changes
         → ((row : List Value) → signed_count row changes ≡ pos (count_of row after) -ℤ pos (count_of row before))
         → All (λ (change : Signed). HasTypes types change.row) changes

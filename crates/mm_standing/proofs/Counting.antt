@@ -1,4 +1,4 @@
--- Lists that have each element equally often, and what is counted in a list.
+-- Lists in which each element occurs equally often, and counts in a list.
 use Rattle.std.proofs.Common.{◌≡◌, ℕ, zero, suc, ◌+◌, ◌<◌, min, Bool, true, false, cond, ◌||◌, List, [], ◌∷◌, get_or, length, refl, sym, ap, ◌∙◌, arith}
 use Rattle.std.specs.List.{count_by, list_any, remove}
 use Rattle.std.specs.List.Sorted.{IsPermutation}
@@ -20,13 +20,13 @@ find_step : {X : Type 0} (p : X → Bool) (d y : X) (ys : List X) (b : Bool) →
 find_step p d y ys true e h f = (zero, omega arith, e)
 find_step p d y ys false e h f = let r = f (omega arith) in (suc r.0, omega (arith, r.1), r.2)
 
--- What is counted stands somewhere, ..
+-- A counted element is at some place, ..
 pub find_counted : {X : Type 0} (p : X → Bool) (d : X) (ys : List X) → 0 < count_by p ys → (i : ℕ) × (i < length ys) × (p (get_or ys i d) ≡ true)
 find_counted p d [] h = absurd (omega arith)
 find_counted p d (y ∷ ys) h =
     find_step p d y ys (p y) refl (omega (arith, sum_by-cons (λ x. cond (p x) 1 0) y ys)) (find_counted p d ys)
 
--- .. and what stands somewhere is counted.
+-- .. and an element at some place is counted.
 pub counted_at : {X : Type 0} (p : X → Bool) (xs : List X) (i : ℕ) (d : X) → i < length xs → p (get_or xs i d) ≡ true → 0 < count_by p xs
 counted_at p [] i d within is = absurd (omega (arith, within))
 counted_at p (x ∷ xs) zero d within is =

@@ -1,4 +1,4 @@
--- The bag of the rows that a plan finds.
+-- The bag of the rows found by a plan.
 use Rattle.std.proofs.Common.{◌≡◌, ℕ, zero, suc, pos, ◌+◌, ◌≤◌, ◌+ℤ◌, ⊎_elim, Bool, true, false, true≢false, cond, List, [], ◌∷◌, ◌++◌, Some, None, length, map}
 use Rattle.std.proofs.Common.{get_or, refl, sym, ap, ◌∙◌, subst, arith}
 use Rattle.std.specs.Option.{option_map}
@@ -31,7 +31,7 @@ counted_more : (b : Bool) (n m : ℕ) → pos n ≡ pos m +ℤ (cond b (pos 1) (
 counted_more true n m h = omega (arith, ints)
 counted_more false n m h = omega (arith, ints)
 
--- A row more is counted.
+-- One more row is counted.
 pub bag_more : (es fs : Entries) (rows : List (List Value)) (row : List Value) → IsBagOf es rows
     → Adds (record { row = row; count = pos 1 }) es fs → IsBagOf fs (rows ++ row ∷ [])
 bag_more es fs rows row bag adds other =
@@ -39,7 +39,7 @@ bag_more es fs rows row bag adds other =
     ∙ ap (λ n. n + cond (same_row other row) 1 0) (bag other)
     ∙ sym (sum_by_push (λ r. cond (same_row other r) 1 0) rows row)
 
--- Its count is above 0, and those of the others are as they were.
+-- Its count is above 0, and the others are unchanged.
 pub positive_more : (es fs : Entries) (row : List Value) → ArePositive es → Adds (record { row = row; count = pos 1 }) es fs → ArePositive fs
 positive_more es fs row positive adds other has =
     let counted = counted_more (same_row other row) (count_in other fs) (count_in other es) (adds.counts other) in
@@ -51,7 +51,7 @@ positive_more es fs row positive adds other has =
 pub positive_none : ArePositive []
 positive_none row has = absurd (true≢false (sym has))
 
--- ---- what a plan finds
+-- ---- the rows found by a plan
 
 -- The rows of the combinations are those of the bag.
 pub found_bag : (store : Tables) (query : BoundQuery) (tables : List ℕ) (list : Combos) → list.tables ≡ tables → list.fields ≡ query.fields
@@ -69,7 +69,7 @@ found_bag store query tables list joined fields fits =
 pub bag_moved : (es : Entries) (rows others : List (List Value)) → IsPermutation rows others → IsBagOf es rows → IsBagOf es others
 bag_moved es rows others moved bag row = bag row ∙ sym (sum_by-IsPermutation (λ r. cond (same_row row r) 1 0) rows others moved)
 
--- The row of the combination at a place stands at that place.
+-- The row of the combination at a place is at that place.
 pub projected_at : (store : Tables) (list : Combos) (i : ℕ) (combo : List RowRef) → slice_get list.combos i ≡ Some combo
     → slice_get (projected_rows store list) i ≡ Some (values_of list.fields (map Some (rows_of_combo store list.tables combo)))
 projected_at store list i combo is =
@@ -78,9 +78,9 @@ projected_at store list i combo is =
     ∙ (ap (option_map shown) (slice_get-map (rows_of_combo store list.tables) list.combos i)
     ∙ ap (λ o. option_map shown (option_map (rows_of_combo store list.tables) o)) is)
 
--- ---- what a combination reads
+-- ---- the rows read for a combination
 
--- At a place of FROM, whose table this is, a combination has a reference to a row that is there.
+-- At a place of FROM with this table, a combination has a reference to an existing row.
 pub record IsRead (store : Tables) (tables : List ℕ) (combo : List RowRef) (place table : ℕ) : Type 0 where
   pub at : RowRef
   pub named : slice_get combo place ≡ Some at
@@ -89,7 +89,7 @@ pub record IsRead (store : Tables) (tables : List ℕ) (combo : List RowRef) (pl
   pub live : IsLive stored.places at
   pub row : get_or (map Some (rows_of_combo store tables combo)) place None ≡ Some (row_of store table at)
 
--- It has one at each place that has a table, ..
+-- A combination has a reference at each place that has a table, ..
 pub read_from : (store : Tables) (tables : List ℕ) (combo : List RowRef) (place table : ℕ) → AreLive store tables combo → slice_get tables place ≡ Some table
     → IsRead store tables combo place table
 read_from store [] [] place table live is = cc
@@ -109,7 +109,7 @@ read_from store (t ∷ tables) (at ∷ refs) (suc place) table live is =
     let later = read_from store tables refs place table live.1 is in
     record { at = later.at; named = later.named; stored = later.stored; there = later.there; live = later.live; row = later.row }
 
--- .. and no row at any other.
+-- .. and no row at any other place.
 pub none_read : (store : Tables) (tables : List ℕ) (combo : List RowRef) (place : ℕ) → AreLive store tables combo → length tables ≤ place
     → get_or (map Some (rows_of_combo store tables combo)) place None ≡ None
 none_read store [] [] place live past = refl

@@ -1,4 +1,4 @@
--- Changes put into another order: those that bring rows before those that take rows away.
+-- Reordered changes: those that add rows before those that remove rows.
 use Rattle.std.proofs.Common.{◌≡◌, ◌≢◌, ℕ, zero, suc, ℤ, pos, ◌+◌, ◌+ℤ◌, ◌-ℤ◌, neg_ℤ, ◌≤◌, ◌<◌, ◌≤ℤ◌, ◌<ℤ◌, ◌^◌, ◌⊎◌, inl, inr, ⊎_elim, List, [], ◌∷◌, drop}
 use Rattle.std.proofs.Common.{get_or, length, set, refl, sym, take, ap, ◌∙◌, subst, arith}
 use Rattle.std.specs.List.{All, SwappedAt, swap}
@@ -6,8 +6,9 @@ use Rattle.std.specs.List.Sorted.{IsPermutation}
 use Rattle.std.proofs.lemmas.Bool.{cases_eq}
 use Rattle.std.proofs.lemmas.Int.{ints}
 use Rattle.std.proofs.lemmas.List.{get_or-drop, get_or-set_other, get_or-set_same, get_or-take, length-drop, length-set, length-take}
-use Rattle.std.proofs.lemmas.List.Elements.{All-head, All-tail, All-weaker}
-use Rattle.std.proofs.lemmas.List.Sorted.{All-permutation, IsPermutation-keeps, IsPermutation-map}
+use Rattle.std.proofs.lemmas.List.Elements.{All-cons, All-head, All-nil, All-tail}
+use Rattle.std.proofs.lemmas.List.Sorted.{IsPermutation-keeps, IsPermutation-map}
+use Rattle.std.proofs.lemmas.List.Sums.{count_by-le-length}
 use Rattle.std.proofs.lemmas.Map.Keys.{IsDistinct-IsPermutation}
 use Rattle.mm_value.specs.Equality.{same_row}
 use Rattle.mm_value.specs.EqualityLaws.{same_row_equiv}
@@ -16,13 +17,14 @@ use Rattle.mm_multiset.specs.Counts.{Entries, IsOnce, count_of, signed_count, to
 use Rattle.mm_multiset.specs.declared.signed.Signed.{Signed}
 use Rattle.mm_standing.specs.Bags.{Brings, HasGainsFirst, sum_over}
 use Rattle.mm_standing.specs.Queries.{IsBagOf}
-use Rattle.mm_standing.proofs.Net.{IsOnceEach, counts_after, counts_behind, pick, rows_in, sum_of, total_after}
+use Rattle.mm_standing.proofs.Net.{IsOnceEach, count_dropped, counts_after, counts_behind, first_is, once_tail, pick, rows_in, sum_of, total_after}
 use Rattle.mm_standing.proofs.Others.{Rows}
+use Rattle.mm_standing.proofs.Totals.{total_is_length}
 use Rattle.mm_schema.specs.Rows.{most_rows}
 
 -- ---- sums of the same changes
 
--- One term is another.
+-- One term is replaced.
 sum_set : {X : Type 0} (f : X → ℤ) (xs : List X) (i : ℕ) (x d : X) → i < length xs → sum_over f (set xs i x) +ℤ f (get_or xs i d) ≡ sum_over f xs +ℤ f x
 sum_set f [] i x d within = absurd (omega (arith, within))
 sum_set f (y ∷ ys) zero x d within = turned (f x) (f y) (sum_over f ys)
@@ -55,7 +57,7 @@ count_is_sum : (row : List Value) (changes : List Signed) → signed_count row c
 count_is_sum row [] = refl
 count_is_sum row (c ∷ cs) = ap (λ s. pick (same_row row c.row) c.count +ℤ s) (count_is_sum row cs)
 
--- In another order they add as much to the count of each row.
+-- In another order, changes add the same number to the count of each row.
 pub count_permuted : (row : List Value) (old new : List Signed) → IsPermutation old new → signed_count row new ≡ signed_count row old
 count_permuted row old new moved =
     count_is_sum row new ∙ sum_permuted (λ (c : Signed). pick (same_row row c.row) c.count) old new moved ∙ sym (count_is_sum row old)
@@ -68,13 +70,13 @@ once_permuted old new moved once =
 
 -- ---- the order
 
--- Of the first changes so many bring rows, and the others do not.
+-- Of the first changes, the first `gains` add rows, and the others do not.
 abbrev pub AreParted : List Signed → ℕ → ℕ → Type 0
 AreParted changes gains first =
     ((k : ℕ) (d : Signed) → k < gains → pos 0 ≤ℤ (get_or changes k d).count)
     × ((k : ℕ) (d : Signed) → gains ≤ k → k < first → (get_or changes k d).count ≤ℤ pos 0)
 
--- The next one brings rows, and changes places with the first of those that do not.
+-- The next change adds rows, and is exchanged with the first of those that do not.
 pub parted_gain : (old new : List Signed) (gains i : ℕ) → gains ≤ i → SwappedAt old new gains i
     → ((d : Signed) → pos 0 ≤ℤ (get_or old i d).count) → AreParted old gains i → AreParted new (gains + 1) (i + 1)
 parted_gain old new gains i behind swapped gain parted = (
@@ -99,7 +101,7 @@ parted_gain old new gains i behind swapped gain parted = (
     above : (k : ℕ) → gains + 1 ≤ k → k ≢ gains
     above k least same = absurd (omega (arith, least, same))
 
--- The next one brings none, and stays.
+-- The next change adds no rows, and stays.
 pub parted_loss : (changes : List Signed) (gains i : ℕ) → ((d : Signed) → (get_or changes i d).count ≤ℤ pos 0) → AreParted changes gains i
     → AreParted changes gains (i + 1)
 parted_loss changes gains i loss parted = (
@@ -126,7 +128,7 @@ parted_all changes gains i all parted = (
       subst (λ (c : Signed). c.count ≤ℤ pos 0) (sym (get_or-drop gains changes k d)) (parted.1 (gains + k) d (omega arith) (omega (arith, within, long, all))),
 )
 
--- ---- how many rows there are on the way
+-- ---- the number of rows on the way
 
 nothing : pos 0 ≤ℤ pos 0
 nothing = omega (arith, ints)
@@ -134,7 +136,7 @@ nothing = omega (arith, ints)
 itself : (a : ℤ) → a ≤ℤ a
 itself a = omega (arith, ints)
 
--- Changes that take rows away bring none.
+-- Changes that remove rows add none.
 no_gain : (changes : List Signed) → All (λ (c : Signed). c.count ≤ℤ pos 0) changes → (k : ℕ) → sum_of (drop k changes) ≤ℤ pos 0
 no_gain [] all zero = nothing
 no_gain [] all (suc k) = nothing
@@ -145,7 +147,7 @@ no_gain (c ∷ cs) all zero = both c.count (sum_of cs) (All-head (λ (x : Signed
     both a b p q = omega (arith, ints)
 no_gain (c ∷ cs) all (suc k) = no_gain cs (All-tail (λ (x : Signed). x.count ≤ℤ pos 0) c cs all) k
 
--- Behind some of the changes there are no more rows than before, or no more than after all of them.
+-- After some of the changes there are no more rows than before, or no more than after all of them.
 sum_behind : (changes : List Signed) (gains k : ℕ) → All (λ (c : Signed). pos 0 ≤ℤ c.count) (take gains changes)
     → All (λ (c : Signed). c.count ≤ℤ pos 0) (drop gains changes) → (sum_of (drop k changes) ≤ℤ pos 0) ⊎ (sum_of (drop k changes) ≤ℤ sum_of changes)
 sum_behind changes gains zero up down = inr (itself (sum_of changes))
@@ -158,7 +160,7 @@ sum_behind (c ∷ cs) (suc gains) (suc k) up down =
     more : (a b z : ℤ) → pos 0 ≤ℤ a → z ≤ℤ b → z ≤ℤ (a +ℤ b)
     more a b z p q = omega (arith, ints)
 
--- So there are few rows on the way, where there are few before and after.
+-- So there are few rows on the way, if there are few before and after.
 pub few_behind : (changes : List Signed) → HasGainsFirst changes → (old new : ℕ) → old ≤ most_rows → new ≤ most_rows → pos old +ℤ sum_of changes ≡ pos new
     → (k : ℕ) → (pos old +ℤ sum_of (drop k changes)) ≤ℤ pos most_rows
 few_behind changes (gains, up, down) old new few still is k =
@@ -173,12 +175,24 @@ few_behind changes (gains, up, down) old new few still is k =
 
 -- ---- the changes of one list
 
--- Changes bring the bag to the rows after, where there are few of them before and after.
+abbrev IsShort : ℤ → Type 0
+IsShort z = (neg_ℤ (pos (2 ^ 63)) ≤ℤ z) × (z <ℤ pos (2 ^ 63))
+
+-- If the change of each row's count fits 64 bits, and each row has at most one change, each change fits 64 bits.
+each_small : (changes : List Signed) → IsOnceEach changes → ((row : List Value) → IsShort (signed_count row changes))
+    → All (λ (c : Signed). IsShort c.count) changes
+each_small [] once short = All-nil (λ (c : Signed). IsShort c.count)
+each_small (c ∷ cs) once short =
+    All-cons (λ (d : Signed). IsShort d.count) c cs (subst IsShort (first_is c cs once) (short c.row))
+    (each_small cs (once_tail c cs once)
+    (λ row. ⊎_elim (λ e. subst IsShort (sym e) (omega (arith, ints), omega (arith, ints))) (λ e. subst IsShort (sym e) (short row))
+    (count_dropped row 1 (c ∷ cs) once)))
+
+-- Changes turn the bag into the rows after, if there are few of them before and after.
 pub brings : (entries : Entries) (old new : List Signed) (after before : Rows) → IsOnceEach old → IsOnce entries → IsBagOf entries before
     → ((row : List Value) → signed_count row old ≡ pos (count_of row after) -ℤ pos (count_of row before))
-    → IsPermutation old new → HasGainsFirst new → total_of entries ≤ most_rows → length after ≤ most_rows
-    → All (λ (c : Signed). (neg_ℤ (pos (2 ^ 64)) <ℤ c.count) × (c.count <ℤ pos (2 ^ 64))) old → Brings new entries after
-brings entries old new after before once keys bag change moved gains few still small =
+    → IsPermutation old new → HasGainsFirst new → total_of entries ≤ most_rows → length after ≤ most_rows → Brings new entries after
+brings entries old new after before once keys bag change moved gains few still =
     let new_once : IsOnceEach new = once_permuted old new moved once in
     let new_change : (row : List Value) → signed_count row new ≡ pos (count_of row after) -ℤ pos (count_of row before) =
     λ row. count_permuted row old new moved ∙ change row in
@@ -186,9 +200,13 @@ brings entries old new after before once keys bag change moved gains few still s
       counts = counts_after entries new after before new_once keys bag new_change;
       stages = counts_behind entries new after before new_once keys bag new_change;
       totals = few_behind new gains (total_of entries) (length after) few still (total_after entries new after before new_once keys bag new_change);
-      small = All-weaker (λ (c : Signed). (neg_ℤ (pos (2 ^ 64)) <ℤ c.count) × (c.count <ℤ pos (2 ^ 64))) (λ (c : Signed). pos 0 ≤ℤ (c.count +ℤ pos (2 ^ 64)))
-          (λ c h. least c.count h.0) new (All-permutation (λ (c : Signed). (neg_ℤ (pos (2 ^ 64)) <ℤ c.count) × (c.count <ℤ pos (2 ^ 64))) old new moved small);
+      small = each_small new new_once
+          (λ row. small (count_of row after) (count_of row before) (signed_count row new) (new_change row)
+          (count_by-le-length (same_row row) after) (count_by-le-length (same_row row) before));
     }
   where
-    least : (z : ℤ) → neg_ℤ (pos (2 ^ 64)) <ℤ z → pos 0 ≤ℤ (z +ℤ pos (2 ^ 64))
-    least z p = omega (arith, ints)
+    before_is : total_of entries ≡ length before
+    before_is = total_is_length entries before keys bag
+
+    small : (a b : ℕ) (z : ℤ) → z ≡ pos a -ℤ pos b → a ≤ length after → b ≤ length before → IsShort z
+    small a b z is p q = (omega (arith, ints, is, p, q, few, still, before_is), omega (arith, ints, is, p, q, few, still, before_is))

@@ -1,4 +1,4 @@
--- What changes add up to, of which each row has at most one.
+-- Sums of changes of which each row has at most one.
 use Rattle.std.proofs.Common.{◌≡◌, ℕ, zero, suc, ℤ, pos, ◌+◌, ◌+ℤ◌, ◌-ℤ◌, ◌≤ℤ◌, ◌⊎◌, inl, inr, Bool, true, false, cond, List, [], ◌∷◌, drop, length, map}
 use Rattle.std.proofs.Common.{refl, sym, ap, ◌∙◌, subst, arith}
 use Rattle.std.specs.List.{IsDistinct}
@@ -36,7 +36,7 @@ module _ (c : Signed) (cs : List Signed) (once : IsOnceEach (c ∷ cs)) where
   pub once_tail : IsOnceEach cs
   once_tail = IsDistinct-tail same_row c.row (rows_in cs) once
 
-  -- The row of the first change has no other.
+  -- The row of the first change has no other change.
   first_alone : signed_count c.row cs ≡ pos 0
   first_alone = unchanged c.row cs (IsDistinct-head same_row c.row (rows_in cs) once)
 
@@ -56,7 +56,7 @@ module _ (c : Signed) (cs : List Signed) (once : IsOnceEach (c ∷ cs)) where
       rest : (a b : ℤ) → a ≡ pos 0 → b ≡ a +ℤ b
       rest a b p = omega (arith, ints)
 
--- Behind some of the changes a row has the same change or none.
+-- After some of the changes a row has the same change or none.
 pub count_dropped : (row : List Value) (k : ℕ) (changes : List Signed) → IsOnceEach changes
     → (signed_count row (drop k changes) ≡ pos 0) ⊎ (signed_count row (drop k changes) ≡ signed_count row changes)
 count_dropped row zero changes once = inr refl
@@ -71,7 +71,7 @@ count_dropped row (suc k) (c ∷ cs) once = by (same_row c.row row) refl (count_
 
 -- ---- sums
 
--- Changes that are for each row the difference of its counts are in sum the difference of the lengths.
+-- If the change of each row is the difference of its counts, the sum of the changes is the difference of the lengths.
 pub sum_is_difference : (changes : List Signed) (after before : Rows) → IsOnceEach changes
     → ((row : List Value) → signed_count row changes ≡ pos (count_of row after) -ℤ pos (count_of row before))
     → sum_of changes ≡ pos (length after) -ℤ pos (length before)
@@ -115,14 +115,14 @@ sum_is_difference (c ∷ cs) after before once h =
 module _ (entries : Entries) (changes : List Signed) (after before : Rows) (once : IsOnceEach changes)
     (keys : IsOnce entries) (bag : IsBagOf entries before)
     (change : (row : List Value) → signed_count row changes ≡ pos (count_of row after) -ℤ pos (count_of row before)) where
-  -- The counts with all changes added.
+  -- The counts after all changes.
   pub counts_after : (row : List Value) → pos (count_in row entries) +ℤ signed_count row changes ≡ pos (count_of row after)
   counts_after row = new (count_in row entries) (count_of row before) (count_of row after) (signed_count row changes) (bag row) (change row)
     where
       new : (n b a : ℕ) (z : ℤ) → n ≡ b → z ≡ pos a -ℤ pos b → pos n +ℤ z ≡ pos a
       new n b a z p q = omega (arith, ints)
 
-  -- The number of rows with all changes added.
+  -- The number of rows after all changes.
   pub total_after : pos (total_of entries) +ℤ sum_of changes ≡ pos (length after)
   total_after =
       new (total_of entries) (length before) (length after) (sum_of changes) (total_is_length entries before keys bag)
@@ -131,7 +131,7 @@ module _ (entries : Entries) (changes : List Signed) (after before : Rows) (once
       new : (n b a : ℕ) (z : ℤ) → n ≡ b → z ≡ pos a -ℤ pos b → pos n +ℤ z ≡ pos a
       new n b a z p q = omega (arith, ints)
 
-  -- Behind some of the changes no count falls below 0.
+  -- After some of the changes no count is below 0.
   pub counts_behind : (k : ℕ) (row : List Value) → pos 0 ≤ℤ (pos (count_in row entries) +ℤ signed_count row (drop k changes))
   counts_behind k row = by (count_dropped row k changes once)
     where

@@ -1,4 +1,4 @@
--- The rows of a list that are others than one.
+-- The rows of a list other than one row.
 use Rattle.std.proofs.Common.{◌≡◌, ℕ, suc, ◌+◌, Bool, true, false, cond, not, List, [], ◌∷◌, length, refl, sym, ap, ◌∙◌, arith}
 use Rattle.std.specs.List.{filter}
 use Rattle.std.proofs.lemmas.List.Sums.{sum_by-cons}
@@ -14,7 +14,7 @@ Rows = List (List Value)
 abbrev pub tally : List Value → List Value → ℕ
 tally row other = cond (same_row row other) 1 0
 
--- The rows that are others than this one.
+-- The rows other than this one.
 abbrev pub others : List Value → Rows → Rows
 others row rows = filter (λ x. not (same_row row x)) rows
 
@@ -37,7 +37,7 @@ none_in_others row (x ∷ xs) = by (same_row row x) refl (none_in_others row xs)
     by true e h = h
     by false e h = sum_by-cons (tally row) x (others row xs) ∙ (λ i. cond (e i) 1 0 + h i)
 
--- Another row stands among the others as often.
+-- Another row occurs equally often among the others.
 pub count_in_others : (row other : List Value) (rows : Rows) → same_row row other ≡ false → count_of other (others row rows) ≡ count_of other rows
 count_in_others row other [] apart = refl
 count_in_others row other (x ∷ xs) apart =

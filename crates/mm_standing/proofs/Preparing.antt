@@ -1,98 +1,63 @@
--- What is sound with more room, and with changes that are ready.
-use Rattle.std.proofs.Common.{◌≡◌, ◌≢◌, Bool, false, set, slice_index, ℕ, pos, ◌+◌, ◌+ℤ◌, ◌≤◌, ◌<◌, ◌≤ℤ◌, true, List, [], length, map, get_or, refl, sym, ap}
-use Rattle.std.proofs.Common.{◌∙◌, subst, arith}
+-- Changes that are prepared one after another, from the last to the first.
+use Rattle.std.proofs.Common.{◌≡◌, ℕ, ℤ, pos, ◌+ℤ◌, ◌≤ℤ◌, List, [], ◌∷◌, ◌++◌, length, drop, get_or, refl, sym, ap, ◌∙◌, subst, append_assoc, arith}
 use Rattle.std.specs.List.{All}
-use Rattle.std.specs.Prelude.{◌==◌}
-use Rattle.std.proofs.lemmas.Bool.{eqb-true}
-use Rattle.std.proofs.lemmas.List.{length-map}
+use Rattle.std.proofs.lemmas.Int.{ints}
+use Rattle.std.proofs.lemmas.List.{append-nil}
 use Rattle.std.proofs.lemmas.List.Elements.{All-weaker}
+use Rattle.std.proofs.Math.Seq.{drop-append_seam}
 use Rattle.mm_value.specs.declared.col_type.ColType.{ColType}
-use Rattle.mm_multiset.specs.Counts.{Counts, Entries, count_in, has_entry, total_of}
-use Rattle.mm_standing.specs.Bags.{CanAdd, HasEntry, IsSound, IsTyped, IsWithin, done_of, entries_at, list_change, number_for, opposite, room_at, row_change}
-use Rattle.mm_standing.specs.Bags.{sum_over, types_of}
-use Rattle.mm_standing.specs.declared.change.ListChange.{ListChange}
-use Rattle.mm_standing.specs.declared.change.Prepared.{Prepared}
-use Rattle.mm_standing.proofs.Adding.{not_same, room_here, set_here, set_other}
+use Rattle.mm_value.specs.declared.values.Value.{Value}
+use Rattle.mm_multiset.specs.Counts.{Counts, count_in, total_of}
+use Rattle.mm_standing.specs.Bags.{CanAdd, IsTyped, IsWithin, count_with, entries_at, list_change, row_change, sum_over, total_with, types_of}
+use Rattle.mm_standing.specs.declared.change.RowChange.{RowChange}
+use Rattle.mm_standing.proofs.Stages.{sum_push}
 use Rattle.mm_schema.specs.Rows.{most_rows}
 
--- A change is typed where the types of the columns are as before.
-pub still_typed : (old new : List Counts) → types_of new ≡ types_of old → (cs : List ListChange)
-    → All (IsTyped old) cs → All (IsTyped new) cs
-still_typed old new types cs typed = All-weaker (IsTyped old) (IsTyped new)
-    (λ d h. h ∙ sym (ap (λ (ts : List (List ColType)). get_or ts d.list []) types)) cs typed
+-- A change is typed if the types of the columns are unchanged.
+pub still_typed : (old new : List Counts) → types_of new ≡ types_of old → (cs : List RowChange) → All (IsTyped old) cs → All (IsTyped new) cs
+still_typed old new types cs typed =
+    All-weaker (IsTyped old) (IsTyped new) (λ d h. h ∙ sym (ap (λ (ts : List (List ColType)). get_or ts d.list []) types)) cs typed
 
-module _ (old new : List Counts) (same : map (λ (b : Counts). b.entries) new ≡ map (λ (b : Counts). b.entries) old) where
-  pub at : (list : ℕ) → entries_at new list ≡ entries_at old list
-  at list = ap (λ (es : List Entries). get_or es list []) same
+-- Some of all changes are left, and those after them have the same sums as those that are prepared.
+pub record AreSplit (all left done : List RowChange) : Type 0 where
+  pub later : List RowChange
+  pub is : all ≡ left ++ later
+  pub sums : (f : RowChange → ℤ) → sum_over f later ≡ sum_over f done
 
-  pub size : length new ≡ length old
-  size = sym (length-map new (λ (b : Counts). b.entries)) ∙ ap (λ (es : List Entries). length es) same ∙ length-map old (λ (b : Counts). b.entries)
+pub split_none : (all : List RowChange) → AreSplit all all []
+split_none all = record { later = []; is = sym (append-nil all); sums = λ f. refl }
 
-  pub within_roomier : (cs : List ListChange) → IsWithin old cs → IsWithin new cs
-  within_roomier cs w = record {
-    counts = λ list row. subst (λ (es : Entries). pos 0 ≤ℤ (pos (count_in row es) +ℤ sum_over (row_change list row) cs)) (sym (at list)) (w.counts list row);
-    totals = λ list. subst (λ (es : Entries). (pos (total_of es) +ℤ sum_over (list_change list) cs) ≤ℤ pos most_rows) (sym (at list)) (w.totals list);
-  }
+module _ (all rest done : List RowChange) (c : RowChange) (split : AreSplit all (rest ++ c ∷ []) done) where
+  joined : all ≡ rest ++ (c ∷ split.later)
+  joined = split.is ∙ append_assoc rest (c ∷ []) split.later
 
-  pub sound_roomier : (prepared : List Prepared) (log : List ListChange) → ((list : ℕ) → room_at old list ≤ room_at new list)
-      → types_of new ≡ types_of old → IsSound old prepared log → IsSound new prepared log
-  sound_roomier prepared log rooms types s = record {
-    within = λ k. within_roomier _ (s.within k);
-    there = All-weaker (λ (d : ListChange). d.list < length old) (λ (d : ListChange). d.list < length new) (λ d h. omega (arith, h, size)) (done_of prepared)
-        s.there;
-    typed = still_typed old new types (done_of prepared) s.typed;
-    opposites = s.opposites;
-    rooms = λ list. let a = s.rooms list in let b = rooms list in omega (arith, a, b);
-    undo = λ k. within_roomier _ (s.undo k);
-    logged = All-weaker (HasEntry old) (HasEntry new) (λ d h. (omega (arith, h.0, size), ap (has_entry d.change.row) (at d.list) ∙ h.1)) log s.logged;
-  }
-
-pub sound_prepared : (bags : List Counts) (log changes : List ListChange) (prepared : List Prepared) → done_of prepared ≡ changes
-    → CanAdd bags changes → All (λ (d : ListChange). d.list < length bags) changes → All (IsTyped bags) changes
-    → All (λ (p : Prepared). p.undo ≡ opposite p.done) prepared → ((list : ℕ) → number_for list changes ≤ room_at bags list) → IsSound bags [] log →
-    IsSound bags prepared log
-sound_prepared bags log changes prepared is can there typed opposites rooms s = record {
-  within = subst (CanAdd bags) (sym is) can;
-  there = subst (All (λ (d : ListChange). d.list < length bags)) (sym is) there;
-  typed = subst (All (IsTyped bags)) (sym is) typed;
-  opposites = opposites;
-  rooms = λ list. subst (λ (cs : List ListChange). number_for list cs ≤ room_at bags list) (sym is) (rooms list);
-  undo = s.undo;
-  logged = s.logged;
-}
-
--- ---- one bag with more room
-
-module _ (bags : List Counts) (at : ℕ) (b0 b1 : Counts) (there : at < length bags) (is : b0 ≡ get_or bags at b0) (more : b0.room ≤ b1.room) where
-  new_room : (k : ℕ) → at ≡ k → room_at (set bags at b1) k ≡ b1.room
-  new_room k same = ap (room_at (set bags at b1)) (sym same) ∙ set_here (λ (b : Counts). b.room) bags at b1 0 there
-
-  pub room_grown : (k : ℕ) → room_at bags k ≤ room_at (set bags at b1) k
-  room_grown k = by (at == k) refl
+  sums : (f : RowChange → ℤ) → sum_over f (c ∷ split.later) ≡ sum_over f (done ++ c ∷ [])
+  sums f = swapped (f c) (sum_over f split.later) (sum_over f done) (sum_over f (done ++ c ∷ [])) (split.sums f) (sum_push f done c)
     where
-      by : (b : Bool) → (at == k) ≡ b → room_at bags k ≤ room_at (set bags at b1) k
-      by true e =
-          let same : at ≡ k = eqb-true at k e in
-          let was : room_at bags k ≡ b0.room = ap (room_at bags) (sym same) ∙ room_here bags at b0 b1 there is in
-          let now = new_room k same in
-          omega (arith, more, was, now)
-      by false e =
-          let same : room_at (set bags at b1) k ≡ room_at bags k = set_other (λ (b : Counts). b.room) bags at k b1 0 (not_same at k e) in
-          omega (arith, same)
+      swapped : (a b d e : ℤ) → b ≡ d → e ≡ d +ℤ a → a +ℤ b ≡ e
+      swapped a b d e p q = omega (arith, ints)
 
-  pub room_more : (numbers : List ℕ) → slice_index numbers at ≤ b1.room → ((k : ℕ) → k < at → slice_index numbers k ≤ room_at bags k)
-      → (k : ℕ) → k < at + 1 → slice_index numbers k ≤ room_at (set bags at b1) k
-  room_more numbers here earlier k lt = by (at == k) refl
+  -- One more change is prepared.
+  pub split_more : AreSplit all rest (done ++ c ∷ [])
+  split_more = record { later = c ∷ split.later; is = joined; sums = sums }
+
+  -- The change can be prepared.
+  pub split_within : (old new : List Counts) → CanAdd old all
+      → ((list : ℕ) (row : List Value) → count_in row (entries_at new list) ≡ count_in row (entries_at old list))
+      → ((list : ℕ) → total_of (entries_at new list) ≡ total_of (entries_at old list)) → IsWithin new (done ++ c ∷ [])
+  split_within old new can counts totals = record {
+    counts = λ list row.
+        subst (λ z. pos 0 ≤ℤ z) (λ i. pos (sym (counts list row) i) +ℤ sums (row_change list row) i) (stage.counts list row);
+    totals = λ list.
+        subst (λ z. z ≤ℤ pos most_rows) (λ i. pos (sym (totals list) i) +ℤ sums (list_change list) i) (stage.totals list);
+  }
     where
-      by : (b : Bool) → (at == k) ≡ b → slice_index numbers k ≤ room_at (set bags at b1) k
-      by true e =
-          let same : at ≡ k = eqb-true at k e in
-          let now = new_room k same in
-          let number : slice_index numbers at ≡ slice_index numbers k = ap (slice_index numbers) same in
-          omega (arith, here, now, number)
-      by false e =
-          let other : k ≢ at = not_same at k e in
-          let less : k < at = omega (arith, other, lt) in
-          let was = earlier k less in
-          let grown = room_grown k in
-          omega (arith, was, grown)
+      stage : IsWithin old (c ∷ split.later)
+      stage = subst (IsWithin old) (ap (drop (length rest)) joined ∙ drop-append_seam rest (c ∷ split.later)) (can (length rest))
+
+-- In the end all changes are prepared.
+pub split_all : (all done : List RowChange) (old new : List Counts) → AreSplit all [] done
+    → ((list : ℕ) (row : List Value) → count_in row (entries_at new list) ≡ count_in row (entries_at old list))
+    → (list : ℕ) (row : List Value) → count_with new done list row ≡ count_with old all list row
+split_all all done old new split counts list row = λ i.
+    pos (counts list row i) +ℤ (sym (split.sums (row_change list row)) ∙ ap (sum_over (row_change list row)) (sym split.is)) i

@@ -12,7 +12,7 @@ use Rattle.mm_templist.specs.Runs.{referred}
 use Rattle.mm_standing.specs.Showing.{rows_shown, times_shown, values_in_turn}
 
 module _ (es rest : Entries) (row : List Value) (count : ℕ) (is : es ≡ (row, count) ∷ rest) where
-  -- Their values are pushed.
+  -- The values of the rows are pushed.
   pub pushed_entry : (distinct : Bool) (now new due : List Value) → new ≡ now ++ values_in_turn (replicate (times_shown distinct count) row)
       → now ++ values_in_turn (rows_shown distinct es) ≡ due → new ++ values_in_turn (rows_shown distinct rest) ≡ due
   pushed_entry distinct now new due pushed so_far =
@@ -22,7 +22,7 @@ module _ (es rest : Entries) (row : List Value) (count : ℕ) (is : es ≡ (row,
       ∙ ap (λ l. now ++ values_in_turn (rows_shown distinct l)) (sym is)
       ∙ so_far
 
--- One value of a row more is pushed.
+-- One more value of a row is pushed.
 pub pushed_value : (start row : List Value) (i : ℕ) (now new : List ValueRef) (value : ValueRef) → slice_get row i ≡ Some (value_of value)
     → new ≡ now ++ value ∷ [] → referred now ≡ start ++ take i row → referred new ≡ start ++ take (i + 1) row
 pushed_value start row i now new value at pushed so_far =

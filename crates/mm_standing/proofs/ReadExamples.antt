@@ -1,4 +1,4 @@
--- What is read where no table is edited, and in worked examples.
+-- The rows read if no table is edited, and in worked examples.
 use Rattle.std.proofs.Common.{◌≡◌, ℕ, ◌+◌, ◌<◌, pos, Bool, true, false, cond, Option, Some, None, List, [], ◌∷◌, ◌++◌, get_or, length, refl, sym, ap, ◌∙◌}
 use Rattle.std.proofs.Common.{arith, inl, rules}
 use Rattle.std.specs.Prelude.{is_some}
@@ -33,7 +33,7 @@ Rows = List Row
 alone : (f : Row → ℕ) (row : Row) → sum_by f (row ∷ []) ≡ f row
 alone f row = omega arith
 
--- ---- what a place of FROM adds
+-- ---- the reads of a place of FROM
 
 module _ (store : Tables) (changes : List TableChange) (skipped : RowTests) (standing : StandingQuery) where
   abbrev term_at : ℕ → ℕ
@@ -50,12 +50,12 @@ module _ (store : Tables) (changes : List TableChange) (skipped : RowTests) (sta
   left_alone : (k : ℕ) → LeavesTable store changes (get_or standing.tables k 0) → term_at k ≡ 0
   left_alone k left = λ i. sum_by (counted k) (left.gone i ++ left.come i)
 
-  -- its table gets a row that is left out
+  -- a row that is left out is inserted into its table
   one_left_out : (k : ℕ) (row : Row) → BringsRow store changes (get_or standing.tables k 0) row → skipped standing.query k row ≡ true → term_at k ≡ 1
   one_left_out k row added out =
       (λ i. sum_by (counted k) (added.gone i ++ added.come i)) ∙ alone (counted k) row ∙ ap (λ b. 1 + cond b 0 (beside k row)) out
 
-  -- its table gets a row that is combined
+  -- a row that is combined is inserted into its table
   one_combined : (k n : ℕ) (row : Row) → BringsRow store changes (get_or standing.tables k 0) row → skipped standing.query k row ≡ false
       → beside k row ≡ n → term_at k ≡ 1 + n
   one_combined k n row added combined reads =
@@ -79,7 +79,7 @@ both f a b first second = omega (arith, first, second)
 all_three : (f : ℕ → ℕ) (a b c : ℕ) → f 0 ≡ a → f 1 ≡ b → f 2 ≡ c → sum_by f (range_with_len 0 3) ≡ a + b + c
 all_three f a b c first second third = omega (arith, first, second, third)
 
--- A row that stands in a fitting combination is not skipped.
+-- A row in a matching combination is not skipped.
 unskipped : (skipped : RowTests) → AreOfCyclicRows skipped → (query : BoundQuery) (place : ℕ) (row : Row) (combination : Rows)
     → IsCombinationWith query place row combination → fits query combination ≡ true → skipped query place row ≡ false
 unskipped skipped only query place row combination is fit = by (skipped query place row) refl
@@ -96,7 +96,7 @@ three = row_of 1 5 ∷ row_of 2 5 ∷ row_of 4 9 ∷ []
 abbrev fourth : Row
 fourth = row_of 3 5
 
--- What is required of the other row: the number 5, where the numbers have an index.
+-- The value required of the other row: the number 5, if the numbers have an index.
 abbrev fives : Bool → List (Option Required) → Option Required
 fives b others = first_there (first_there (cond b (Some (1, Int (pos 5))) None ∷ others) ∷ [])
 
@@ -166,12 +166,12 @@ module _ (store : Tables) (changes : List TableChange) (skipped : RowTests) (onl
 abbrev lower : ℕ → CycleEdge
 lower conjunct = record { conjunct = conjunct; upper = false }
 
--- What is there, where something is.
+-- The value of an option that is not empty.
 value_there : {A : Type 0} (o : Option A) → is_some o ≡ true → A
 value_there None none = absurd (cc)
 value_there (Some a) some = a
 
--- 4 is below the number of the other row, and that is below 5: so the bounds are 2 apart at least, and they are 1 apart.
+-- 4 is below the number of the other row, and that is below 5: so the bounds would differ by at least 2, but they differ by 1.
 pub below_is_cyclic : IsCyclic below_some_below_5.query 0 (row_of 1 4)
 unfolding value_there
 below_is_cyclic = (

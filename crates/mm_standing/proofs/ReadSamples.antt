@@ -1,4 +1,4 @@
--- Stores and changes that look like those of the worked examples.
+-- Stores and changes of the worked examples.
 use Rattle.std.proofs.Common.{◌≡◌, ℕ, Bool, true, false, List, [], ◌∷◌, ◌++◌, length, map, refl}
 use Rattle.std.specs.List.{range_with_len}
 use Rattle.mm_partition.specs.Places.{Hidden, Live}
@@ -18,7 +18,7 @@ use Rattle.mm_standing.specs.ReadExamples.{AddsBesideFour, AddsThirdFive, row_of
 abbrev refs_to : ℕ → List RowRef
 refs_to rows = map (λ slot. record { slot = slot }) (range_with_len 0 rows)
 
--- A table of two columns of whole numbers with these rows, which stand in the order of their keys, and behind them rows that are staged.
+-- A table of two integer columns with these rows, in the order of their keys, and after them staged rows.
 abbrev table_of : List (List Value) → List (List Value) → List Index → StoredRows
 table_of rows staged indexes = record {
   key = 0;
@@ -32,7 +32,7 @@ table_of rows staged indexes = record {
 abbrev unedited : StoredRows → LoggedTable
 unedited rows = record { rows = rows; owed = record { key = 0; indexes = 0 } }
 
--- A store of these tables, of which none refers to another and none was edited.
+-- A store of these tables, none of which refers to another or was edited.
 abbrev store_of : List StoredRows → Tables
 store_of tables = record {
   tables = tables;
@@ -41,7 +41,7 @@ store_of tables = record {
   ties = [];
 }
 
--- The row in a slot is added to the table at place 0.
+-- The row in a slot is inserted into the table at place 0.
 abbrev addition_of : ℕ → List TableChange
 addition_of slot = record { table = 0; edits = record { ref_ptr = (0, 0); now = Insert (record { slot = slot }) ∷ [] } } ∷ []
 
@@ -53,7 +53,7 @@ abbrev indexes_if : Bool → List Index
 indexes_if true = Tree 1 (record { refs = refs_to 3; height = 1; spare = 0 }) ∷ []
 indexes_if false = []
 
--- The store with these three rows, beside which the row (3, 5) is staged.
+-- The store with these three rows, and with the row (3, 5) staged.
 abbrev three_and_one : Bool → Tables
 three_and_one b = store_of (table_of three (row_of 3 5 ∷ []) (indexes_if b) ∷ [])
 

@@ -1,4 +1,4 @@
--- The changes of one list behind those of the lists before it.
+-- The changes of one list after those of the lists before it.
 use Rattle.std.proofs.Common.{◌≡◌, ◌≢◌, ℕ, zero, suc, ℤ, pos, ◌+◌, ◌+ℤ◌, ◌<◌, ◌≤ℤ◌, ◌⊎◌, inl, inr, Bool, true, false, cond, List, [], ◌∷◌, ◌++◌, Some, drop}
 use Rattle.std.proofs.Common.{get_or, length, map, refl, sym, take, ap, ◌∙◌, subst, arith}
 use Rattle.std.specs.Prelude.{◌==◌, slice_get}
@@ -13,7 +13,7 @@ use Rattle.mm_value.specs.declared.values.Value.{Value}
 use Rattle.mm_multiset.specs.Counts.{Counts, count_in, count_of, signed_count, total_of}
 use Rattle.mm_multiset.specs.declared.signed.Signed.{Signed}
 use Rattle.mm_standing.specs.Bags.{Brings, CanAdd, IsSmall, IsWithin, count_with, entries_at, list_change, row_change, sum_over, total_with}
-use Rattle.mm_standing.specs.declared.change.ListChange.{ListChange}
+use Rattle.mm_standing.specs.declared.change.RowChange.{RowChange}
 use Rattle.mm_standing.proofs.Adding.{entries_here, not_same}
 use Rattle.mm_standing.proofs.Net.{sum_of}
 use Rattle.mm_standing.proofs.Stages.{nothing_left}
@@ -21,7 +21,7 @@ use Rattle.mm_standing.proofs.Others.{Rows}
 use Rattle.mm_schema.specs.Rows.{most_rows}
 
 -- The changes as those of a list.
-abbrev pub changes_in : ℕ → List Signed → List ListChange
+abbrev pub changes_in : ℕ → List Signed → List RowChange
 changes_in list changes = map (λ (change : Signed). record { list = list; change = change }) changes
 
 -- ---- lists
@@ -31,7 +31,7 @@ drop_joined zero xs ys = inl refl
 drop_joined (suc k) [] ys = inr (suc k, refl)
 drop_joined (suc k) (x ∷ xs) ys = drop_joined k xs ys
 
--- What holds of the first ones and of the next.
+-- A property of the first elements and of the next one.
 pub All_more : {X : Type 0} (P : X → Type 0) (xs : List X) (i : ℕ) (x : X) → x ≡ get_or xs i x → All P (take i xs) → P x → All P (take (suc i) xs)
 All_more P [] i x is all here k d within = absurd (omega (arith, within))
 All_more P (y ∷ ys) zero x is all here zero d within = subst P is here
@@ -54,7 +54,7 @@ sum_joined f (x ∷ xs) ys = ap (λ s. f x +ℤ s) (sum_joined f xs ys) ∙ apar
     apart : (a b c : ℤ) → a +ℤ (b +ℤ c) ≡ (a +ℤ b) +ℤ c
     apart a b c = omega (arith, ints)
 
--- One term more.
+-- One more term.
 pub sum_more : {X : Type 0} (f : X → ℤ) (xs : List X) (i : ℕ) (d : X) → i < length xs → sum_over f (take (suc i) xs)
     ≡ sum_over f (take i xs) +ℤ f (get_or xs i d)
 sum_more f [] i d within = absurd (omega (arith, within))
@@ -68,7 +68,7 @@ sum_more f (x ∷ xs) (suc i) d within =
     apart : (a b c : ℤ) → a +ℤ (b +ℤ c) ≡ (a +ℤ b) +ℤ c
     apart a b c = omega (arith, ints)
 
--- What the changes of a list add to the count of a row.
+-- The sum of the changes of a list for the count of a row.
 row_sum : (at list : ℕ) (row : List Value) (changes : List Signed) → sum_over (row_change list row) (changes_in at changes)
     ≡ pick (at == list) (signed_count row changes)
 row_sum at list row [] = by (at == list)
@@ -84,7 +84,7 @@ row_sum at list row (c ∷ cs) =
     by true n s = omega (arith, ints)
     by false n s = refl
 
--- What they add to the number of its rows.
+-- The sum of the changes of a list for the number of its rows.
 list_sum : (at list : ℕ) (changes : List Signed) → sum_over (list_change list) (changes_in at changes) ≡ pick (at == list) (sum_of changes)
 list_sum at list [] = by (at == list)
   where
@@ -99,13 +99,13 @@ list_sum at list (c ∷ cs) =
     by true n s = refl
     by false n s = refl
 
--- Changes of lists before this one add nothing to it.
-none_of_it : (list : ℕ) (f : ListChange → ℤ) → ((c : ListChange) → (c.list == list) ≡ false → f c ≡ pos 0)
-    → (changes : List ListChange) → All (λ (c : ListChange). c.list < list) changes → sum_over f changes ≡ pos 0
+-- Changes of earlier lists add nothing to a list.
+none_of_it : (list : ℕ) (f : RowChange → ℤ) → ((c : RowChange) → (c.list == list) ≡ false → f c ≡ pos 0)
+    → (changes : List RowChange) → All (λ (c : RowChange). c.list < list) changes → sum_over f changes ≡ pos 0
 none_of_it list f none [] below = refl
 none_of_it list f none (c ∷ cs) below =
-    two (f c) (sum_over f cs) (none c (apart c.list list (All-head (λ (d : ListChange). d.list < list) c cs below)))
-    (none_of_it list f none cs (All-tail (λ (d : ListChange). d.list < list) c cs below))
+    two (f c) (sum_over f cs) (none c (apart c.list list (All-head (λ (d : RowChange). d.list < list) c cs below)))
+    (none_of_it list f none cs (All-tail (λ (d : RowChange). d.list < list) c cs below))
   where
     two : (a b : ℤ) → a ≡ pos 0 → b ≡ pos 0 → a +ℤ b ≡ pos 0
     two a b p q = omega (arith, ints)
@@ -117,14 +117,14 @@ none_of_it list f none (c ∷ cs) below =
         by true e = absurd (omega (arith, less, eqb-true a b e))
         by false e = refl
 
--- ---- one list more
+-- ---- one more list
 
 module _ (bags : List Counts) (n : ℕ) (bag : Counts) (there : n < length bags) (is : bag ≡ get_or bags n bag) where
   here : entries_at bags n ≡ bag.entries
   here = entries_here bags n bag bag there is
 
-  module _ (rest : List ListChange) (below : All (λ (c : ListChange). c.list < n) rest) (changes : List Signed) where
-    -- The counts of the list have its changes added, and those of others the rest.
+  module _ (rest : List RowChange) (below : All (λ (c : RowChange). c.list < n) rest) (changes : List Signed) where
+    -- The counts of the list have its changes added, and those of other lists the rest.
     count_here : (list : ℕ) (row : List Value) → (n == list) ≡ true
         → count_with bags (rest ++ changes_in n changes) list row ≡ pos (count_in row bag.entries) +ℤ signed_count row changes
     count_here list row e =
@@ -186,12 +186,12 @@ module _ (bags : List Counts) (n : ℕ) (bag : Counts) (there : n < length bags)
         total_at list true e = subst (λ z. z ≤ℤ pos most_rows) (sym (total_here list e)) total
         total_at list false e = subst (λ z. z ≤ℤ pos most_rows) (sym (total_elsewhere list e)) (w.totals list)
 
--- ---- so many lists
+-- ---- the first lists
 
 module _ {Q : Type 0} (bags : List Counts) (queries : List Q) (over : Q → Rows) where
-  -- The changes of the first lists, which can be added, and bring them to the rows that their queries have.
-  pub record IsStage (n : ℕ) (found : List ListChange) : Type 0 where
-    pub there : All (λ (c : ListChange). c.list < n) found
+  -- The changes of the first n lists, which can be applied, and lead to the rows of their queries.
+  pub record IsStage (n : ℕ) (found : List RowChange) : Type 0 where
+    pub there : All (λ (c : RowChange). c.list < n) found
     pub small : All IsSmall found
     pub within : CanAdd bags found
     pub counts : (list : ℕ) → list < n → (query : Q) → slice_get queries list ≡ Some query
@@ -200,13 +200,13 @@ module _ {Q : Type 0} (bags : List Counts) (queries : List Q) (over : Q → Rows
   -- No list yet.
   pub stage_none : CanAdd bags [] → IsStage 0 []
   stage_none can = record {
-    there = All-nil (λ (c : ListChange). c.list < 0);
+    there = All-nil (λ (c : RowChange). c.list < 0);
     small = All-nil IsSmall;
     within = can;
     counts = λ list below. absurd (omega (arith, below));
   }
 
-  module _ (n : ℕ) (found : List ListChange) (bag : Counts) (query : Q) (changes : List Signed)
+  module _ (n : ℕ) (found : List RowChange) (bag : Counts) (query : Q) (changes : List Signed)
       (stage : IsStage n found) (there : n < length bags) (is : bag ≡ get_or bags n bag) (at : slice_get queries n ≡ Some query)
       (brings : Brings changes bag.entries (over query)) where
     joined : CanAdd bags (found ++ changes_in n changes)
@@ -217,19 +217,19 @@ module _ {Q : Type 0} (bags : List Counts) (queries : List Q) (over : Q → Rows
             → IsWithin bags (drop k (found ++ changes_in n changes))
         by (inl e) =
             subst (IsWithin bags) (sym e)
-            (within_joined bags n bag there is (drop k found) (All-drop (λ (c : ListChange). c.list < n) k found stage.there) changes
+            (within_joined bags n bag there is (drop k found) (All-drop (λ (c : RowChange). c.list < n) k found stage.there) changes
             (stage.within k) (brings.stages 0) (brings.totals 0))
         by (inr (j, e)) =
             subst (IsWithin bags) (sym (e ∙ drop-map (λ (change : Signed). record { list = n; change = change }) j changes))
-            (within_joined bags n bag there is [] (All-nil (λ (c : ListChange). c.list < n)) (drop j changes)
+            (within_joined bags n bag there is [] (All-nil (λ (c : RowChange). c.list < n)) (drop j changes)
             (nothing_left bags found stage.within) (brings.stages j) (brings.totals j))
 
-    -- One list more.
+    -- One more list.
     pub stage_more : IsStage (n + 1) (found ++ changes_in n changes)
     stage_more = record {
-      there = All-append (λ (c : ListChange). c.list < n + 1) found (changes_in n changes)
-          (All-weaker (λ (c : ListChange). c.list < n) (λ (c : ListChange). c.list < n + 1) (λ c h. omega (arith, h)) found stage.there)
-          (All-map (λ (c : ListChange). c.list < n + 1) (λ (change : Signed). record { list = n; change = change }) changes (λ k d within. omega arith));
+      there = All-append (λ (c : RowChange). c.list < n + 1) found (changes_in n changes)
+          (All-weaker (λ (c : RowChange). c.list < n) (λ (c : RowChange). c.list < n + 1) (λ c h. omega (arith, h)) found stage.there)
+          (All-map (λ (c : RowChange). c.list < n + 1) (λ (change : Signed). record { list = n; change = change }) changes (λ k d within. omega arith));
       small = All-append IsSmall found (changes_in n changes) stage.small
           (All-map IsSmall (λ (change : Signed). record { list = n; change = change }) changes brings.small);
       within = joined;

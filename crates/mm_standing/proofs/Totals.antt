@@ -1,4 +1,4 @@
--- A bag as counts has as many rows as the rows that it stands for, and shows the same.
+-- A bag as counts has as many rows as the list that it represents, and shows the same.
 use Rattle.std.proofs.Common.{◌≡◌, ◌≢◌, not, ℕ, zero, suc, pos, ◌+◌, ◌<◌, ◌≤◌, min}
 use Rattle.std.proofs.Common.{Bool, true, false, true≢false, cond, is_some, List, [], ◌∷◌, get_or, length, map}
 use Rattle.std.proofs.Common.{replicate, Some, None, refl, sym, ap, ◌∙◌, arith}
@@ -58,7 +58,7 @@ never true = omega arith
 never false = refl
 
 module _ (distinct : Bool) where
-  -- A row is shown as often as its count says.
+  -- A row is shown as often as its count.
   pub count_shown : (row : List Value) (es : Entries) → IsOnce es → count_of row (rows_shown distinct es) ≡ times_shown distinct (count_in row es)
   count_shown row [] once = sym (never distinct)
   count_shown row (e ∷ es) once =
@@ -85,7 +85,7 @@ module _ (distinct : Bool) where
 some_is : (n : ℕ) → not (n == 0) ≡ true → n ≢ 0
 some_is n is = grind arith
 
--- As many rows as the counts add up to are shown without DISTINCT.
+-- Without DISTINCT, the number of shown rows is the sum of the counts.
 pub total_shown : (es : Entries) → length (rows_shown false es) ≡ total_of es
 total_shown [] = refl
 total_shown (e ∷ es) =
@@ -93,7 +93,7 @@ total_shown (e ∷ es) =
     ∙ (λ i. length-replicate e.1 e.0 i + total_shown es i)
     ∙ sym (sum_by-cons (λ x. x) e.1 (values_of es))
 
--- With DISTINCT as many rows are shown as there are entries whose count is not 0.
+-- With DISTINCT, the number of shown rows is the number of entries whose count is not 0.
 pub distinct_shown : (es : Entries) → length (rows_shown true es) ≡ length (filter has_rows es)
 distinct_shown [] = refl
 distinct_shown (e ∷ es) =
@@ -105,7 +105,7 @@ distinct_shown (e ∷ es) =
     by true is = let some : e.1 ≢ 0 = some_is e.1 is in omega (arith, some)
     by false is = let zero : e.1 ≡ 0 = zero_is e.1 is in omega (arith, zero)
 
--- ---- what is shown are the rows of the bag
+-- ---- the shown rows are those of the bag
 
 once_each : (row : List Value) (rows : List (List Value)) → count_of row (one_of_each rows) ≡ min (count_of row rows) 1
 once_each row rows = one_counted rows row ∙ counted_once (same_row row) rows
@@ -128,12 +128,12 @@ module _ (es : Entries) (rows : List (List Value)) (once : IsOnce es) (bag : IsB
       ∙ sym (length_permutation (cond query.distinct (one_of_each rows) rows) (shown_of query rows)
       (shown_permutation query (cond query.distinct (one_of_each rows) rows)))
 
--- The counts add up to the number of rows.
+-- The sum of the counts is the number of rows.
 pub total_is_length : (entries : Entries) (rows : List (List Value)) → IsOnce entries → IsBagOf entries rows → total_of entries ≡ length rows
 total_is_length entries rows once bag =
     sym (total_shown entries) ∙ sym (length_permutation (rows_shown false entries) rows (permutation_shown entries rows once bag false))
 
--- Where nothing refuses a list by the number of its rows, it has at most 1,048,576.
+-- If a list is not refused because of its number of rows, it has at most 1,048,576.
 pub few_rows : (rows : List (List Value)) → first_refusal (list_conditions rows) ≡ None → length rows ≤ most_rows
 few_rows rows none = by (is_too_large rows) refl none
   where
@@ -141,7 +141,7 @@ few_rows rows none = by (is_too_large rows) refl none
     by true e h = absurd (true≢false (ap is_some h))
     by false e h = ltb-false most_rows (length rows) e
 
--- ---- how many values a row has
+-- ---- the number of values of a row
 
 module _ (query : BoundQuery) where
   each_wide : (cs : List (List (List Value))) (k : ℕ) (d : List Value) → k < length (map (projected query) cs)
@@ -154,7 +154,7 @@ module _ (query : BoundQuery) where
   shown_some true n some = omega (arith, some)
   shown_some false n some = some
 
-  -- What is shown of a bag of the query has as many values as the query has fields.
+  -- The rows shown of a bag of the query have as many values as the query has fields.
   pub rows_wide : (distinct : Bool) (es : Entries) (lists : List (List (List Value))) → IsOnce es → IsBagOf es (bag_of query lists)
       → All (λ (row : List Value). length row ≡ length query.fields) (rows_shown distinct es)
   rows_wide distinct es lists once bag k d within =

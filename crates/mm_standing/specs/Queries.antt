@@ -1,4 +1,4 @@
--- Standing queries, and what their lists are to hold (materialized views kept by counts: Blakeley, Larson and Tompa).
+-- Standing queries, and the contents of their lists (materialized views as counts: Blakeley, Larson and Tompa).
 use Rattle.std.specs.Prelude.{◌≡◌, ℕ, ℤ, pos, ◌<◌, ◌≤◌, All, Bool, if◌then◌else◌, List, [], ◌∷◌, Some, length, map, nat_lt, slice_get}
 use Rattle.std.specs.List.{list_any}
 use Rattle.mm_partition.specs.Types.{HasTypes}
@@ -26,11 +26,11 @@ RowsByPlace = ℕ → List (List Value)
 abbrev pub bag_over : RowsByPlace → StandingQuery → List (List Value)
 bag_over rows standing = bag_of standing.query (map rows standing.tables)
 
--- The rows that a standing query gives over the rows of the tables have the types of its fields.
+-- The rows of a standing query over the rows of the tables have the types of its fields.
 abbrev pub GivesTyped : RowsByPlace → StandingQuery → Type 0
 GivesTyped rows standing = All (HasTypes standing.types) (bag_over rows standing)
 
--- Entries have each row as often as a list of rows has it.
+-- The count of each row in the entries is its number of occurrences in a list of rows.
 abbrev pub IsBagOf : Entries → List (List Value) → Type 0
 IsBagOf entries rows = (row : List Value) → count_in row entries ≡ count_of row rows
 
@@ -40,11 +40,11 @@ AreCounts counts rows queries =
     (list : ℕ) (standing : StandingQuery) → slice_get queries list ≡ Some standing
     → (row : List Value) → counts list row ≡ pos (count_of row (bag_over rows standing))
 
--- What a query shows of its bag: with DISTINCT one of each row, in the query's order.
+-- The rows that a query shows of its bag: with DISTINCT one of each row, in the query's order.
 abbrev pub shown_of : BoundQuery → List (List Value) → List (List Value)
 shown_of query rows = shown query (if query.distinct then one_of_each rows else rows)
 
--- All tables of a standing query are there, at most 4.
+-- All tables of a standing query exist, at most 4.
 pub record IsServed (store : Tables) (standing : StandingQuery) : Type 0 where
   pub there : All (λ table. table < length store.tables) standing.tables
   pub few : length standing.tables ≤ 4
@@ -55,11 +55,11 @@ pub record IsServed (store : Tables) (standing : StandingQuery) : Type 0 where
 abbrev pub is_too_large : List (List Value) → Bool
 is_too_large rows = nat_lt most_rows (length rows)
 
--- What refuses a list by the number of its rows.
+-- The condition that refuses a list because of its number of rows.
 abbrev pub list_conditions : List (List Value) → List Condition
 list_conditions rows = record { holds = is_too_large rows; refusal = StandingListTooLarge } ∷ []
 
--- What refuses a change of tables: over the rows after it the list of a standing query is too large.
+-- The conditions that refuse a change of tables: over the rows after it the list of a standing query is too large.
 abbrev pub change_conditions : RowsByPlace → List StandingQuery → List Condition
 change_conditions after queries =
     record { holds = list_any (λ standing. is_too_large (bag_over after standing)) queries; refusal = StandingListTooLarge } ∷ []

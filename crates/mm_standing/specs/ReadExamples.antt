@@ -1,4 +1,4 @@
--- Worked examples of how many rows a change reads. Each table has a key in column 0 and a number in column 1.
+-- Worked examples of the number of rows that a change reads. Each table has a key in column 0 and a number in column 1.
 use Rattle.std.specs.Prelude.{◌≡◌, ℕ, pos, false, List, [], ◌∷◌, codes, map}
 use Rattle.mm_store.specs.Tables.{Tables}
 use Rattle.mm_value.specs.declared.col_type.ColType.TheVariants as type
@@ -38,7 +38,7 @@ keys_where from places atoms = record { distinct = false; fields = map key_at pl
 abbrev pub numbers_compare : Comparison → ℕ → ℕ → Atom FieldPlace
 numbers_compare comparison a b = record { left = number_at a; comparison = comparison; right = Column (number_at b) }
 
--- `SELECT a.id, b.id FROM t a, t b WHERE a.k = b.k`, where `t` stands at place 0 of the store.
+-- `SELECT a.id, b.id FROM t a, t b WHERE a.k = b.k`, where `t` is at place 0 of the store.
 abbrev pub equal_pairs : StandingQuery
 equal_pairs = record {
   query = keys_where (item (codes "t") (codes "a") ∷ item (codes "t") (codes "b") ∷ []) (0 ∷ 1 ∷ []) (numbers_compare Equal 0 1 ∷ []);
@@ -46,7 +46,7 @@ equal_pairs = record {
   types = type.Int ∷ type.Int ∷ [];
 }
 
--- `SELECT a.id, b.id, c.id FROM t a, t b, t c WHERE a.k = b.k AND b.k = c.k`, where `t` stands there too.
+-- `SELECT a.id, b.id, c.id FROM t a, t b, t c WHERE a.k = b.k AND b.k = c.k`, where `t` is at place 0 of the store.
 abbrev pub equal_triples : StandingQuery
 equal_triples = record {
   query = keys_where (item (codes "t") (codes "a") ∷ item (codes "t") (codes "b") ∷ item (codes "t") (codes "c") ∷ []) (0 ∷ 1 ∷ 2 ∷ []) (
@@ -56,7 +56,7 @@ equal_triples = record {
   types = type.Int ∷ type.Int ∷ type.Int ∷ [];
 }
 
--- `SELECT a.id FROM t a, u b WHERE a.k < b.k AND b.k < 5`, where `t` and `u` stand at the places 0 and 1.
+-- `SELECT a.id FROM t a, u b WHERE a.k < b.k AND b.k < 5`, where `t` and `u` are at the places 0 and 1.
 abbrev pub below_some_below_5 : StandingQuery
 below_some_below_5 = record {
   query = keys_where (item (codes "t") (codes "a") ∷ item (codes "u") (codes "b") ∷ []) (0 ∷ []) (
@@ -66,23 +66,23 @@ below_some_below_5 = record {
   types = type.Int ∷ [];
 }
 
--- A change brings one row to the table at a place, and takes none away from it.
+-- A change inserts one row into the table at a place, and deletes none from it.
 pub record BringsRow (store : Tables) (changes : List TableChange) (table : ℕ) (row : List Value) : Type 0 where
   pub gone : gone_at store changes table ≡ []
   pub come : come_at store changes table ≡ row ∷ []
 
--- It brings none to the table, and takes none away from it.
+-- A change inserts no row into the table, and deletes none from it.
 pub record LeavesTable (store : Tables) (changes : List TableChange) (table : ℕ) : Type 0 where
   pub gone : gone_at store changes table ≡ []
   pub come : come_at store changes table ≡ []
 
--- To the rows (1, 5), (2, 5) and (4, 9) of the table at place 0 the row (3, 5) is added.
+-- The row (3, 5) is inserted into the table at place 0, which has the rows (1, 5), (2, 5) and (4, 9).
 pub record AddsThirdFive (store : Tables) (changes : List TableChange) : Type 0 where
   pub before : before_at store 0 ≡ row_of 1 5 ∷ row_of 2 5 ∷ row_of 4 9 ∷ []
   pub after : after_at store changes 0 ≡ row_of 1 5 ∷ row_of 2 5 ∷ row_of 3 5 ∷ row_of 4 9 ∷ []
   pub added : BringsRow store changes 0 (row_of 3 5)
 
--- A row is added to the table at place 0, while the one at place 1 has the row (1, 4) and is not edited.
+-- A row is inserted into the table at place 0, while the one at place 1 has the row (1, 4) and is not edited.
 pub record AddsBesideFour (store : Tables) (changes : List TableChange) (row : List Value) : Type 0 where
   pub before : before_at store 1 ≡ row_of 1 4 ∷ []
   pub added : BringsRow store changes 0 row

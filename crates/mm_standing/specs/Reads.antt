@@ -1,4 +1,4 @@
--- How many rows are read for standing queries when tables are edited, and the rows of edits that are left out.
+-- The number of rows read for standing queries when tables are edited, and the edited rows that are left out.
 use Rattle.std.specs.Prelude.{ℕ, All, Bool, List, length}
 use Rattle.std.specs.List.{range_with_len, sum_by}
 use Rattle.mm_store.specs.Tables.{Tables}
@@ -13,7 +13,7 @@ use Rattle.mm_standing.specs.Queries.{StandingQuery}
 abbrev pub AreTypeTested : Tables → List TableChange → List StandingQuery → Type 0
 AreTypeTested store changes queries = All (λ (s : StandingQuery). IsTypeTested s.query store changes s.tables) queries
 
--- For each query a test of the rows at the places of its FROM.
+-- For each query, a test of the rows at the places of its FROM.
 abbrev pub RowTests : Type 0
 RowTests = BoundQuery → ℕ → List Value → Bool
 
@@ -21,9 +21,9 @@ RowTests = BoundQuery → ℕ → List Value → Bool
 abbrev pub AreOfCyclicRows : RowTests → Type 0
 AreOfCyclicRows skipped = (query : BoundQuery) → IsOfCyclicRows query (skipped query)
 
--- How many rows may be read for a standing query when tables are edited, where the edited rows that pass its test are left out: for
--- each edited row at each place of its FROM that row, and those with which it may be combined if it is not left out. None where the
--- query reads no table that is edited.
+-- The number of rows that may be read for a standing query when tables are edited: for each edited row at each place of its FROM that row,
+-- and its candidates if it is not left out. The edited rows that pass the query's test are left out. None if the query reads no edited
+-- table.
 abbrev pub query_reads : Tables → List TableChange → RowTests → StandingQuery → ℕ
 query_reads store changes skipped standing =
     sum_by (term_reads standing.query store changes standing.tables (skipped standing.query)) (range_with_len 0 (length standing.tables))

@@ -1,47 +1,41 @@
-//! Bags of rows, one for each standing query, and the changes that are made of them and undone.
-ghost use Rattle.std.specs.Prelude.{◌≡◌, ◌+◌, ◌≤◌, ◌<◌, ◌⊎◌, pos, not, true, All, ℕ, [], ◌∷◌, List, drop, length, take};
+//! Bags of rows, one for each standing query, and changes of them.
+ghost use Rattle.std.specs.Prelude.{◌≡◌, ◌+◌, ◌≤◌, ◌<◌, ℕ, [], ◌∷◌, List, IfOk, OnErr, drop, length, take, true, false};
 ghost use Rattle.std.specs.Vec.{vec_capacity, vec_len};
-ghost use Rattle.mm_multiset.specs.Counts.{Counts as BagCounts, count_in, has_entry};
-ghost use Rattle.mm_standing.specs.Bags.{AddedTo, HasEntry, IsLean, IsRecorded, IsSound, IsTyped, IsWithin};
-ghost use Rattle.mm_standing.specs.Bags.{Made, Purges, count_with, entries_at, room_at, types_of, undos};
+ghost use Rattle.mm_multiset.specs.Counts.{Counts as BagCounts, count_in};
+ghost use Rattle.mm_multiset.specs.Counts as bag;
+ghost use Rattle.mm_standing.specs.Bags.{AddedTo, AreSame, IsSmall, IsSound, IsThere, IsTyped, IsWithin, Made, Purged, Puts};
+ghost use Rattle.mm_standing.specs.Bags.{change_of, count_with, done_of, entries_at, opposite, row_of, slots_at, types_of, undos};
 ghost use Rattle.mm_value.specs.declared.values.Value.{Value as Val};
-ghost use Rattle.mm_standing.specs.declared.change.ListChange.{ListChange as AnyChange};
 
-use crate::change::{ListChange, Prepared, UndoRecord};
+use crate::change::{ListChange, RowChange};
 use mm_multiset::Bag;
+use std::alloc::AllocError;
 
-/// Makes all changes that are ready, the last of them first, and puts what undoes each at the end of the log. It takes no
-/// memory.
-pub fn make_all(bags: &mut Vec<Bag>, prepared: &mut Vec<Prepared>, log: &mut Vec<UndoRecord>)
-    requires sound { IsSound bags.old.items prepared.old.items (undos log.old.items) }
-    requires recorded { IsRecorded bags.old.items log.old.items }
-    requires room { vec_len log.old + vec_len prepared.old ≤ vec_capacity log.old }
-    ensures sound { IsSound bags.new.items [] (undos log.new.items) }
-    ensures recorded { IsRecorded bags.new.items log.new.items }
+/// Applies all prepared changes, first to last, and appends them to the log. Allocates nothing.
+pub fn make_all(bags: &mut Vec<Bag>, prepared: &[ListChange], log: &mut Vec<ListChange>)
+    requires sound { IsSound bags.old.items prepared.now log.old.items }
+    requires room { vec_len log.old + length prepared.now ≤ vec_capacity log.old }
+    ensures sound { IsSound bags.new.items [] log.new.items }
     ensures room { vec_len log.new ≤ vec_capacity log.new }
-    ensures prepared { prepared.new.items ≡ [] }
-    ensures made { Made bags.old.items prepared.old.items (undos log.old.items) bags.new.items [] (undos log.new.items) }
+    ensures made { Made bags.old.items (done_of bags.old.items prepared.now) (undos bags.old.items log.old.items)
+        bags.new.items [] (undos bags.new.items log.new.items) }
 {
-    while let Some(next) = prepared.pop() {
-        let is_new = add_to(bags, next.done);
-        log.push_reserved(UndoRecord {
-            undo: next.undo,
-            is_new,
-        });
+    for change in prepared {
+        add(bags, change, change.by);
+        log.push_reserved(*change);
     }
 }
 
-/// Undoes what the log says behind a mark, the newest first. The entries that came behind it go, where their counts are 0 again.
-/// The log stays as it is. It takes no memory.
-pub fn undo_behind(bags: &mut Vec<Bag>, log: &[UndoRecord], mark: usize)
-    requires sound { IsSound bags.old.items [] (undos log.now) }
-    requires recorded { IsRecorded bags.old.items log.now }
+/// Undoes the changes of the log after a mark, last to first. An entry that was inserted for a change is removed if its count is 0 again.
+/// Allocates nothing. The log is unchanged.
+pub fn undo_behind(bags: &mut Vec<Bag>, log: &[ListChange], mark: usize)
+    requires sound { IsSound bags.old.items [] log.now }
     requires mark { mark ≤ length log.now }
-    ensures sound { IsSound bags.new.items [] (undos (take mark log.now)) }
-    ensures recorded { IsRecorded bags.new.items (take mark log.now) }
+    ensures sound { IsSound bags.new.items [] (take mark log.now) }
+    ensures log { undos bags.new.items (take mark log.now) ≡ take mark (undos bags.old.items log.now) }
     ensures counts { (earlier : ℕ) → earlier ≤ mark → (list : ℕ) (row : List Val)
-        → count_with bags.new.items (drop earlier (undos (take mark log.now))) list row
-        ≡ count_with bags.old.items (drop earlier (undos log.now)) list row }
+        → count_with bags.new.items (drop earlier (undos bags.new.items (take mark log.now))) list row
+        ≡ count_with bags.old.items (drop earlier (undos bags.old.items log.now)) list row }
     ensures types { types_of bags.new.items ≡ types_of bags.old.items }
     ensures size { length bags.new.items ≡ length bags.old.items }
 {
@@ -52,62 +46,99 @@ pub fn undo_behind(bags: &mut Vec<Bag>, log: &[UndoRecord], mark: usize)
     }
 }
 
-/// Forgets the log. Where the count of a row is 0 that it names, the row's entry goes. No count changes.
-pub fn purge(bags: &mut Vec<Bag>, log: &mut Vec<UndoRecord>)
-    requires within { IsWithin bags.old.items [] }
-    requires there { All (λ (c : AnyChange). c.list < length bags.old.items) (undos log.old.items) }
-    requires lean { IsLean bags.old.items (undos log.old.items) }
-    ensures sound { IsSound bags.new.items [] (undos log.new.items) }
-    ensures recorded { IsRecorded bags.new.items log.new.items }
+/// Undoes a change that was applied. An entry that was inserted for it is removed if its count is 0 again.
+fn undo(bags: &mut Vec<Bag>, change: &ListChange)
+    requires there { IsThere bags.old.items change.now }
+    requires within { IsWithin bags.old.items (opposite (change_of bags.old.items change.now) ∷ []) }
+    requires now { IsWithin bags.old.items [] }
+    ensures { (mid : List BagCounts) × AddedTo (opposite (change_of bags.old.items change.now)) bags.old.items mid
+        × (change.now.is_new ≡ true → Purged change.now mid bags.new.items) × (change.now.is_new ≡ false → bags.new.items ≡ mid) }
+{
+    add(bags, change, -change.by);
+    remove_new(bags, change);
+}
+
+/// Drops the prepared changes, last to first, with the entries that were inserted for them. No count changes.
+pub fn drop_all(bags: &mut Vec<Bag>, prepared: &mut Vec<ListChange>, log: &[ListChange])
+    requires sound { IsSound bags.old.items prepared.old.items log.now }
+    ensures sound { IsSound bags.new.items [] log.now }
+    ensures prepared { prepared.new.items ≡ [] }
+    ensures log { undos bags.new.items log.now ≡ undos bags.old.items log.now }
+    ensures counts { (list : ℕ) (row : List Val)
+        → count_in row (entries_at bags.new.items list) ≡ count_in row (entries_at bags.old.items list) }
+    ensures types { types_of bags.new.items ≡ types_of bags.old.items }
+    ensures size { length bags.new.items ≡ length bags.old.items }
+{
+    while let Some(change) = prepared.pop() {
+        remove_new(bags, &change);
+    }
+}
+
+/// Empties the log, and removes each entry that it names whose count is 0. No count changes.
+pub fn purge(bags: &mut Vec<Bag>, log: &mut Vec<ListChange>)
+    requires { IsSound bags.old.items [] log.old.items }
+    ensures sound { IsSound bags.new.items [] log.new.items }
     ensures log { log.new.items ≡ [] }
     ensures counts { (list : ℕ) (row : List Val)
         → count_in row (entries_at bags.new.items list) ≡ count_in row (entries_at bags.old.items list) }
     ensures types { types_of bags.new.items ≡ types_of bags.old.items }
     ensures size { length bags.new.items ≡ length bags.old.items }
 {
-    while let Some(made) = log.pop() {
-        purge_row(bags, &made.undo);
+    while let Some(change) = log.pop() {
+        remove(bags, &change);
     }
 }
 
-/// Undoes a change that was made. Where its row had no entry before, it has none again, if its count is 0. It takes no memory.
-fn undo(bags: &mut Vec<Bag>, made: &UndoRecord)
-    requires found { HasEntry bags.old.items made.now.undo }
-    requires within { IsWithin bags.old.items (made.now.undo ∷ []) }
-    ensures { (added : List BagCounts) × AddedTo made.now.undo bags.old.items added × Purges made.now.is_new made.now.undo added bags.new.items }
-{
-    add_found(bags, &made.undo);
-    if made.is_new {
-        purge_row(bags, &made.undo);
-    }
-}
-
-/// Drops the entry of the row of a change where its count is 0. No count changes.
-fn purge_row(bags: &mut Vec<Bag>, change: &ListChange)
-    requires { change.now.list < length bags.old.items }
-    ensures { Purges true change.now bags.old.items bags.new.items }
-{
-    bags[change.list].purge_row(&change.change.row);
-}
-
-/// Adds a change to the bag of its list, in which its row has an entry. It takes no memory.
-fn add_found(bags: &mut Vec<Bag>, change: &ListChange)
-    requires found { HasEntry bags.old.items change.now }
-    requires within { IsWithin bags.old.items (change.now ∷ []) }
-    ensures { AddedTo change.now bags.old.items bags.new.items }
-{
-    bags[change.list].add_found(&change.change);
-}
-
-/// Adds a change to the bag of its list, and tells whether its row had no entry before. It takes no memory.
-fn add_to(bags: &mut Vec<Bag>, change: ListChange) -> bool
+/// Prepares a change: finds the entry of its row, or inserts it with the count 0. Fails with `AllocError` if an allocation fails;
+/// then all entries are as before.
+pub fn prepare_one(bags: &mut Vec<Bag>, change: RowChange) -> Result<ListChange, AllocError>
     requires there { change.list < length bags.old.items }
+    requires small { IsSmall change }
     requires typed { IsTyped bags.old.items change }
-    requires room { (has_entry change.change.row (entries_at bags.old.items change.list) ≡ true) ⊎ (0 < room_at bags.old.items change.list) }
-    requires within { IsWithin bags.old.items (change ∷ []) }
-    ensures added { AddedTo change bags.old.items bags.new.items }
-    ensures is_new { result ≡ not (has_entry change.change.row (entries_at bags.old.items change.list)) }
+    ensures list { IfOk result (λ prepared. prepared.list ≡ change.list) }
+    ensures by { IfOk result (λ prepared. prepared.by ≡ change.change.count) }
+    ensures puts { IfOk result (λ prepared. Puts change prepared.entry prepared.is_new bags.old.items bags.new.items) }
+    ensures err { OnErr result (AreSame bags.old.items bags.new.items) }
 {
-    let ListChange { list, change } = change;
-    bags[list].add(change)
+    let RowChange { list, change } = change;
+    let by = change.count as i64;
+    let (entry, is_new) = bags[list].entry_or_insert(change.row)?;
+    Ok(ListChange {
+        list,
+        entry,
+        by,
+        is_new,
+    })
+}
+
+/// Adds to the count of the entry of a change. Allocates nothing.
+fn add(bags: &mut Vec<Bag>, change: &ListChange, by: i64)
+    requires list { change.now.list < length bags.old.items }
+    requires entry { bag.IsThere (slots_at bags.old.items change.now.list) change.now.entry }
+    requires within { IsWithin bags.old.items (record { list = change.now.list; change = record { row = row_of bags.old.items change.now; count = by } } ∷ []) }
+    ensures { AddedTo (record { list = change.now.list; change = record { row = row_of bags.old.items change.now; count = by } })
+        bags.old.items bags.new.items }
+{
+    bags[change.list].add_at(change.entry, by);
+}
+
+/// Removes the entry of a change if it was inserted for the change and its count is 0.
+fn remove_new(bags: &mut Vec<Bag>, change: &ListChange)
+    requires list { change.now.list < length bags.old.items }
+    requires slot { change.now.entry.slot.slot < length (slots_at bags.old.items change.now.list) }
+    ensures removed { change.now.is_new ≡ true → Purged change.now bags.old.items bags.new.items }
+    ensures kept { change.now.is_new ≡ false → bags.new.items ≡ bags.old.items }
+{
+    if change.is_new {
+        remove(bags, change);
+    }
+}
+
+/// Removes the entry of a change if its count is 0.
+fn remove(bags: &mut Vec<Bag>, change: &ListChange)
+    requires list { change.now.list < length bags.old.items }
+    requires slot { change.now.entry.slot.slot < length (slots_at bags.old.items change.now.list) }
+    ensures { Purged change.now bags.old.items bags.new.items }
+{
+    bags[change.list].remove_if_zero(change.entry);
 }

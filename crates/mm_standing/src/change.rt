@@ -1,28 +1,26 @@
 //! Changes of the rows of lists.
 
 use mm_delta::Signed;
+use mm_multiset::EntryRef;
 
-/// By how much the count of a row changes in one list.
+/// The change of a row's count in one list, as it is computed.
 #[derive(Debug, Drop)]
-pub struct ListChange {
+pub struct RowChange {
     /// The place of the list.
     pub list: usize,
     /// The row and the change of its count.
     pub change: Signed,
 }
 
-/// A change that is ready to be made, and the opposite one, which undoes it.
-#[derive(Debug, Drop)]
-pub struct Prepared {
-    pub done: ListChange,
-    pub undo: ListChange,
-}
-
-/// What undoes a change that was made, as the log keeps it.
-#[derive(Debug, Drop)]
-pub struct UndoRecord {
-    /// The opposite change.
-    pub undo: ListChange,
-    /// Whether the row had no entry in its list before the change.
+/// The change of the count of an entry of one list, as it is prepared and then logged.
+#[derive(Clone, Copy, Debug)]
+pub struct ListChange {
+    /// The place of the list.
+    pub list: usize,
+    /// The entry of the row.
+    pub entry: EntryRef,
+    /// The change of its count.
+    pub by: i64,
+    /// Whether the entry was inserted for this change.
     pub is_new: bool,
 }

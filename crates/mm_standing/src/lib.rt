@@ -1,4 +1,4 @@
-//! The lists of standing queries: for each its rows, kept as counts, and what gives them back when a transaction is taken back.
+//! The lists of standing queries: the rows of each query, stored as counts, and an undo log.
 #![tactic(auto)]
 
 mod bags;

@@ -1,4 +1,4 @@
-//! What the lists show.
+//! The rows that lists show.
 ghost use Rattle.std.specs.Prelude.{◌≡◌, ◌++◌, List, length, replicate, IfOk, OnOk};
 ghost use Rattle.mm_multiset.specs.Counts.{IsOnce};
 ghost use Rattle.mm_partition.specs.Views.{viewed};
@@ -27,7 +27,7 @@ pub(crate) fn count_shown(distinct: bool, bag: &Bag) -> usize
     bag.distinct()
 }
 
-/// The rows of a bag as its query shows them. `AllocError` where memory is refused.
+/// Returns the rows of a bag as its query shows them. Fails with `AllocError` if an allocation fails.
 pub(crate) fn list_shown<'s>(
     alloc: Global,
     query: &BoundQuery,
@@ -40,12 +40,13 @@ pub(crate) fn list_shown<'s>(
     let count = count_shown(query.distinct, bag);
     let mut values = Vec::with_capacity(alloc, count.saturating_mul(width))?;
     push_entries(&mut values, query.distinct, bag.entries())?;
-    // with DISTINCT no row is there twice, so none is left out here
+    // With DISTINCT, no row occurs twice, so none is left out here.
     let order = query.order.as_slice();
     ShownRows::sorted(alloc, values, width, count, false, order)
 }
 
-/// Appends references to the values of the rows of entries, for each row as often as it is shown.
+/// Appends references to the values of the rows of entries, for each row as often as it is shown. Fails with `AllocError` if an allocation
+/// fails.
 fn push_entries<'s>(
     values: &mut Vec<ValueRef<'s>>,
     distinct: bool,
@@ -60,7 +61,7 @@ fn push_entries<'s>(
     Ok(())
 }
 
-/// Puts the values of a row at the end, where they stand, so many times.
+/// Appends references to the values of a row `copies` times. Fails with `AllocError` if an allocation fails.
 fn push_copies<'s>(
     values: &mut Vec<ValueRef<'s>>,
     row: RowView<'s>,
@@ -74,7 +75,7 @@ fn push_copies<'s>(
     Ok(())
 }
 
-/// Puts the values of a row at the end, where they stand.
+/// Appends references to the values of a row. Fails with `AllocError` if an allocation fails.
 fn push_row<'s>(values: &mut Vec<ValueRef<'s>>, row: RowView<'s>) -> Result<(), AllocError>
     ensures { OnOk result (referred values.new.items ≡ referred values.old.items ++ viewed row.entry) }
 {
@@ -84,7 +85,7 @@ fn push_row<'s>(values: &mut Vec<ValueRef<'s>>, row: RowView<'s>) -> Result<(), 
     Ok(())
 }
 
-/// How often a row of this count is shown: with `distinct` at most once.
+/// Returns how often a row with this count is shown: with `distinct` at most once.
 fn times_shown(distinct: bool, count: usize) -> usize
     ensures { result ≡ times_shown distinct count }
 {

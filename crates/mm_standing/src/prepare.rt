@@ -1,24 +1,26 @@
-//! Changes that are made ready, with all memory that they ask for.
-ghost use Rattle.std.specs.Prelude.{◌≡◌, ◌++◌, ◌+◌, ◌≤◌, ◌<◌, ◌^◌, ℕ, [], All, length};
-ghost use Rattle.std.specs.Prelude.{map, neg_ℤ, pos, slice_index, ◌+ℤ◌, ◌≤ℤ◌, ◌<ℤ◌, IfOk, IsPermutation, OnOk};
+//! Preparation of changes, with all allocations that they need.
+ghost use Rattle.std.specs.Prelude.{◌≡◌, ◌++◌, ◌+◌, ◌≤◌, ◌<◌, ◌^◌, ℕ, [], All, List, length};
+ghost use Rattle.std.specs.Prelude.{map, neg_ℤ, pos, ◌+ℤ◌, ◌≤ℤ◌, ◌<ℤ◌, IfOk, IsPermutation, OnOk};
 ghost use Rattle.std.specs.List.{sum_by};
-ghost use Rattle.mm_multiset.specs.Counts.{Counts as BagCounts, count_in, total_of};
+ghost use Rattle.std.specs.Vec.{vec_capacity, vec_len};
+ghost use Rattle.mm_multiset.specs.Counts.{count_in, total_of};
+ghost use Rattle.mm_value.specs.declared.values.Value.{Value as Val};
 ghost use Rattle.mm_delta.specs.Edited.{after_at, before_at};
 ghost use Rattle.mm_delta.specs.Skipping.{IsTypeTested};
 ghost use Rattle.mm_delta.specs.Steps.{EachFit};
 ghost use Rattle.mm_multiset.specs.declared.signed.Signed.{Signed as Change};
 ghost use Rattle.mm_partition.specs.Types.{HasTypes};
 ghost use Rattle.mm_schema.specs.Refused.{AnswersDue, first_refusal};
-ghost use Rattle.mm_standing.specs.Bags.{Brings, CanAdd, HasGainsFirst, IsSmall, IsTyped, count_with, done_of};
-ghost use Rattle.mm_standing.specs.Bags.{entries_at, number_for, opposite, room_at, sum_over, types_of};
+ghost use Rattle.mm_standing.specs.Bags.{Brings, CanAdd, HasGainsFirst, IsSmall, IsSound, IsTyped};
+ghost use Rattle.mm_standing.specs.Bags.{count_with, done_of, entries_at, sum_over, types_of, undos};
 ghost use Rattle.mm_standing.specs.Queries.{AreCounts, GivesTyped, IsBagOf, IsServed, bag_over, change_conditions, list_conditions};
 ghost use Rattle.mm_standing.specs.Reads.{AreOfCyclicRows, AreTypeTested, RowTests, query_reads};
 ghost use Rattle.mm_standing.specs.State.{AreOfTypes, AreServed};
-ghost use Rattle.mm_standing.specs.declared.change.ListChange.{ListChange as AnyChange};
-ghost use Rattle.mm_standing.specs.declared.change.Prepared.{Prepared as AnyPrepared};
+ghost use Rattle.mm_standing.specs.declared.change.RowChange.{RowChange as AnyChange};
 ghost use Rattle.mm_schema.specs.Rows.{most_rows};
 
-use crate::change::{ListChange, Prepared};
+use crate::bags::prepare_one;
+use crate::change::{ListChange, RowChange};
 use crate::watched::PlacedQuery;
 use mm_delta::{Signed, TableChange, delta};
 use mm_multiset::Bag;
@@ -27,77 +29,49 @@ use mm_store::View;
 use mm_value::Refusal;
 use std::alloc::{AllocError, Global};
 
-/// The changes, each with the one that undoes it. `AllocError` where memory is refused.
-pub fn with_opposites(alloc: Global, changes: Vec<ListChange>) -> Result<Vec<Prepared>, AllocError>
-    requires { All IsSmall changes.items }
-    ensures done { IfOk result (λ prepared. done_of prepared.items ≡ changes.items) }
-    ensures opposites { IfOk result (λ prepared. All (λ (p : AnyPrepared). p.undo ≡ opposite p.done) prepared.items) }
-{
-    let mut prepared = Vec::with_capacity(alloc, changes.len())?;
-    for done in changes {
-        let undo = opposite(alloc, &done)?;
-        prepared.push(Prepared { done, undo })?;
-    }
-    Ok(prepared)
-}
-
-/// How many of the changes are of each list. `AllocError` where memory is refused.
-pub fn numbers(
-    alloc: Global,
-    lists: usize,
-    changes: &[ListChange],
-) -> Result<Vec<usize>, AllocError>
-    requires { All (λ (c : AnyChange). c.list < lists) changes.now }
-    ensures numbers { IfOk result (λ numbers. (list : ℕ) → slice_index numbers.items list ≡ number_for list changes.now) }
-    ensures size { IfOk result (λ numbers. length numbers.items ≡ lists) }
-{
-    let mut numbers = vec![in alloc; 0; lists]?;
-    for change in changes {
-        numbers[change.list] += 1;
-    }
-    Ok(numbers)
-}
-
-/// Makes room for so many new entries in each bag. `AllocError` where memory is refused. No bag's entries change.
-pub fn reserve_each(bags: &mut Vec<Bag>, numbers: &[usize]) -> Result<(), AllocError>
-    requires { length numbers.now ≡ length bags.old.items }
-    ensures entries { map (λ (bag : BagCounts). bag.entries) bags.new.items ≡ map (λ (bag : BagCounts). bag.entries) bags.old.items }
+/// Prepares changes, last to first: finds the entry of each row, or inserts it with the count 0. Fails with `AllocError` if an allocation
+/// fails; then some are prepared.
+pub(crate) fn prepare_each(
+    bags: &mut Vec<Bag>,
+    mut changes: Vec<RowChange>,
+    prepared: &mut Vec<ListChange>,
+    log: &[ListChange],
+) -> Result<(), AllocError>
+    requires prepared { prepared.old.items ≡ [] }
+    requires room { vec_len changes ≤ vec_capacity prepared.old }
+    requires sound { IsSound bags.old.items [] log.now }
+    requires there { All (λ (c : AnyChange). c.list < length bags.old.items) changes.items }
+    requires small { All IsSmall changes.items }
+    requires typed { All (IsTyped bags.old.items) changes.items }
+    requires within { CanAdd bags.old.items changes.items }
+    ensures sound { IsSound bags.new.items prepared.new.items log.now }
+    ensures many { vec_len prepared.new ≤ vec_len changes }
+    ensures ok { OnOk result ((list : ℕ) (row : List Val)
+        → count_with bags.new.items (done_of bags.new.items prepared.new.items) list row ≡ count_with bags.old.items changes.items list row) }
+    ensures log { undos bags.new.items log.now ≡ undos bags.old.items log.now }
+    ensures counts { (list : ℕ) (row : List Val)
+        → count_in row (entries_at bags.new.items list) ≡ count_in row (entries_at bags.old.items list) }
     ensures types { types_of bags.new.items ≡ types_of bags.old.items }
-    ensures kept { (list : ℕ) → room_at bags.old.items list ≤ room_at bags.new.items list }
-    ensures room { OnOk result ((list : ℕ) → slice_index numbers.now list ≤ room_at bags.new.items list) }
+    ensures size { length bags.new.items ≡ length bags.old.items }
 {
-    for (list, number) in numbers.iter().enumerate() {
-        bags[list].reserve(*number)?;
+    while let Some(change) = changes.pop() {
+        let change = prepare_one(bags, change)?;
+        prepared.push_reserved(change);
     }
     Ok(())
 }
 
-/// The change that undoes one. `AllocError` where memory is refused.
-fn opposite(alloc: Global, change: &ListChange) -> Result<ListChange, AllocError>
-    requires { IsSmall change.now }
-    ensures { IfOk result (λ undo. undo ≡ opposite change.now) }
-{
-    let Signed { row, count } = &change.change;
-    Ok(ListChange {
-        list: change.list,
-        change: Signed {
-            row: row.copy(alloc)?,
-            count: -*count,
-        },
-    })
-}
-
-/// By how much the counts of the rows of each list change when tables are edited. The changes are made from the last to the first.
-/// The edits fit the view's rows and are not made yet; the lists fit them too; no query adds a number to a text; and each gives rows
-/// of the types of its list's columns, before the edits and after them.
-/// `StandingListTooLarge` where a list would have more than 1,048,576 rows; `Memory` may come in its place and in that of success.
+/// Returns the changes of the counts of each list's rows when tables are edited, to be applied from the last to the first. Requires that
+/// the edits fit the view's rows and are not made yet; that the lists fit the rows too; that no query adds a number to a text; and that the
+/// rows of each query have the types of its list's columns, before the edits and after them. Fails with `StandingListTooLarge` if a list
+/// would have more than 1,048,576 rows, and with `Memory` if an allocation fails.
 pub(crate) fn changes_of_lists<'a>(
     alloc: Global,
     view: &mut View<'a>,
     queries: &[PlacedQuery],
     bags: &[Bag],
     changes: &[TableChange<'_>],
-) -> Result<Vec<ListChange>, Refusal>
+) -> Result<Vec<RowChange>, Refusal>
     requires size { length queries.now ≡ length bags.now }
     requires served { AreServed view.old.store queries.now }
     requires edits { EachFit view.old.store changes.now }
@@ -125,8 +99,8 @@ pub(crate) fn changes_of_lists<'a>(
     Ok(found)
 }
 
-/// By how much the counts of the rows of one list change when tables are edited. `StandingListTooLarge` where the list would have
-/// more than 1,048,576 rows; `Memory` may come in its place and in that of success.
+/// Returns the changes of the counts of one list's rows when tables are edited. Fails with `StandingListTooLarge` if the list would have
+/// more than 1,048,576 rows, and with `Memory` if an allocation fails.
 fn changes_of_list<'a>(
     alloc: Global,
     view: &mut View<'a>,
@@ -163,8 +137,8 @@ fn changes_of_list<'a>(
     Ok(changed)
 }
 
-/// Puts the changes that bring rows before those that take rows away. As the last is made first, the list loses rows before it
-/// gains any, and never has more on the way than it had or will have. It takes no memory.
+/// Moves the changes that add rows before those that remove rows. Since the last change is applied first, the list loses rows before it
+/// gains any, and never has more rows than before or after all changes. Allocates nothing.
 fn put_gains_first(changes: &mut Vec<Signed>)
     ensures order { HasGainsFirst changes.new.items }
     ensures permutation { IsPermutation changes.old.items changes.new.items }
@@ -178,7 +152,7 @@ fn put_gains_first(changes: &mut Vec<Signed>)
     }
 }
 
-/// How many rows a list of so many has with changes made.
+/// Returns the number of rows of a list of `total` rows after changes.
 fn new_total(total: usize, changes: &[Signed]) -> i128
     requires { All (λ (change : Change). (neg_ℤ (pos (2 ^ 64)) <ℤ change.count) × (change.count <ℤ pos (2 ^ 64))) changes.now }
     ensures { result ≡ pos total +ℤ sum_over (λ (change : Change). change.count) changes.now }
@@ -190,16 +164,16 @@ fn new_total(total: usize, changes: &[Signed]) -> i128
     rows
 }
 
-/// Puts the changes of a list at the end of those of the lists before it. `AllocError` where memory is refused.
+/// Appends the changes of a list to those of the lists before it. Fails with `AllocError` if an allocation fails.
 fn push_changes(
-    found: &mut Vec<ListChange>,
+    found: &mut Vec<RowChange>,
     list: usize,
     changes: Vec<Signed>,
 ) -> Result<(), AllocError>
     ensures { OnOk result (found.new.items ≡ found.old.items ++ map (λ change. record { list = list; change = change }) changes.items) }
 {
     for change in changes {
-        found.push(ListChange { list, change })?;
+        found.push(RowChange { list, change })?;
     }
     Ok(())
 }

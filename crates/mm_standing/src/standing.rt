@@ -9,18 +9,18 @@ ghost use Rattle.mm_query.specs.Queries.{bag_of};
 ghost use Rattle.mm_schema.specs.References.{above};
 ghost use Rattle.mm_schema.specs.Refused.{AnswersDue, first_refusal};
 ghost use Rattle.mm_store.specs.Tables.{rows_at};
-ghost use Rattle.mm_standing.specs.Bags.{CanAdd, IsLean, IsSmall, IsTyped, Made, done_of, entries_at};
+ghost use Rattle.mm_standing.specs.Bags.{CanAdd, IsLean, IsSmall, IsTyped, Made, count_with, entries_at};
 ghost use Rattle.mm_standing.specs.Queries.{GivesTyped, IsBagOf, StandingQuery, bag_over, change_conditions, list_conditions, shown_of};
 ghost use Rattle.mm_standing.specs.Reads.{AreOfCyclicRows, AreTypeTested, RowTests, query_reads};
 ghost use Rattle.mm_standing.specs.State.{AreServed, FitNow, FitPrepared, count_at};
 ghost use Rattle.mm_value.specs.declared.values.Value.TheVariants.{Int};
-ghost use Rattle.mm_standing.specs.declared.change.ListChange.{ListChange as AnyChange};
+ghost use Rattle.mm_standing.specs.declared.change.RowChange.{RowChange as AnyChange};
 ghost use Rattle.mm_value.specs.declared.values.Value.{Value as Val};
 
-use crate::bags::{make_all, purge, undo_behind};
-use crate::change::{ListChange, Prepared, UndoRecord};
+use crate::bags::{drop_all, make_all, purge, undo_behind};
+use crate::change::{ListChange, RowChange};
 use crate::listing::{count_shown, list_shown};
-use crate::prepare::{changes_of_lists, numbers, reserve_each, with_opposites};
+use crate::prepare::{changes_of_lists, prepare_each};
 use crate::watched::PlacedQuery;
 use crate::watching::bag_now;
 use mm_delta::TableChange;
@@ -32,14 +32,14 @@ use mm_value::{ColType, Refusal};
 use std::alloc::{AllocError, Global};
 use std::marker::Model;
 
-/// The standing queries in order of creation. Each has a list of its rows, kept as counts; a log of what was changed gives every
-/// list back as it was at a mark. A standing query goes by its place, counted from 0.
+/// The standing queries in order of creation, each with a list of its rows, stored as counts. An undo log can restore every list as it was
+/// at a mark. A standing query is identified by its place, counted from 0.
 #[derive(Drop)]
 pub struct Standing {
     queries: Vec<PlacedQuery>,
     bags: Vec<Bag>,
-    prepared: Vec<Prepared>,
-    log: Vec<UndoRecord>,
+    prepared: Vec<ListChange>,
+    log: Vec<ListChange>,
     reads: u64,
 }
 
@@ -50,24 +50,24 @@ impl Model for Standing {
 
     ghost Value = { Lists };
 
-    ghost use Rattle.mm_standing.specs.Bags.{IsRecorded, IsSound, undos};
+    ghost use Rattle.mm_standing.specs.Bags.{IsSound, done_of, undos};
     ghost use Rattle.mm_standing.specs.State.{AreOfTypes};
 
     ghost view = { λ s. record {
       queries = s.queries.items;
       bags = s.bags.items;
-      prepared = s.prepared.items;
-      log = undos s.log.items;
+      prepared = done_of s.bags.items s.prepared.items;
+      log = undos s.bags.items s.log.items;
       reads = s.reads;
     } };
 
-    ghost invariant = { λ s. IsSound s.bags.items s.prepared.items (undos s.log.items)
+    ghost invariant = { λ s. IsSound s.bags.items s.prepared.items s.log.items
         × (vec_len s.log + vec_len s.prepared ≤ vec_capacity s.log) × (length s.queries.items ≡ length s.bags.items)
-        × IsRecorded s.bags.items s.log.items × AreOfTypes s.queries.items s.bags.items };
+        × AreOfTypes s.queries.items s.bags.items };
 }
 
 impl Standing {
-    /// No standing queries. It takes no memory.
+    /// Returns an empty list of standing queries. Allocates nothing.
     pub fn new(alloc: Global) -> Standing
         ensures { result ≡ record { queries = []; bags = []; prepared = []; log = []; reads = 0 } }
     {
@@ -80,7 +80,7 @@ impl Standing {
         }
     }
 
-    /// How many standing queries there are.
+    /// Returns the number of standing queries.
     pub fn len(&self) -> usize
         ensures queries { result ≡ length self.now.queries }
         ensures bags { result ≡ length self.now.bags }
@@ -88,7 +88,7 @@ impl Standing {
         self.queries.len()
     }
 
-    /// The standing query at a place, with places in place of the names of its fields.
+    /// Returns the standing query at a place, with places instead of field names.
     pub fn query(&self, place: usize) -> &BoundQuery
         requires { place < length self.now.queries }
         ensures { slice_get (map (λ (s : StandingQuery). s.query) self.now.queries) place ≡ Some result.now }
@@ -96,39 +96,44 @@ impl Standing {
         &self.queries[place].query
     }
 
-    /// How many rows were read when the last change was prepared.
+    /// Returns the number of rows that were read when the last change was prepared.
     pub fn reads(&self) -> u64
         ensures { result ≡ self.now.reads }
     {
         self.reads
     }
 
-    /// A mark of the lists as they are now, to which `revert` can go back: how many changes the log has.
+    /// Returns a mark of the current lists for `revert`: the length of the log.
     pub fn mark(&self) -> usize
         ensures { result ≡ length self.now.log }
     {
         self.log.len()
     }
 
-    /// Drops what is prepared. No list changes.
+    /// Drops what is prepared, and the entries that were inserted for it. No count changes.
     pub fn discard(&mut self)
-        ensures { self.new ≡ record self.old { prepared = [] } }
+        ensures lean { IsLean self.new.bags self.new.log }
+        ensures counts { (list : ℕ) (row : List Val)
+            → count_in row (entries_at self.new.bags list) ≡ count_in row (entries_at self.old.bags list) }
+        ensures size { length self.new.bags ≡ length self.old.bags }
+        ensures rest { self.new ≡ record self.old { bags = self.new.bags; prepared = [] } }
     {
-        self.prepared.clear();
+        drop_all(&mut self.bags, &mut self.prepared, self.log.as_slice());
     }
 
-    /// Makes all changes that are prepared, and puts what undoes them into the log. It takes no memory.
+    /// Applies all prepared changes and appends them to the undo log. Allocates nothing.
     pub fn apply_prepared(&mut self)
         ensures made { Made self.old.bags self.old.prepared self.old.log self.new.bags [] self.new.log }
         ensures prepared { self.new.prepared ≡ [] }
         ensures queries { self.new.queries ≡ self.old.queries }
         ensures reads { self.new.reads ≡ self.old.reads }
     {
-        make_all(&mut self.bags, &mut self.prepared, &mut self.log);
+        make_all(&mut self.bags, self.prepared.as_slice(), &mut self.log);
+        self.prepared.clear();
     }
 
-    /// Gives every list back as it was at a mark. It requires that nothing is prepared. It takes no memory. A row whose count is 0 keeps
-    /// its entry only where what is left of the log names it.
+    /// Restores every list as it was at a mark. Requires that nothing is prepared. Allocates nothing. An entry whose count is 0 is removed
+    /// unless the remaining log names its row.
     pub fn revert(&mut self, mark: usize)
         requires prepared { self.old.prepared ≡ [] }
         requires mark { mark ≤ length self.old.log }
@@ -143,8 +148,8 @@ impl Standing {
         self.log.truncate(mark);
     }
 
-    /// Empties the log, so that no change can be undone any more, and drops the entries whose count is 0. It requires that
-    /// nothing is prepared. No count changes.
+    /// Empties the log, so that no change can be undone any more, and removes the entries whose count is 0. Requires that nothing is
+    /// prepared. No count changes.
     pub fn settle(&mut self)
         requires { self.old.prepared ≡ [] }
         ensures lean { IsLean self.new.bags self.new.log }
@@ -156,7 +161,8 @@ impl Standing {
         purge(&mut self.bags, &mut self.log);
     }
 
-    /// Drops the standing query at a place and its list; those behind it move up. It requires that nothing is prepared and the log is empty.
+    /// Drops the standing query at a place and its list; those after it move forward. Requires that nothing is prepared and the log is
+    /// empty.
     pub fn unwatch(&mut self, place: usize)
         requires place { place < length self.old.queries }
         requires prepared { self.old.prepared ≡ [] }
@@ -167,10 +173,10 @@ impl Standing {
         self.bags.remove(place);
     }
 
-    /// Keeps a query as a standing query, which comes last, with the rows that it gives over the rows of the store, found by its
-    /// plan. `tables` are the places in the store of the tables of its FROM list, at most 4, and `types` are those of its fields, which
-    /// its rows have. It requires that nothing is prepared and the log is empty. `StandingListTooLarge` where more than 1,048,576 combinations fit;
-    /// `Memory` may come in its place and in that of success. A refused call changes nothing.
+    /// Appends a standing query and materializes its rows over the store, found by its plan. `tables` are the places in the store of the
+    /// tables of its FROM list, at most 4, and `types` are those of its fields. Requires that nothing is prepared and the log is empty, and
+    /// that the rows have these types. Fails with `StandingListTooLarge` if more than 1,048,576 combinations match, and with `Memory` if an
+    /// allocation fails; nothing changes then.
     pub fn watch(
         &mut self,
         alloc: Global,
@@ -204,8 +210,8 @@ impl Standing {
         Ok(())
     }
 
-    /// The table at a place of the store is gone, and those behind it have moved up by one. No standing query reads it. No list
-    /// changes, and no memory is taken.
+    /// Adjusts the places after the table at a place of the store was dropped, which no standing query reads: places after it decrease by
+    /// one. No list changes. Allocates nothing.
     pub fn table_dropped(&mut self, table: usize)
         ensures { self.new ≡ record self.old {
           queries = map (λ (s : StandingQuery). record s { tables = map (above table) s.tables }) self.old.queries;
@@ -216,8 +222,8 @@ impl Standing {
         }
     }
 
-    /// How many rows the standing query at a place shows: with DISTINCT, one of each is counted. The list is to be the bag of its
-    /// query over some rows.
+    /// Returns the number of rows that the standing query at a place shows, if its list is the bag of some rows. With DISTINCT, one of each
+    /// is counted.
     pub fn count(&self, place: usize) -> usize
         requires place { place < length self.now.queries }
         ensures { (standing : StandingQuery) → slice_get self.now.queries place ≡ Some standing
@@ -226,8 +232,8 @@ impl Standing {
         count_shown(self.queries[place].query.distinct, &self.bags[place])
     }
 
-    /// The rows that the standing query at a place shows, in their order; no value is copied, and no store is looked at. Its list
-    /// is to be the bag of its query over some rows. `AllocError` where memory is refused.
+    /// Returns the rows that the standing query at a place shows, in order. No value is copied, and no store is read. Requires that the
+    /// list is the bag of its query over some rows. Fails with `AllocError` if an allocation fails.
     pub fn list(&self, alloc: Global, place: usize) -> Result<ShownRows<'_>, AllocError>
         requires place { place < length self.now.queries }
         requires fits { (standing : StandingQuery) → slice_get self.now.queries place ≡ Some standing
@@ -238,15 +244,16 @@ impl Standing {
         list_shown(alloc, &self.queries[place].query, &self.bags[place])
     }
 
-    /// Makes ready what edits of tables change of the lists, with all memory that the change and its undoing ask for. The edits
-    /// fit the view's rows and are not made yet. It requires that nothing is prepared and that the view has read no row. Of the view's
-    /// rows it asks that the table of each place of a FROM list is there, that the lists fit the rows, and, of the rows before the
-    /// edits and of those after them, that no query adds a number to a text of theirs and that each gives rows of the types of its
-    /// fields. The change of each list is the sum of the terms of Blakeley, Larson and Tompa's expansion: only rows that the edits
-    /// concern are read, and none is combined with an edited row that a cycle shows to be irrelevant.
+    /// Prepares the changes of the lists for edits of tables, and allocates all that applying and undoing them needs. The change of each
+    /// list is the sum of the terms of Blakeley, Larson and Tompa's expansion: only edited rows and rows that may combine with them are
+    /// read, and no row is combined with an edited row that a cycle shows to be irrelevant.
     ///
-    /// `StandingListTooLarge` where over the rows after the edits more than 1,048,576 combinations fit some standing query;
-    /// `Memory` may come in its place and in that of success. Then nothing is prepared.
+    /// Requires that nothing is prepared and the view has read no row; that the edits fit the view's rows and are not made yet; that the
+    /// table of each place of a FROM list exists; and that the lists fit the view's rows. Over the rows before the edits and over those
+    /// after them, no query may add a number to a text, and each query's result must have the types of its fields.
+    ///
+    /// Fails with `StandingListTooLarge` if more than 1,048,576 combinations of the rows after the edits match some standing query, and
+    /// with `Memory` if an allocation fails; then nothing is prepared.
     pub fn prepare<'a>(
         &mut self,
         alloc: Global,
@@ -264,7 +271,10 @@ impl Standing {
         ensures due { AnswersDue (first_refusal (change_conditions (after_at view.old.store changes.now) self.old.queries)) result }
         ensures ok { OnOk result (FitPrepared (after_at view.old.store changes.now) self.new) }
         ensures err { OnErr result (self.new.prepared ≡ []) }
-        ensures entries { map (λ (bag : BagCounts). bag.entries) self.new.bags ≡ map (λ (bag : BagCounts). bag.entries) self.old.bags }
+        ensures lean { OnErr result (IsLean self.new.bags self.new.log) }
+        ensures counts { (list : ℕ) (row : List Val)
+            → count_in row (entries_at self.new.bags list) ≡ count_in row (entries_at self.old.bags list) }
+        ensures size { length self.new.bags ≡ length self.old.bags }
         ensures rest { self.new ≡ record self.old { bags = self.new.bags; prepared = self.new.prepared; reads = view.new.reads } }
         ensures reads { (skipped : RowTests) → AreOfCyclicRows skipped
             → view.new.reads ≤ sum_by (query_reads view.old.store changes.now skipped) self.old.queries }
@@ -278,35 +288,39 @@ impl Standing {
             changes,
         );
         self.reads = view.reads();
-        self.put_prepared(alloc, found?)?;
+        self.put_prepared(found?)?;
         Ok(())
     }
 
-    /// Makes changes ready, in order from the last to the first, with all memory that they and their undoing need. It requires
-    /// that nothing is prepared, and that each row has the types of its list's columns. `AllocError` where memory is refused; then
-    /// nothing is prepared.
-    pub(crate) fn put_prepared(
-        &mut self,
-        alloc: Global,
-        changes: Vec<ListChange>,
-    ) -> Result<(), AllocError>
+    /// Prepares changes, last to first, and allocates all that applying and undoing them needs. Requires that nothing is prepared, that the
+    /// changes can be applied in this order, and that each row has the types of its list's columns. Fails with `AllocError` if an
+    /// allocation fails; then nothing is prepared.
+    pub(crate) fn put_prepared(&mut self, changes: Vec<RowChange>) -> Result<(), AllocError>
         requires prepared { self.old.prepared ≡ [] }
         requires there { All (λ (c : AnyChange). c.list < length self.old.bags) changes.items }
         requires small { All IsSmall changes.items }
         requires typed { All (IsTyped self.old.bags) changes.items }
         requires within { CanAdd self.old.bags changes.items }
-        ensures ok { OnOk result (done_of self.new.prepared ≡ changes.items) }
+        ensures ok { OnOk result ((list : ℕ) (row : List Val)
+            → count_with self.new.bags self.new.prepared list row ≡ count_with self.old.bags changes.items list row) }
         ensures err { OnErr result (self.new.prepared ≡ []) }
-        ensures entries { map (λ (bag : BagCounts). bag.entries) self.new.bags ≡ map (λ (bag : BagCounts). bag.entries) self.old.bags }
+        ensures lean { OnErr result (IsLean self.new.bags self.new.log) }
+        ensures counts { (list : ℕ) (row : List Val)
+            → count_in row (entries_at self.new.bags list) ≡ count_in row (entries_at self.old.bags list) }
+        ensures size { length self.new.bags ≡ length self.old.bags }
         ensures rest { self.new ≡ record self.old { bags = self.new.bags; prepared = self.new.prepared } }
     {
-        if changes.is_empty() {
-            return Ok(());
-        }
-        let numbers = numbers(alloc, self.bags.len(), changes.as_slice())?;
-        reserve_each(&mut self.bags, numbers.as_slice())?;
+        self.prepared.reserve(changes.len())?;
         self.log.reserve(changes.len())?;
-        self.prepared = with_opposites(alloc, changes)?;
-        Ok(())
+        let outcome = prepare_each(
+            &mut self.bags,
+            changes,
+            &mut self.prepared,
+            self.log.as_slice(),
+        );
+        if outcome.is_err() {
+            self.discard();
+        }
+        outcome
     }
 }

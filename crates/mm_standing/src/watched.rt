@@ -1,4 +1,4 @@
-//! Queries that stand.
+//! Standing queries with the places of their tables.
 ghost use Rattle.std.specs.Prelude.{◌≡◌, map};
 ghost use Rattle.mm_schema.specs.References.{above};
 
@@ -6,8 +6,8 @@ use mm_query::BoundQuery;
 use mm_value::ColType;
 use std::marker::Model;
 
-/// A standing query, which is bound once for all, the place in the store of each table of its FROM list, and the types of its fields,
-/// which are those of its list's columns.
+/// A bound standing query, with the place in the store of each table of its FROM list, and the types of its fields, which are those of its
+/// list's columns.
 #[derive(Drop)]
 pub(crate) struct PlacedQuery {
     pub(crate) query: BoundQuery,
@@ -24,7 +24,7 @@ impl Model for PlacedQuery {
 }
 
 impl PlacedQuery {
-    /// The table at a place of the store is gone, and those behind it have moved up by one.
+    /// Adjusts the places of the tables after the table at a place of the store was dropped: those after it decrease by one.
     pub(crate) fn table_dropped(&mut self, gone: usize)
         ensures { self.new ≡ record self.old { tables = map (above gone) self.old.tables } }
     {
@@ -34,7 +34,7 @@ impl PlacedQuery {
     }
 }
 
-/// The place of a table once the table at another place is gone.
+/// Returns the place of a table after the table at another place was dropped.
 fn above(gone: usize, place: usize) -> usize
     ensures { result ≡ above gone place }
 {

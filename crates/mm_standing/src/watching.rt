@@ -1,4 +1,4 @@
-//! The bag of a query when it begins to stand.
+//! The bag of a new standing query.
 ghost use Rattle.std.specs.Prelude.{◌≡◌, ◌≢◌, ◌<◌, ◌≤◌, All, IfOk, Some, length, map, pos, slice_get};
 ghost use Rattle.std.specs.Option.{unwrap_or};
 ghost use Rattle.mm_multiset.specs.Counts.{IsOnce};
@@ -22,9 +22,9 @@ use mm_templist::{Descriptor, TempList};
 use mm_value::{ColType, Refusal, Row, RowRef, ValueRef};
 use std::alloc::{AllocError, Global};
 
-/// The bag of a query over the rows of a store, found by its plan. `types` are those of the query's fields, which its rows have.
-/// `StandingListTooLarge`
-/// where more than 1,048,576 combinations fit; `Memory` may come in its place and in that of success.
+/// Returns the bag of a query over the rows of a store, found by its plan. `types` are those of the query's fields; requires that the
+/// query's rows have them. Fails with `StandingListTooLarge` if more than 1,048,576 combinations match, and with `Memory` if an allocation
+/// fails.
 pub(crate) fn bag_now(
     alloc: Global,
     store: &Store,
@@ -49,7 +49,7 @@ pub(crate) fn bag_now(
     Ok(counted(alloc, &mut view, types, &list)?)
 }
 
-/// The refusal of a standing query in place of that of a result.
+/// Converts the refusal of a result to that of a standing query.
 fn as_list(refusal: Refusal) -> Refusal
     ensures large { refusal ≡ ResultTooLarge → result ≡ StandingListTooLarge }
     ensures other { refusal ≢ ResultTooLarge → result ≡ refusal }
@@ -60,8 +60,8 @@ fn as_list(refusal: Refusal) -> Refusal
     }
 }
 
-/// The bag of the rows of a temporary list, which have these types: each is counted as it is read, so that no two stand beside the
-/// bag at a time. `AllocError` where memory is refused.
+/// Returns the bag of the rows of a temporary list, which have these types. Each row is counted as it is read, so at most one exists beside
+/// the bag at a time. Fails with `AllocError` if an allocation fails.
 fn counted(
     alloc: Global,
     view: &mut View<'_>,
@@ -83,7 +83,8 @@ fn counted(
     Ok(bag)
 }
 
-/// A copy of the row of the combination at a place, counted from 0: the values of the fields. `AllocError` where memory is refused.
+/// Returns a copy of the row of the combination at a place, counted from 0: the values of the fields. Fails with `AllocError` if an
+/// allocation fails.
 fn row_read(
     alloc: Global,
     view: &mut View<'_>,
@@ -104,7 +105,7 @@ fn row_read(
     Ok(Row::new(values))
 }
 
-/// The value of a field in a combination, where it stands, and 0 where its place has no row or the row ends before it.
+/// Returns the value of a field in a combination, in place, or 0 if the field's place has no row or the row has no such column.
 fn value_read<'s>(
     view: &mut View<'s>,
     tables: &[usize],

@@ -1,4 +1,4 @@
--- Operands, atoms and assignments that differ in their literals alone.
+-- Operands, atoms and assignments that differ only in their literals.
 use Rattle.std.proofs.Common.{◌≡◌, ℕ, ◌||◌, List, [], ◌∷◌, ◌++◌, Option, length, map, refl, sym, ap, ◌∙◌}
 use Rattle.std.specs.List.{flat_map}
 use Rattle.std.proofs.lemmas.List.{length-map}
@@ -15,7 +15,7 @@ use Rattle.mm_statement.specs.Filling.{blank_assignment, blank_atom, blank_opera
 use Rattle.mm_lang.specs.Reading.{operand_literals, test_literals}
 use Rattle.mm_statement.proofs.Shapes.{IsCounted, Same}
 
--- the literals of an assignment, whatever names its columns
+-- the literals of an assignment, whatever the names of columns are
 abbrev pub source_literals : {F : Type 0} → Assignment F → List Value
 source_literals a = operand_literals a.source
 
@@ -55,7 +55,7 @@ same_operand_type type_at (Column c) (Column d) h same = let e : c ≡ d = cc in
 same_operand_type type_at (Shifted c x) (Shifted d y) h same = let e : c ≡ d = cc in ap type_at e
 same_operand_type type_at _ _ h same = absurd (cc)
 
--- A shift stays a shift where its number is 0.
+-- A shift remains a shift if its number is 0.
 pub blank_shifts_text : {F : Type 0} (type_at : F → Option ColType) (o : Operand F) → shifts_text type_at (blank_operand o) ≡ shifts_text type_at o
 blank_shifts_text type_at (Literal v) = refl
 blank_shifts_text type_at (Column c) = refl
@@ -92,7 +92,7 @@ equal_assignments a b h =
     let source = equal_operands a.source b.source (ap (λ x. x.source) h.shape) h.values in
     λ i. record { column = ap (λ x. x.column) h.shape i; source = source i }
 
--- ---- places for names
+-- ---- positions of names
 
 module _ {F G : Type 0} (place : F → G) where
   mapped_operand_literals : (o : Operand F) → operand_literals (mapped_operand place o) ≡ operand_literals o
@@ -116,7 +116,7 @@ module _ {F G : Type 0} (place : F → G) where
   mapped_shape (a ∷ atoms) =
       λ i. record { left = place a.left; comparison = a.comparison; right = mapped_operand_shape a.right i } ∷ mapped_shape atoms i
 
--- So do assignments.
+-- Assignments keep both too.
 pub assignment_literals_placed : (columns : List Col) (assignments : List (Assignment (List ℕ)))
     → flat_map source_literals (map (placed_assignment columns) assignments) ≡ flat_map source_literals assignments
 assignment_literals_placed columns [] = refl

@@ -1,4 +1,4 @@
--- A bound change with other literals is the change that has these, bound.
+-- Substituting literals commutes with binding a change.
 use Rattle.std.proofs.Common.{◌≡◌, ◌<◌, ℕ, List, ◌++◌, Some, length, map, sym, ap, ◌∙◌, subst}
 use Rattle.std.specs.List.{flat_map}
 use Rattle.std.proofs.lemmas.List.{length-map}
@@ -28,7 +28,7 @@ use Rattle.mm_statement.proofs.AlikeParts.{assignment_literals_placed, assignmen
 use Rattle.mm_statement.proofs.AlikeParts.{source_count, source_literals, test_count}
 use Rattle.mm_statement.proofs.Shapes.{IsCounted, carried_all, each_same, each_same_all, equal_each}
 
--- ---- what holds of columns alone
+-- ---- properties of columns alone
 
 operand_within : (width : ℕ) (o p : Operand ℕ) → blank_operand o ≡ blank_operand p → IsWithin width o → IsWithin width p
 operand_within width (Literal v) (Literal w) h within = tt
@@ -51,7 +51,7 @@ operand_reads_within width left other _ _ names h within = absurd (cc)
 test_within : (width : ℕ) (a b : Atom ℕ) → blank_atom a ≡ blank_atom b → ReadsWithin width a.left a.right → ReadsWithin width b.left b.right
 test_within width a b h within = operand_reads_within width a.left b.left a.right b.right (ap (λ x. x.left) h) (ap (λ x. x.right) h) within
 
--- ---- places for names
+-- ---- positions of names
 
 tests_shape : (schema : Schema) (table name : List ℕ) (tests asked : List (Atom (List ℕ))) → table ≡ name → map blank_atom tests ≡ map blank_atom asked
     → map blank_atom (tests_for table schema tests) ≡ map blank_atom (tests_for name schema asked)
@@ -192,7 +192,7 @@ queries_placed_alike schema query other changed h shape literals =
     ∙ ap (λ (q : Query). record (placed_query schema q) { atoms = changed.atoms }) h.same
     ∙ λ i. record (placed_query schema other) { atoms = atoms i }
 
--- ---- what is read lies within its tables
+-- ---- reading only existing tables
 
 module _ (schema : Schema) (from : List FromItem) where
   side_within : (o p : Operand FieldPlace) → blank_operand o ≡ blank_operand p

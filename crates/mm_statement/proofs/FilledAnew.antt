@@ -38,7 +38,7 @@ use Rattle.mm_lang.proofs.Readings.{fault-append, or_none_parts}
 
 -- ---- literals
 
--- The sign of a hole is that of what it reads as.
+-- The sign of a hole is that of the literal in its place.
 signed_given : (literal value : Value) → signed (is_minus_one literal) value ≡ given literal value
 signed_given (Int (pos n)) value = refl
 signed_given (Int (negsuc zero)) (Int z) = refl
@@ -54,7 +54,7 @@ refilled_no_values (false ∷ holes) [] literals = refl
 refilled_no_values (false ∷ holes) (m ∷ minus_ones) [] = refl
 refilled_no_values (false ∷ holes) (m ∷ minus_ones) (l ∷ literals) = ap (λ t. l ∷ t) (refilled_no_values holes minus_ones literals)
 
--- Where no value is left over, what stands behind the literals stays.
+-- If no value remains, literals that follow are unchanged.
 refilled_behind : (holes minus_ones : List Bool) (values literals behind : List Value) → left_over holes values literals ≡ []
     → refilled holes minus_ones values (literals ++ behind) ≡ refilled holes minus_ones values literals ++ behind
 refilled_behind [] minus_ones values literals behind used = refl
@@ -72,7 +72,7 @@ refilled_behind (false ∷ holes) (m ∷ minus_ones) values (l ∷ literals) beh
 one_more : (hole : Bool) (holes : List Bool) → hole_count (hole ∷ holes) ≡ cond hole 1 0 + hole_count holes
 one_more hole holes = sum_by-cons (λ h. cond h 1 0) hole holes
 
--- New values in the holes that earlier ones stand in are these values in the holes.
+-- Replacing earlier values in the holes by new ones is the same as filling the holes with the new ones.
 refilled_anew : (holes : List Bool) (earlier values literals : List Value) → length earlier ≡ hole_count holes → length values ≡ hole_count holes
     → refilled holes (map is_minus_one literals) values (merged holes earlier literals) ≡ merged holes values literals
 refilled_anew [] earlier values literals g h = refl
@@ -91,7 +91,7 @@ refilled_anew (false ∷ holes) earlier values (l ∷ literals) g h =
     let two : length values ≡ hole_count holes = omega arith in
     ap (λ t. l ∷ t) (refilled_anew holes earlier values literals one two)
 
--- ---- the literals of one thing in another
+-- ---- the literals of one value in another
 
 with_literal : {F G : Type 0} → Operand F → Operand G → Operand F
 with_literal (Literal v) (Literal w) = Literal w
@@ -102,7 +102,7 @@ abbrev each_with : {A B : Type 0} → (A → B → A) → List A → List B → 
 each_with one (x ∷ xs) (y ∷ ys) = one x y ∷ each_with one xs ys
 each_with one xs ys = xs
 
--- The shape of the first and the literals of the second.
+-- A value with the shape of the first and the literals of the second.
 abbrev Combines : {A B : Type 0} → (A → A) → (A → List Value) → (B → List Value) → A → B → A → Type 0
 Combines blank literals others a b made = (blank made ≡ blank a) × (literals made ≡ others b)
 
@@ -200,7 +200,7 @@ query_anew schema template query old new holes earlier values b count r =
 
 -- ---- changes
 
--- A change with the literals of a bound one: it has its own shape, and these literals.
+-- A change with the literals of a bound one keeps its own shape.
 abbrev HasLiterals : Mutation → BoundChange → Type 0
 HasLiterals mutation new = (other : Mutation) × (blank_mutation other ≡ blank_mutation mutation) × (change_literals other ≡ bound_change_literals new)
 

@@ -1,4 +1,4 @@
--- Commands that were filled.
+-- Filled commands.
 use Rattle.std.proofs.Common.{◌≡◌, ◌⊎◌, ℕ, Bool, true, false, List, [], ◌∷◌, ◌++◌, None, Ok, Err, length, map, refl, sym, ap, ◌∙◌, subst}
 use Rattle.std.proofs.Common.{◌+◌, inl, inr, append_assoc, append-nil}
 use Rattle.std.specs.List.{flat_map}
@@ -30,7 +30,7 @@ use Rattle.mm_statement.proofs.Fills.{behind_both, fault_both, free_before}
 use Rattle.mm_statement.proofs.Shapes.{same_parts}
 use Rattle.mm_lang.proofs.Readings.{fault-append, or_none_parts, or_none}
 
--- ---- a whole that has the literals of its only part
+-- ---- a command with the literals of its only part
 
 module _ {A B : Type 0} (blank_part : A → A) (of_part : A → List Value) (blank_whole : B → B) (of_whole : B → List Value) (make shape : A → B)
     (shaped : (x : A) → blank_whole (make x) ≡ shape (blank_part x)) (listed : (x : A) → of_whole (make x) ≡ of_part x) where
@@ -102,7 +102,7 @@ assignments_stuck old table assignments tests stuck (Update name sets asked) res
     stuck sets (b ++ rest) (y ++ tail) shape (ap (filled_by old) (sym (append_assoc a b rest)) ∙ h ∙ append_assoc x y tail)
 assignments_stuck old table assignments tests stuck _ rest tail same h = absurd (cc)
 
--- What cannot be filled behind a part that was.
+-- If a second part cannot be filled after the first one, the two cannot be filled.
 second_stuck : (old mid : Filler) (a b x y z rest tail : List Value) → ((more : List Value) → filled_by old (a ++ more) ≡ x ++ filled_by mid more)
     → length x ≡ length y → filled_by old ((a ++ b) ++ rest) ≡ (y ++ z) ++ tail → filled_by mid (b ++ rest) ≡ z ++ tail
 second_stuck old mid a b x y z rest tail first count h =
@@ -182,7 +182,7 @@ module _ (old new : Filler) where
 
 -- ---- a whole command
 
--- Commands without holes come back as they are.
+-- Commands without holes are returned unchanged.
 pub unchanged : (holes : List Bool) (values : List Value) (command : Command) → values ≡ [] → first_fault (literals_of command) ≡ None
     → AnswersFilling holes values command (Ok command)
 unchanged holes values command none within =

@@ -1,4 +1,4 @@
--- What one step of a filler gives.
+-- The results of single steps of a filler.
 use Rattle.std.proofs.Common.{◌≡◌, ◌≢◌, ℕ, zero, suc, Bool, true, false, cond, List, [], ◌∷◌, ◌++◌, Option, Some, None, length, refl, sym, ap, ◌∙◌, inl, inr}
 use Rattle.std.proofs.Common.{arith, IsTrue, ◌↔◌}
 use Rattle.std.specs.Int.{w64}
@@ -21,7 +21,7 @@ use Rattle.mm_statement.specs.steps.Fills.{IsChanging, Keeps, KeepsPositions, No
 use Rattle.mm_lang.proofs.Literals.{within_none}
 use Rattle.mm_lang.proofs.Readings.{or_none}
 
--- ---- literals and values that are left
+-- ---- remaining literals and values
 
 pub merged_no_values : (holes : List Bool) (literals : List Value) → merged holes [] literals ≡ literals
 merged_no_values [] literals = refl
@@ -39,7 +39,7 @@ pub none_left : (values : List Value) → length values ≡ 0 → values ≡ []
 none_left [] h = refl
 none_left (v ∷ values) h = absurd (cc)
 
--- The next literal is a hole: the next value was taken for it, if there is one.
+-- The next literal is a hole: the next value was taken for it, if any.
 pub taken_hole : (taken : Option Value) (all holes : List Bool) (values now : List Value) → all ≡ true ∷ holes → values ≡ option_to_list taken ++ now
     → (taken ≡ None → length values ≡ 0) → (literal : Value) (rest : List Value)
     → merged all values (literal ∷ rest) ≡ option_map_or (given literal) taken literal ∷ merged holes now rest
@@ -66,12 +66,12 @@ or_past : (b : Bool) → range_fault true ≡ option_or (range_fault b) (Some Nu
 or_past true = refl
 or_past false = refl
 
--- nothing is amiss with a value within its limit
+-- a value within its limit has no fault
 nothing_noted : (old new : Filler) (v : Value) → new.is_out_of_range ≡ old.is_out_of_range → literal_fault v ≡ None
     → fault_of new ≡ option_or (fault_of old) (literal_fault v)
 nothing_noted old new v flag none = ap range_fault flag ∙ sym (or_none (fault_of old)) ∙ ap (option_or (fault_of old)) (sym none)
 
--- ---- numbers behind a minus
+-- ---- numbers after a minus
 
 pub noted_negated : (old : Filler) (number negated : ℤ) → FitsSigned w64 (neg_ℤ number) → negated ≡ neg_ℤ number
     → Notes old old (given (Int (negsuc zero)) (Int number)) (Int negated)

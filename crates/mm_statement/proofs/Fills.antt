@@ -1,4 +1,4 @@
--- Parts that were filled, put together.
+-- Filled parts, combined.
 use Rattle.std.proofs.Common.{◌≡◌, ◌<◌, ◌+◌, ℕ, suc, List, [], ◌∷◌, ◌++◌, Option, Some, None}
 use Rattle.std.proofs.Common.{Err, length, map, take, drop, get_or, refl, sym, ap, ◌∙◌}
 use Rattle.std.proofs.Common.{inl, inr, subst, append_assoc, append-nil}
@@ -24,14 +24,14 @@ use Rattle.mm_statement.specs.steps.Fills.{number_of, only_number, only_value}
 use Rattle.mm_statement.proofs.Shapes.{same_parts}
 use Rattle.mm_lang.proofs.Readings.{or_assoc, fault-append, or_none_parts, or_none}
 
--- What cannot be filled in a part cannot be filled in the whole; want of memory stays one.
+-- If a part cannot be filled, neither can the whole; a failed allocation remains one.
 pub stuck_with : {A B : Type 0} (blank : A → A) (literals : A → List Value) (blank' : B → B) (literals' : B → List Value) (old mid new newer : Filler)
     (part : A) (whole : B) (refusal : Refusal) → (IsUnfillable blank literals mid part → IsUnfillable blank' literals' old whole)
     → FillsPart blank literals mid new part (Err refusal) → FillsPart blank' literals' old newer whole (Err refusal)
 stuck_with blank literals blank' literals' old mid new newer part whole refusal carry (inl syntax) = inl (syntax.0, carry syntax.1)
 stuck_with blank literals blank' literals' old mid new newer part whole refusal carry (inr memory) = inr memory
 
--- Nothing is filled where there is no literal.
+-- Without literals nothing is filled.
 pub fills_nothing : {A : Type 0} (blank : A → A) (literals : A → List Value) (old : Filler) (part : A) → literals part ≡ []
     → Fills blank literals old old part part
 fills_nothing blank literals old part none = record {
@@ -140,7 +140,7 @@ module _ {C : Type 0} where
     kept = λ free. ap (λ o. record { column = assignment.column; source = o }) (f.kept free);
   }
 
--- ---- one part behind another
+-- ---- one part after another
 
 module _ (old mid new : Filler) (a b x y : List Value) (first : (rest : List Value) → filled_by old (a ++ rest) ≡ x ++ filled_by mid rest)
     (second : (rest : List Value) → filled_by mid (b ++ rest) ≡ y ++ filled_by new rest) (fault : fault_of mid ≡ option_or (fault_of old) (first_fault x))
@@ -154,7 +154,7 @@ module _ (old mid new : Filler) (a b x y : List Value) (first : (rest : List Val
       next ∙ ap (λ f. option_or f (first_fault y)) fault ∙ sym (or_assoc (fault_of old) (first_fault x) (first_fault y))
       ∙ ap (option_or (fault_of old)) (sym (fault-append x y))
 
--- Without a fault in the end there was none in the middle.
+-- Without a fault at the end there was none before.
 pub free_before : (mid new : Filler) (v : List Value) → fault_of new ≡ option_or (fault_of mid) (first_fault v) → fault_of new ≡ None → fault_of mid ≡ None
 free_before mid new v fault free = (or_none_parts (fault_of mid) (first_fault v) (sym fault ∙ free)).0
 
@@ -176,7 +176,7 @@ module _ {A : Type 0} (blank : A → A) (literals : A → List Value) where
   pub fills_none : (old : Filler) → Fills (map blank) (flat_map literals) old old [] []
   fills_none old = fills_nothing (map blank) (flat_map literals) old [] refl
 
-  -- One more was filled.
+  -- One more part was filled.
   pub fills_next : (old mid new : Filler) (xs ys : List A) (x y : A) → Fills (map blank) (flat_map literals) old mid xs ys → Fills blank literals mid new x y
       → Fills (map blank) (flat_map literals) old new (xs ++ x ∷ []) (ys ++ y ∷ [])
   fills_next old mid new xs ys x y f g =
@@ -220,7 +220,7 @@ module _ {A : Type 0} (blank : A → A) (literals : A → List Value) where
       let others : map blank ns ≡ map blank xs = cc in
       λ i. sym here i ∷ blank_append xs ns zs others i
 
-  -- One cannot be filled, and so the list cannot.
+  -- If one part cannot be filled, neither can the list.
   pub list_stuck : IsCounted blank literals → (old mid : Filler) (xs ys zs : List A) (x : A) → Fills (map blank) (flat_map literals) old mid xs ys
       → IsUnfillable blank literals mid x → IsUnfillable (map blank) (flat_map literals) old (xs ++ x ∷ zs)
   list_stuck counted old mid xs ys zs x f stuck meant rest tail shape h =
@@ -272,7 +272,7 @@ tuple_next old mid new xs ys x y f g = record {
   kept = λ free. λ i. f.kept (free_before mid new (g.meant ∷ []) g.fault free) i ++ g.kept free i ∷ [];
 }
 
--- ---- what was read of a list
+-- ---- the elements of a list that were read
 
 pub at_place : {X : Type 0} (xs : List X) (i : ℕ) (d : X) → i < length xs → xs ≡ take i xs ++ get_or xs i d ∷ drop (i + 1) xs
 at_place xs i d here = sym (take-append-drop i xs) ∙ ap (λ l. take i xs ++ l) (drop_more xs i d here)
@@ -280,7 +280,7 @@ at_place xs i d here = sym (take-append-drop i xs) ∙ ap (λ l. take i xs ++ l)
 pub one_read : {X : Type 0} (xs : List X) (i : ℕ) (x : X) → i < length xs → x ≡ get_or xs i x → take (i + 1) xs ≡ take i xs ++ x ∷ []
 one_read xs i x here is = take_more xs i x here ∙ ap (λ y. take i xs ++ y ∷ []) (sym is)
 
--- Where two lists are the same from a place on, so are their elements there, and what is behind it.
+-- If two lists are equal from a position on, so are the elements there and all later ones.
 pub from_here : {X : Type 0} (xs ys : List X) (i : ℕ) (d : X) → i < length xs → i < length ys → drop i ys ≡ drop i xs
     → (get_or ys i d ≡ get_or xs i d) × (drop (i + 1) ys ≡ drop (i + 1) xs)
 from_here xs ys i d here there same =

@@ -1,4 +1,4 @@
--- Literals and parts that have new values in their holes, put together.
+-- Literals and parts with new values in their holes, combined.
 use Rattle.std.proofs.Common.{◌≡◌, ◌<◌, ◌≤◌, ◌+◌, arith, ℕ, Bool, true, false, List, [], ◌∷◌, ◌++◌, Result, Ok, Err, OnOk}
 use Rattle.std.proofs.Common.{length, map, take, drop, get_or, set, refl, sym, ap, ◌∙◌, subst}
 use Rattle.std.proofs.Common.{append_assoc, append-nil}
@@ -22,7 +22,7 @@ use Rattle.mm_statement.specs.steps.Refills.{Puts, RefillsPart, RefillsUpTo, lef
 use Rattle.mm_statement.proofs.Fills.{blank_behind, from_here, one_behind, one_read}
 use Rattle.mm_lang.proofs.Readings.{fault-append, or_none_parts}
 
--- ---- nothing is left
+-- ---- nothing remains
 
 refilled_no_literals : (holes minus_ones : List Bool) (values : List Value) → refilled holes minus_ones values [] ≡ []
 refilled_no_literals [] minus_ones values = refl
@@ -38,12 +38,12 @@ left_over_no_literals (true ∷ holes) [] = refl
 left_over_no_literals (true ∷ holes) (v ∷ values) = refl
 left_over_no_literals (false ∷ holes) values = refl
 
--- What follows where a call succeeds.
+-- A property that holds if a call succeeds.
 pub then_done : {X E P Q : Type 0} (result : Result X E) → (P → Q) → OnOk result P → OnOk result Q
 then_done (Ok x) follows h = follows h
 then_done (Err e) follows h = tt
 
--- ---- literals behind others
+-- ---- literals after others
 
 pub puts_none : (old : Refiller) → Puts old old [] []
 puts_none old = record { types = refl; behind = λ rest. refl; used = λ rest. refl; within = λ h. h }
@@ -84,7 +84,7 @@ module _ {A : Type 0} (blank : A → A) (literals : A → List Value) where
   pub none_refilled : (old : Refiller) → RefillsPart (map blank) (flat_map literals) old old [] []
   none_refilled old = record { same = refl; puts = puts_none old }
 
-  -- One more has its value.
+  -- One more part has its value.
   pub next_refilled : (old mid new : Refiller) (xs ys : List A) (x y : A) → RefillsPart (map blank) (flat_map literals) old mid xs ys
       → RefillsPart blank literals mid new x y → RefillsPart (map blank) (flat_map literals) old new (xs ++ x ∷ []) (ys ++ y ∷ [])
   next_refilled old mid new xs ys x y f g = record {
@@ -95,7 +95,7 @@ module _ {A : Type 0} (blank : A → A) (literals : A → List Value) where
         (puts_both old mid new (flat_map literals xs) (literals x) (flat_map literals ys) (literals y) f.puts g.puts));
   }
 
-  -- What was not reached yet is there still.
+  -- An element that was not reached yet is unchanged.
   pub still_there : (first now : List A) (i : ℕ) → i < length first → drop i now ≡ drop i first → i < length now
   still_there first now i here left =
       let same = ap length left in
@@ -107,7 +107,7 @@ module _ {A : Type 0} (blank : A → A) (literals : A → List Value) where
     pub up_to_none : (parts : List A) → parts ≡ first → RefillsUpTo blank literals old old first parts 0
     up_to_none parts same = record { refills = none_refilled old; left = ap (drop 0) same }
 
-    -- One more part has its value where it lies, ..
+    -- One more part has its value in place, ..
     pub up_to_next : (mid new : Refiller) (now : List A) (i : ℕ) (x y : A) → i < length first → i < length now
         → RefillsUpTo blank literals old mid first now i → x ≡ get_or now i x → RefillsPart blank literals mid new x y
         → RefillsUpTo blank literals old new first (set now i y) (i + 1)
@@ -122,7 +122,7 @@ module _ {A : Type 0} (blank : A → A) (literals : A → List Value) where
           left = drop-set-lt (i + 1) now i y (omega arith) ∙ same.1;
         }
 
-    -- .. or has no hole, and stays.
+    -- .. or has no hole, and is unchanged.
     pub up_to_kept : (mid new : Refiller) (now : List A) (i : ℕ) (x : A) → i < length first → i < length now
         → RefillsUpTo blank literals old mid first now i → x ≡ get_or now i x → RefillsPart blank literals mid new x x
         → RefillsUpTo blank literals old new first now (i + 1)

@@ -1,4 +1,4 @@
--- The catalog refuses alike what differs in literals alone.
+-- Commands that differ only in their literals have the same refusals.
 use Rattle.std.proofs.Common.{◌≡◌, ℕ, Bool, false, not, ◌||◌, ◌==◌, List, [], ◌∷◌, Option, length, map, nat_lt, refl, sym, ap, ◌∙◌}
 use Rattle.std.specs.List.{flat_map, list_any}
 use Rattle.std.specs.Option.{option_map_or}
@@ -35,7 +35,7 @@ use Rattle.mm_statement.proofs.Shapes.{EachSame, IsCounted, Same, any_same, as_m
 
 -- ---- queries
 
--- An operand names the same column.
+-- An operand without its literal has the same column.
 blank_column : {F : Type 0} (o : Operand F) → column_of (blank_operand o) ≡ column_of o
 blank_column (Literal v) = refl
 blank_column (Column c) = refl
@@ -50,7 +50,7 @@ same_types : {F : Type 0} (type_at : F → Option ColType) (a b : Atom F) → Sa
     → mismatches type_at a.left a.right ≡ mismatches type_at b.left b.right
 same_types type_at a b h = same_mismatches type_at a.left b.left a.right b.right (ap (λ x. x.left) h.shape) (ap (λ x. x.right) h.shape) h.values
 
--- what refuses a query, by what its atoms say
+-- the conditions that refuse a query, by properties of its atoms
 abbrev conditions_by : Schema → Query → Bool → Bool → Bool → ℕ → List Condition
 conditions_by schema query columns aliases types count =
     record { holds = list_any (λ (item : FromItem). lacks_table item.table schema) query.from; refusal = NoSuchTable }
@@ -91,7 +91,7 @@ queries_refused_alike schema query other h =
 
 -- ---- changes
 
--- Values of the same types fit columns alike.
+-- Values of the same types have the same mismatches.
 mismatch_by_types : (columns : List Col) (us vs : List Value) → map type_of us ≡ map type_of vs → has_type_mismatch columns us ≡ has_type_mismatch columns vs
 mismatch_by_types [] us vs h = refl
 mismatch_by_types (c ∷ cs) [] [] h = refl
@@ -166,7 +166,7 @@ same_column_conditions columns es bs ts us assignments tests =
     ∷ record { holds = nat_lt 16 (count i); refusal = TooMany }
     ∷ []
 
--- what refuses a change of the table of a name, in front of what its columns say
+-- the conditions that refuse a change of a table, before those of its columns
 abbrev behind_table : Schema → List ℕ → List Condition → List Condition
 behind_table schema table conditions = record { holds = lacks_table table schema; refusal = NoSuchTable } ∷ conditions
 

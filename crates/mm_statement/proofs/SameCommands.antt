@@ -1,4 +1,4 @@
--- A command is known by its shape and its literals.
+-- A command is determined by its shape and its literals.
 use Rattle.std.proofs.Common.{◌≡◌, List, Option, Some, None, Ok, Err, length, map, refl, sym, ap, ◌∙◌}
 use Rattle.std.specs.Prelude.{Bool, Result}
 use Rattle.std.specs.List.{flat_map}
@@ -63,7 +63,7 @@ same_mutations _ _ shape same = absurd (cc)
 
 -- ---- commands
 
--- Two commands that differ in their literals alone, and have the same literals, are one.
+-- Two commands that differ only in their literals, and have the same literals, are equal.
 same_commands : (c f : Command) → blank f ≡ blank c → literals_of f ≡ literals_of c → f ≡ c
 unfolding is_fixed
 same_commands (Change m) f shape same =
@@ -81,7 +81,7 @@ same_commands (Define (define.Watch w)) f shape same =
     p.1 ∙ (λ i. Define (define.Watch (record { name = p.2 i; query = query i })))
 same_commands c f shape same = fixed_same c f refl shape
 
--- A command is filled with values in one way.
+-- A command filled with values is unique.
 pub filled_once : (holes : List Bool) (values : List Value) (command filled other : Command) → Filled holes values command filled
     → Filled holes values command other → filled ≡ other
 filled_once holes values command filled other h k = same_commands other filled (h.same ∙ sym k.same) (h.literals ∙ sym k.literals)
@@ -91,7 +91,7 @@ filled_once holes values command filled other h k = same_commands other filled (
 past_none : (o : Option Refusal) (refusal : Refusal) → o ≡ None → o ≡ Some refusal → ⊥
 past_none o refusal none some = let both : ◌≡◌ {A = Option Refusal} None (Some refusal) = sym none ∙ some in cc
 
--- So a filling has one result.
+-- The result of filling is unique.
 pub filling_once : (holes : List Bool) (values : List Value) (command : Command) (result other : Result Command Refusal)
     → IsFilling holes values command result → IsFilling holes values command other → result ≡ other
 filling_once holes values command (Ok filled) (Ok other) h k = ap (λ c. Ok c) (filled_once holes values command filled other h.0 k.0)

@@ -1,10 +1,10 @@
--- Things that differ in their literals alone.
+-- Values that differ only in their literals.
 use Rattle.std.proofs.Common.{◌≡◌, Bool, ◌||◌, List, [], ◌∷◌, ◌++◌, length, map, refl, sym, ap, ◌∙◌}
 use Rattle.std.specs.List.{All, AllByRecursion, flat_map, list_any}
 use Rattle.std.proofs.lemmas.List.Elements.{All-from_recursion, recursion_from_All}
 use Rattle.std.proofs.lemmas.List.{append-nil, append_assoc, map-append}
 
--- Where two lists begin with as many elements, and are equal, so are these, and what is behind them.
+-- If two equal lists are each split after equally many elements, the parts are equal.
 pub same_parts : {V : Type 0} (es bs xs ys : List V) → length es ≡ length bs → es ++ xs ≡ bs ++ ys → (es ≡ bs) × (xs ≡ ys)
 same_parts [] [] xs ys count same = (refl, same)
 same_parts [] (b ∷ bs) xs ys count same = absurd (cc)
@@ -16,7 +16,7 @@ same_parts (a ∷ es) (b ∷ bs) xs ys count same =
     let head : a ≡ b = cc in
     (λ i. head i ∷ h.0 i, h.1)
 
--- What is made of each literal of some things, and of what is behind them.
+-- A function of each literal of some values, and of further literals.
 pub map_all : {A V W : Type 0} (f : V → W) (literals : A → List V) (es : List A) (xs : List V)
     → map f (flat_map literals es ++ xs) ≡ flat_map (λ a. map f (literals a)) es ++ map f xs
 map_all f literals [] xs = refl
@@ -32,24 +32,24 @@ map_each f literals es =
     ∙ map_all f literals es []
     ∙ append-nil (flat_map (λ a. map f (literals a)) es)
 
--- Two things have the same shape and the same literals.
+-- Two values have the same shape and the same literals.
 pub record Same {A V : Type 0} (blank : A → A) (literals : A → List V) (a b : A) : Type 0 where
   pub shape : blank a ≡ blank b
   pub values : literals a ≡ literals b
 
--- So have those of two lists, in pairs.
+-- The values of two lists have the same shapes and literals, in pairs.
 abbrev pub EachSame : {A V : Type 0} → (A → A) → (A → List V) → List A → List A → Type 0
 EachSame blank literals [] [] = Unit {0}
 EachSame blank literals [] (b ∷ bs) = ⊥
 EachSame blank literals (a ∷ es) [] = ⊥
 EachSame blank literals (a ∷ es) (b ∷ bs) = Same blank literals a b × EachSame blank literals es bs
 
--- Things of the same shape have as many literals.
+-- Values of the same shape have equally many literals.
 abbrev pub IsCounted : {A V : Type 0} → (A → A) → (A → List V) → Type 0
 IsCounted {A} blank literals = (a b : A) → blank a ≡ blank b → length (literals a) ≡ length (literals b)
 
 module _ {A V : Type 0} (blank : A → A) (literals : A → List V) where
-  -- Lists of the same shape with the same literals are the same in pairs, and so is what stands behind the literals.
+  -- Lists of the same shape with the same literals have them in pairs, and the literals that follow are equal.
   pub each_same : IsCounted blank literals → (es bs : List A) (xs ys : List V) → map blank es ≡ map blank bs
       → flat_map literals es ++ xs ≡ flat_map literals bs ++ ys → EachSame blank literals es bs × (xs ≡ ys)
   each_same counted [] [] xs ys shape same = (tt, same)
@@ -69,7 +69,7 @@ module _ {A V : Type 0} (blank : A → A) (literals : A → List V) where
   each_same_all counted es bs shape same =
       (each_same counted es bs [] [] shape (append-nil (flat_map literals es) ∙ same ∙ sym (append-nil (flat_map literals bs)))).0
 
-  -- A test that finds two such things alike finds the lists alike.
+  -- A test with the same result for two such values has the same result for the lists.
   pub any_same : (p : A → Bool) → ((a b : A) → Same blank literals a b → p a ≡ p b) → (es bs : List A) → EachSame blank literals es bs
       → list_any p es ≡ list_any p bs
   any_same p alike [] [] h = refl
@@ -77,14 +77,14 @@ module _ {A V : Type 0} (blank : A → A) (literals : A → List V) where
   any_same p alike (a ∷ es) [] h = absurd h
   any_same p alike (a ∷ es) (b ∷ bs) h = λ i. alike a b h.0 i || any_same p alike es bs h.1 i
 
-  -- Where two such things are equal, so are the lists.
+  -- If two such values are equal, so are the lists.
   pub equal_each : ((a b : A) → Same blank literals a b → a ≡ b) → (es bs : List A) → EachSame blank literals es bs → es ≡ bs
   equal_each equal [] [] h = refl
   equal_each equal [] (b ∷ bs) h = absurd h
   equal_each equal (a ∷ es) [] h = absurd h
   equal_each equal (a ∷ es) (b ∷ bs) h = λ i. equal a b h.0 i ∷ equal_each equal es bs h.1 i
 
-  -- There are as many of them.
+  -- Such lists have the same length.
   pub as_many : (es bs : List A) → EachSame blank literals es bs → length es ≡ length bs
   as_many [] [] h = refl
   as_many [] (b ∷ bs) h = absurd h
@@ -101,6 +101,6 @@ module _ {A : Type 0} (blank : A → A) (P : A → Type 0) (carried : (a b : A) 
       let others : map blank es ≡ map blank bs = cc in
       (carried a b here all.0, carried_each es bs others all.1)
 
-  -- What holds of things by their shape alone holds of all things of a list of the same shape.
+  -- A property that depends on the shape alone holds of all values in a list of the same shape.
   pub carried_all : (es bs : List A) → map blank es ≡ map blank bs → All P es → All P bs
   carried_all es bs shape all = All-from_recursion P bs (carried_each es bs shape (recursion_from_All P es all))

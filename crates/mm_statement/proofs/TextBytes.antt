@@ -1,4 +1,4 @@
--- The tokens of a line that has texts in the place of its holes.
+-- The tokens of a line with literals in place of its holes.
 use Rattle.std.proofs.Common.{◌≡◌, ⊎_elim, ℕ, Bool, true, false, not, ◌&&◌, cond, eqb, List, [], ◌∷◌, ◌++◌}
 use Rattle.std.proofs.Common.{refl, sym, ap, subst, ◌∙◌}
 use Rattle.std.specs.List.{AllZip}
@@ -73,9 +73,9 @@ text_in_place b (Quoted text ∷ ts) texts h = refl
 text_in_place b (Hole ∷ ts) texts h = absurd (false≢true (sym h))
 text_in_place b (t ∷ ts) texts h = refl
 
--- ---- what tokens begin with
+-- ---- the first token
 
--- A word is no hole, ..
+-- A word is not a hole, ..
 word_begins : (b : ℕ) (joins : Bool) (ts : List Token) → begins_hole (onto_word b joins ts) ≡ false
 unfolding begins_hole
 word_begins b true [] = refl
@@ -94,13 +94,13 @@ word_no_hole : (bs : List ℕ) → begins_word bs ≡ true → begins_hole (toke
 word_no_hole [] is = absurd (false≢true is)
 word_no_hole (b ∷ bs) is = ap begins_hole (word_step b bs is) ∙ word_begins b (begins_word bs) (tokens bs)
 
--- .. nor an equals sign, ..
+-- .. nor is an equals sign, ..
 equal_no_hole : (bs : List ℕ) → begins_equal bs ≡ true → begins_hole (tokens bs) ≡ false
 unfolding lexed begins_hole
 equal_no_hole [] is = absurd (false≢true is)
 equal_no_hole (b ∷ bs) is = ap (λ c. begins_hole (tokens (c ∷ bs))) (eqb-true b 61 is)
 
--- .. nor a text.
+-- .. nor is a text.
 onto_no_hole : (b : ℕ) (ts : List Token) → begins_hole ts ≡ false → begins_hole (onto_text b ts) ≡ false
 unfolding begins_hole
 onto_no_hole b [] h = refl
@@ -121,14 +121,14 @@ text_no_hole (b ∷ c ∷ bs) =
     (either_no_hole (eqb c 39) _ _ (onto_no_hole 39 (lexed Inside bs) (text_no_hole bs)) refl)
     (onto_no_hole b (lexed Inside (c ∷ bs)) (text_no_hole (c ∷ bs))))
 
--- ---- bytes with texts in the place of holes
+-- ---- bytes with literals in place of holes
 
--- a quote stands next
+-- the first byte is a quote
 unfoldable pub begins_quote : List ℕ → Bool
 begins_quote [] = false
 begins_quote (b ∷ bs) = eqb b 39
 
--- The bytes are this token, where nothing goes on with it behind them.
+-- The bytes are this token, if the following bytes do not continue it.
 abbrev pub IsTokenText : List ℕ → Token → Type 0
 IsTokenText text token =
     (rest : List ℕ) → begins_word rest ≡ false → begins_quote rest ≡ false → tokens (text ++ rest) ≡ token ∷ tokens rest
@@ -157,7 +157,7 @@ first_equal (b ∷ bs) text texts = by (eqb b 63) refl
     by true is = sym (ap (λ c. eqb c 61) (eqb-true b 63 is))
     by false is = refl
 
--- A byte outside of a text, and what follows it with texts in place of holes.
+-- A byte outside a text, and the following bytes with literals in place of holes.
 module _ (b : ℕ) (bs fs : List ℕ) (texts : List Token) (same : tokens fs ≡ in_place (tokens bs) texts) (words : begins_word fs ≡ begins_word bs)
     (equals : begins_equal fs ≡ begins_equal bs) where
   onto_equal_same : (alone joined : Symbol)
@@ -227,7 +227,7 @@ text_goes_on b c bs other = ap (λ l. cond (eqb b 10) (Unreadable ∷ []) l) (co
 -- ---- all bytes
 
 module _ (x : List ℕ) (texts : List (List ℕ)) (t : Token) (said : List Token) where
-  -- What is read of bytes with texts in the place of holes.
+  -- The tokens of bytes with literals in place of holes.
   abbrev IsSame : Place → List ℕ → Type 0
   IsSame place bs = lexed place (filled_bytes place bs (x ∷ texts)) ≡ in_place (lexed place bs) (t ∷ said)
 
@@ -285,7 +285,7 @@ module _ (x : List ℕ) (texts : List (List ℕ)) (t : Token) (said : List Token
       (λ other. inner_same b c bs other inside)
       (cases_Bool (eqb b 39))
 
--- The tokens of bytes with texts in the place of holes are the tokens of these texts in their place.
+-- The tokens of bytes with literals in place of holes are the tokens with those literals in place of holes.
 pub bytes_same : (place : Place) (bs : List ℕ) (texts : List (List ℕ)) (said : List Token) → AllZip IsTokenText texts said
     → lexed place (filled_bytes place bs texts) ≡ in_place (lexed place bs) said
 unfolding filled_bytes lexed in_place
@@ -302,13 +302,13 @@ bytes_same Inside (b ∷ c ∷ bs) (x ∷ texts) (t ∷ said) h =
     bytes_inside x texts t said b c bs (bytes_same Inside bs (x ∷ texts) (t ∷ said) h) (bytes_same Outside (c ∷ bs) (x ∷ texts) (t ∷ said) h)
     (bytes_same Inside (c ∷ bs) (x ∷ texts) (t ∷ said) h)
 
--- ---- the signs in front of holes
+-- ---- the signs before holes
 
 unfoldable pub is_signed : Token → Bool
 is_signed (Signed w) = true
 is_signed t = false
 
--- the token has a minus where its text has one
+-- the token has a minus if and only if its bytes do
 abbrev pub HasSign : List ℕ → Token → Type 0
 HasSign text token = is_signed token ≡ begins_minus text
 
@@ -326,7 +326,7 @@ signed_in_place : (s o : Symbol) (text : List ℕ) (t : Token) (us : List Token)
 signed_in_place s o text t us kept sign keeps =
     behind_plain s o t us (sign ∙ not_true (begins_minus text) (and_parts (not (begins_minus text)) kept keeps).0)
 
--- Where no text with a minus stands behind a sign, texts are in the place of holes as they are.
+-- If no literal with a minus follows a sign, the literals replace holes unchanged.
 pub kept_signs : (ts : List Token) (texts : List (List ℕ)) (said : List Token) → AllZip HasSign texts said → keeps_signs ts texts ≡ true
     → in_place ts said ≡ with_texts ts said
 unfolding in_place

@@ -1,4 +1,4 @@
--- Commands that are spelled with texts in the place of holes.
+-- The spelling of commands with literals in place of holes.
 use Rattle.std.proofs.Common.{◌≡◌, ℕ, Bool, true, false, List, [], ◌∷◌, ◌++◌, Option, Some, None, map, refl, sym, ap, ◌∙◌, subst}
 use Rattle.std.specs.List.{AllZip, cons_option, flat_map}
 use Rattle.mm_schema.specs.Name.{IsName}
@@ -27,7 +27,7 @@ use Rattle.mm_statement.proofs.TextSpellings.{ArePlain, among, assignment_respel
 use Rattle.mm_statement.proofs.TextSpellings.{respelled_alone, tests_respell, tuple_respells}
 use Rattle.mm_statement.proofs.TextTokens.{AreReadable, among_texts, texts_readable}
 
--- ---- commands in which no literal stands
+-- ---- commands without literals
 
 unfoldable pub is_fixed : Command → Bool
 is_fixed (Define (define.Watch watched)) = false
@@ -68,7 +68,7 @@ behind_none : (o : Option Value) (literals : List Value) → cons_option o liter
 behind_none None literals h = h
 behind_none (Some v) literals h = absurd (cc)
 
--- Tokens of which none is a literal have no holes.
+-- Tokens without literals have no holes.
 no_holes : (ts texts : List Token) → literals_among ts ≡ [] → with_texts ts texts ≡ ts
 no_holes [] texts h = refl
 no_holes (Mark Plus ∷ Hole ∷ ts) texts h = absurd (cc)
@@ -109,7 +109,7 @@ same_watch _ w h = absurd (cc)
 
 -- ---- changes of rows
 
--- The literals behind a keyword and a name.
+-- The literals after a keyword and a name.
 named_left : (k : Keyword) (name : List ℕ) (us : List Token) → literal_of (word k) ≡ None → IsName name → among (word k ∷ Word name ∷ us) ≡ among us
 named_left k name us none named = plain_among (word k ∷ Word name ∷ []) us ((tt, none), ((tt, name_no_literal name named), tt))
 
@@ -181,7 +181,7 @@ module _ (ts texts : List Token) (r : AreReadable texts) where
         is ∙ ap (λ n. word keyword.Watch ∷ Word n ∷ word keyword.Select ∷ with_texts h.0 texts) (sym names),
       )
 
-  -- The command that differs in its literals alone and has those among the tokens is the one that they spell.
+  -- The tokens spell the command that differs only in its literals and has those among the tokens.
   command_respelled : (c f : Command) → SpellsCommand ts c → (is_fixed c ≡ true → with_texts ts texts ≡ ts) → blank f ≡ blank c
       → among (with_texts ts texts) ≡ literals_of f → SpellsCommand (with_texts ts texts) f
   unfolding is_fixed
@@ -201,7 +201,7 @@ module _ (ts texts : List Token) (r : AreReadable texts) where
       let is : f ≡ c = fixed_same c f refl same in
       subst (λ l. SpellsCommand l f) (sym (fixed refl)) (subst (SpellsCommand ts) (sym is) h)
 
--- A filled command is read from the tokens that have texts of its values in the place of the holes.
+-- A filled command is read from the tokens with literals of its values in place of the holes.
 pub filled_read : (ts texts : List Token) (values : List Value) (command filled : Command) → command_of ts ≡ Some command → AllZip IsText texts values
     → Filled (holes_among ts) values command filled → command_of (with_texts ts texts) ≡ Some filled
 filled_read ts texts values c f read stand h =

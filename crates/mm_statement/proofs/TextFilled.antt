@@ -1,4 +1,4 @@
--- Lines with texts of values in the place of their holes.
+-- Lines with literals of values in place of their holes.
 use Rattle.std.proofs.Common.{cond, ◌≡◌, ◌≤◌, ⊎_elim, ℕ, Bool, true, false, ltb, List, [], ◌∷◌, None, Some, Ok, Err}
 use Rattle.std.proofs.Common.{length, refl, sym, ap, subst, ◌∙◌}
 use Rattle.std.specs.Prelude.{Option, Result}
@@ -27,7 +27,7 @@ use Rattle.mm_statement.proofs.TextLines.{command_begins, template_reads, word_i
 use Rattle.mm_statement.proofs.TextPieces.{pieces_of}
 use Rattle.mm_statement.proofs.TextSigns.{command_once, nothing_kept, turned_twice}
 
--- The tokens of a line with texts in the place of its holes.
+-- The tokens of a line with literals in place of its holes.
 filled_tokens : (line : List ℕ) (texts : List (List ℕ)) (said : List Token) → AllZip IsTokenText texts said → AllZip HasSign texts said
     → keeps_signs (tokens line) texts ≡ true → tokens (filled_line line texts) ≡ with_texts (tokens line) said
 filled_tokens line texts said fronts signs keeps = bytes_same Outside line texts said fronts ∙ kept_signs (tokens line) texts said signs keeps
@@ -37,7 +37,7 @@ nothing_fault f is h =
     let none : ◌≡◌ {A = Option Refusal} None (Some NumberOutOfRange) = sym (ap (λ c. first_fault (literals_of c)) is) ∙ h in
     cc
 
--- An empty line and a comment are filled with nothing.
+-- An empty line and a comment have nothing to fill.
 nothing_filled : (values : List Value) (result : Result Command Refusal) → IsFilling [] values Nothing result → result ≡ Ok Nothing
 unfolding is_fixed
 nothing_filled values (Ok f) h = ap (λ c. Ok c) (fixed_same Nothing f refl h.0.same)
@@ -58,7 +58,7 @@ nothing_read line short nothing =
       cond-false (ltb 4096 (length line)) _ _ long ∙ cond-true (is_nothing line) _ _ nothing,
     )
 
--- A line with texts of values in the place of its holes reads as the filling.
+-- A line with literals of values in place of its holes reads as the result of filling.
 pub filled_line_reads : (line : List ℕ) (texts : List (List ℕ)) (values : List Value) (c : Command) (result : Result Command Refusal)
     → template_of line ≡ Ok c → AllZip Spells texts values → length values ≡ hole_count (holes_of line) → keeps_signs (tokens line) texts ≡ true
     → length (filled_line line texts) ≤ 4096 → IsFilling (holes_of line) values c result → reading (filled_line line texts) ≡ result
@@ -80,7 +80,7 @@ filled_line_reads line texts values c result read stand enough keeps short h =
     (filled_tokens line texts p.said p.fronts p.signs keeps) result h)
     (cases_Bool (is_nothing line))
 
--- It reads as no other command.
+-- The line reads as no other command.
 pub filled_line_only : (line : List ℕ) (texts : List (List ℕ)) (values : List Value) (c f : Command)
     → template_of line ≡ Ok c → AllZip Spells texts values → length values ≡ hole_count (holes_of line) → keeps_signs (tokens line) texts ≡ true
     → length (filled_line line texts) ≤ 4096 → reading (filled_line line texts) ≡ Ok f → Filled (holes_of line) values c f
@@ -110,7 +110,7 @@ none_either : (is : Bool) (o : Option Command) → o ≡ None → cond is None o
 none_either true o none = refl
 none_either false o none = none
 
--- Tokens with texts that have a minus behind a sign are no command.
+-- Tokens with a minus literal after a sign are no command.
 turned_unread : (ts : List Token) (texts : List (List ℕ)) (said : List Token) → AllZip HasSign texts said → keeps_signs ts texts ≡ false
     → command_of (in_place ts said) ≡ None
 turned_unread ts texts said signs turned = by (command_of (in_place ts said)) refl
@@ -127,7 +127,7 @@ placed_is_something bytes ts said c is read =
     let p = command_begins ts c read in
     word_is_something bytes p.0 (in_place p.1 said) (is ∙ ap (λ l. in_place l said) p.2)
 
--- A line with a text that has a minus behind a sign is no command.
+-- A line with a minus literal after a sign is no command.
 pub turned_line_refused : (line : List ℕ) (texts : List (List ℕ)) (values : List Value) (c : Command) → template_of line ≡ Ok c
     → AllZip Spells texts values → length values ≡ hole_count (holes_of line) → keeps_signs (tokens line) texts ≡ false
     → length (filled_line line texts) ≤ 4096 → reading (filled_line line texts) ≡ Err Syntax

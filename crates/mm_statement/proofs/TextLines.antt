@@ -1,4 +1,4 @@
--- Lines that have texts in the place of the holes of another line.
+-- Lines with literals in place of the holes of another line.
 use Rattle.std.proofs.Common.{◌≡◌, ◌≤◌, ℕ, suc, Bool, true, false, not, ◌&&◌, ◌||◌, cond, eqb, ltb, List, [], ◌∷◌, Option, Some, None, Ok, Err}
 use Rattle.std.proofs.Common.{length, neg_ℤ, one-add, pos, refl, sym, ap, subst, ◌∙◌, arith}
 use Rattle.std.specs.Prelude.{Result, count_by}
@@ -30,9 +30,9 @@ use Rattle.mm_statement.proofs.TextQueries.{read_filled}
 use Rattle.mm_statement.proofs.TextTokens.{AreReadable, texts_readable}
 use Rattle.mm_lang.proofs.Preparing.{read_some}
 
--- ---- no hole is left
+-- ---- no hole remains
 
--- how many holes there are
+-- the number of holes
 abbrev pub hole_count : List Bool → ℕ
 hole_count holes = count_by (λ hole. hole) holes
 
@@ -50,7 +50,7 @@ behind_minus_no_hole (Signed w) v us h = refl
 behind_minus_no_hole Hole v us h = absurd h
 behind_minus_no_hole t v us h = refl
 
--- A literal that is no hole is not counted.
+-- A literal that is not a hole is not counted.
 not_counted : (is_number : Bool) (v : Value) (holes : List Bool)
     → hole_count (cons_option (option_map (λ (x : Value). false) (cond is_number (Some v) None)) holes) ≡ hole_count holes
 not_counted true v holes = refl
@@ -65,7 +65,7 @@ one_less holes n h = omega (arith, h, one_counted holes)
 none_less : (holes : List Bool) → hole_count (true ∷ holes) ≤ 0 → ⊥
 none_less holes h = omega (arith, h, one_counted holes)
 
--- Where there is a text for each hole, none is left.
+-- With a literal for each hole, none remains.
 pub no_hole_left : (ts texts : List Token) → AreReadable texts → hole_count (holes_among ts) ≤ length texts → has_hole (with_texts ts texts) ≡ false
 no_hole_left [] texts r enough = refl
 no_hole_left (Mark Plus ∷ Hole ∷ ts) (t ∷ texts) r enough =
@@ -133,7 +133,7 @@ command_is_something bs ts texts c is read =
     let p = command_begins ts c read in
     word_is_something bs p.0 (with_texts p.1 texts) (is ∙ ap (λ l. with_texts l texts) p.2)
 
--- ---- what lines read as
+-- ---- the reading of lines
 
 template_some : (ts : List Token) (o : Option Command) (c : Command)
     → option_and_then (λ d. cond (has_hole ts && not (may_have_holes d)) None (Some d)) o ≡ Some c → o ≡ Some c
@@ -161,7 +161,7 @@ plain_reads bs short some plain =
     cond-false (ltb 4096 (length bs)) _ _ (le-ltb 4096 (length bs) short) ∙ cond-false (is_nothing bs) _ _ some
     ∙ ap read_as (cond-false (has_hole (tokens bs)) _ _ plain)
 
--- What tokens read as, with texts in the place of holes, is the filling.
+-- Tokens with literals in place of holes read as the result of filling.
 filling_read : (ts texts : List Token) (values : List Value) (c : Command) (result : Result Command Refusal) → command_of ts ≡ Some c
     → AllZip IsText texts values → IsFilling (holes_among ts) values c result → read_as (command_of (with_texts ts texts)) ≡ result
 filling_read ts texts values c (Ok f) read stand h = ap read_as (filled_read ts texts values c f read stand h.0) ∙ ap (unless f) h.1
@@ -174,7 +174,7 @@ filling_read ts texts values c (Err NumberOutOfRange) read stand h =
     ap read_as (filled_read ts texts values c h.0 read stand h.1) ∙ ap (unless h.0) h.2
 filling_read ts texts values c (Err refusal) read stand h = absurd h
 
--- A command that the tokens read as, with texts in the place of holes, is the filled one.
+-- A command that the tokens read as, with literals in place of holes, is the filled one.
 filled_only : (ts texts : List Token) (values : List Value) (c f : Command) → command_of ts ≡ Some c → AllZip IsText texts values
     → read_as (command_of (with_texts ts texts)) ≡ Ok f → Filled (holes_among ts) values c f
 filled_only ts texts values c f read stand is =
@@ -186,7 +186,7 @@ module _ (line written : List ℕ) (texts : List Token) (values : List Value) (c
   of_tokens : holes_of line ≡ holes_among (tokens line)
   of_tokens = cond-false (is_nothing line) _ _ some
 
-  -- A line whose tokens are those of a line with holes, with texts in their place, reads as these tokens.
+  -- A line with the tokens of another line, with literals in place of holes, reads as these tokens.
   written_reads : reading written ≡ read_as (command_of (with_texts (tokens line) texts))
   written_reads =
       let read = template_reads line c some e in
@@ -201,7 +201,7 @@ module _ (line written : List ℕ) (texts : List Token) (values : List Value) (c
       same_length (t ∷ texts) [] h = absurd h
       same_length (t ∷ texts) (v ∷ values) h = ap suc (same_length texts values h.1)
 
-  -- So it reads as the filling, ..
+  -- So it reads as the result of filling, ..
   pub line_reads : (result : Result Command Refusal) → IsFilling (holes_of line) values c result → reading written ≡ result
   line_reads result h =
       written_reads

@@ -1,4 +1,4 @@
--- Phrases that read tokens with holes, and with texts in their place.
+-- Phrases that read tokens with holes, and with literals in their place.
 use Rattle.std.proofs.Common.{◌≡◌, ◌⊎◌, inl, inr, ⊎_elim, ℕ, zero, suc, Bool, true, false, cond, List, [], ◌∷◌, Option, Some, None, length, map, refl, sym}
 use Rattle.std.proofs.Common.{ap, ◌∙◌}
 use Rattle.std.proofs.Common.{subst}
@@ -24,25 +24,25 @@ use Rattle.mm_statement.proofs.TextTokens.{AreReadable}
 
 -- ---- phrases on both sides
 
--- What is left of one side is what is left of the other, with the texts that are left in the place of its holes.
+-- The remaining tokens of the two sides: those of the second have the remaining literals in place of the holes of the first.
 pub record Left (us ws : List Token) : Type 0 where
   pub texts : List Token
   pub readable : AreReadable texts
   pub split : ws ≡ with_texts us texts
 
--- A hole stands next.
+-- The next token is a hole.
 abbrev pub IsHoled : List Token → Type 0
 IsHoled (Hole ∷ ts) = Unit {0}
 IsHoled ts = ⊥
 
--- What two phrases read, one with holes and the other with texts in their place, differs in its literals alone, and so does what is
--- left; unless a hole is left behind a place where it may not stand.
+-- Two phrases read alike, one from tokens with holes and the other with literals in their place: their values differ only in their
+-- literals, and their remaining tokens correspond. The exception is that the next remaining token is a hole.
 abbrev pub ReadAlike : {A : Type 0} → Phrase A → Phrase A → (A → A) → Type 0
 ReadAlike {A} phrase other blank =
     (ts texts : List Token) (x y : A) (us ws : List Token) → AreReadable texts → phrase ts ≡ Some (x, us)
     → other (with_texts ts texts) ≡ Some (y, ws) → ((blank y ≡ blank x) × Left us ws) ⊎ IsHoled us
 
--- Where a hole stands next, the phrase reads nothing, if it reads at all.
+-- Before a hole the phrase reads nothing, if it matches at all.
 abbrev pub StopsAtHole : {A : Type 0} → Phrase A → Type 0
 StopsAtHole {A} phrase = (ts : List Token) (x : A) (us : List Token) → phrase (Hole ∷ ts) ≡ Some (x, us) → IsHoled us
 
@@ -54,7 +54,7 @@ stopped : {A : Type 0} (phrase : Phrase A) → StopsAtHole phrase → (ms : List
 stopped phrase stops (Hole ∷ ts) x us h e = stops ts x us e
 stopped phrase stops _ x us h e = absurd h
 
--- What is read on both sides, where that is known.
+-- The results on both sides, if they are known.
 pub settled : {A : Type 0} (phrase other : Phrase A) (blank : A → A) (ts vs : List Token) (x y : A) (us ws : List Token) → blank y ≡ blank x → Left us ws
     → phrase ts ≡ Some (x, us) → other vs ≡ Some (y, ws) → (v w : A) (us ws : List Token) → phrase ts ≡ Some (v, us) → other vs ≡ Some (w, ws)
     → ((blank w ≡ blank v) × Left us ws) ⊎ IsHoled us
@@ -85,7 +85,7 @@ module _ {A B : Type 0} (first first_other : Phrase A) (next next_other : A → 
 
 -- ---- phrases that read the same on both sides
 
--- what was read, and what is left with texts
+-- the value that was read, and the remaining tokens with literals
 abbrev moved : {A : Type 0} → List Token → Front A → Front A
 moved texts r = (r.0, with_texts r.1 texts)
 
@@ -94,7 +94,7 @@ ReadsSame {A} phrase = (ts texts : List Token) → AreReadable texts → phrase 
 
 module _ {A B : Type 0} (first : Phrase A) (next next_other : A → Phrase B) (blank : B → B) (same : ReadsSame first)
     (nexts : (x : A) → ReadAlike (next x) (next_other x) blank) where
-  -- A phrase behind one that reads the same on both sides.
+  -- A phrase after one that reads the same on both sides.
   pub same_alike : ReadAlike (first >>= next) (first >>= next_other) blank
   same_alike ts texts v w us ws r e f =
       let p = then_parts first next ts v us e in
@@ -102,7 +102,7 @@ module _ {A B : Type 0} (first : Phrase A) (next next_other : A → Phrase B) (b
       let s = said_same q.0 p.0 q.1 (with_texts p.1 texts) (sym q.2 ∙ same ts texts r ∙ ap (option_map (moved texts)) p.2) in
       nexts p.0 p.1 texts v w us ws r p.3 (ap (next_other p.0) (sym s.1) ∙ ap (λ x. next_other x q.1) (sym s.0) ∙ q.3)
 
--- The token says nothing where it is a hole, a sign or a text of a value.
+-- The function has no value for a hole, a sign or a literal of a value.
 pub record IsBlind {A : Type 0} (says : Token → Option A) : Type 0 where
   pub hole : says Hole ≡ None
   pub plus : says (Mark Plus) ≡ None
@@ -154,7 +154,7 @@ symbol_blind s plus minus = record { hole = refl; plus = plus; minus = minus; te
     text (Mark s) v h = absurd h
     text t v h = refl
 
--- No digits say what the word says.
+-- A function of words that has no value for digits.
 pub word_blind : {A : Type 0} (says : List ℕ → Option A) → ((w : List ℕ) → IsNumeral w → says w ≡ None) → IsBlind (λ t. option_and_then says (word_of t))
 word_blind {A} says none = record { hole = refl; plus = refl; minus = refl; text = text }
   where
@@ -182,7 +182,7 @@ keyword_of_digits k letters w numeral =
 pub keyword_same : (k : Keyword) → is_numeral (keyword_text k) ≡ false → ReadsSame (the_keyword k)
 keyword_same k letters = one_same (λ t. option_and_then (the_word k) (word_of t)) (word_blind (the_word k) (keyword_of_digits k letters))
 
--- whether a keyword was found in front of tokens
+-- the result of reading a keyword
 found : List Token → Option (Front (Unit {0})) → Option (Front Bool)
 found ts o = option_or (option_and_then (λ (r : Front (Unit {0})). say true r.1) o) (Some (false, ts))
 
@@ -215,7 +215,7 @@ dot_same = one_same (is_mark Dot) (symbol_blind Dot refl refl)
 pub equal_same : ReadsSame (the_symbol Equal)
 equal_same = one_same (is_mark Equal) (symbol_blind Equal refl refl)
 
--- ---- phrases of such phrases
+-- ---- combinations of such phrases
 
 pub say_same : {A : Type 0} (x : A) → ReadsSame (say x)
 say_same x ts texts r = refl
@@ -243,7 +243,7 @@ length_texts (t ∷ ts) texts = ap suc (length_texts ts texts)
 
 module _ {A : Type 0} (separator : Phrase (Unit {0})) (item : Phrase A) (blank : A → A) (same : ReadsSame separator)
     (ends : (ts : List Token) → separator (Hole ∷ ts) ≡ None) (items : ReadAlike item item blank) where
-  -- other items behind the first
+  -- the items after the first
   others : ℕ → Phrase (List A)
   others n ts = behind_item (separator ts) (at_most n separator item) ts
 

@@ -1,4 +1,4 @@
--- Texts of values are tokens of their own.
+-- Literals of values are single tokens.
 use Rattle.std.proofs.Common.{append-nil, ◌≡◌, ◌≢◌, inl, inr, ⊎_elim, ℕ, Bool, true, false, ◌&&◌, ◌||◌, eqb, leb, ltb, List, [], ◌∷◌, ◌++◌}
 use Rattle.std.proofs.Common.{length, refl, sym, ap, subst, ◌∙◌}
 use Rattle.std.specs.Char.{is_ascii_digit}
@@ -48,7 +48,7 @@ digits_begin [] rest numeral = absurd (false≢true numeral)
 digits_begin (d ∷ ds) rest numeral =
     word_of_digit d (and_parts (is_ascii_digit d) (list_all is_ascii_digit ds) (all_digits (d ∷ ds) numeral)).0
 
--- .. and with a minus in front a signed one.
+-- .. and after a minus a signed one.
 minus_front : (ds : List ℕ) → IsNumeral ds → IsTokenText (45 ∷ ds) (Signed ds)
 unfolding lexed
 minus_front ds numeral rest ends single =
@@ -68,7 +68,7 @@ unfolding lexed
 text_byte b [] one_line other = cond-false (eqb b 39) _ _ other
 text_byte b (c ∷ bs) one_line other = cond-false (eqb b 10) _ _ (ne_eqb b 10 one_line) ∙ cond-false (eqb b 39) _ _ other
 
--- what is behind the opening quote
+-- the bytes after the opening quote
 closed : List ℕ → List ℕ → List ℕ
 closed text rest = (doubled text ++ 39 ∷ []) ++ rest
 
@@ -91,7 +91,7 @@ quoted_front text one_line rest ends single = closed_front text rest (recursion_
 
 -- ---- values
 
--- A text of a value, as a token.
+-- A literal of a value, as a token.
 record Piece (text : List ℕ) (v : Value) : Type 0 where
   token : Token
   is_text : IsText token v
@@ -106,7 +106,7 @@ piece_of text (Int z) (inr h) =
 piece_of text (Text said) h =
     subst (λ l. Piece l (Text said)) (sym h.0) (record { token = Quoted said; is_text = refl; front = quoted_front said h.1; sign = refl })
 
--- Texts of values, as tokens.
+-- Literals of values, as tokens.
 pub record Pieces (texts : List (List ℕ)) (values : List Value) : Type 0 where
   pub said : List Token
   pub are_texts : AllZip IsText said values
@@ -122,7 +122,7 @@ pieces_of (x ∷ texts) (v ∷ values) h =
     let q = pieces_of texts values h.1 in
     record { said = p.token ∷ q.said; are_texts = (p.is_text, q.are_texts); fronts = (p.front, q.fronts); signs = (p.sign, q.signs) }
 
--- The bytes of a literal are a token, which is a text of its value.
+-- The bytes of a literal are one token, which denotes its value.
 pub text_token : (text : List ℕ) (v : Value) → Spells text v → (t : Token) × IsText t v × (tokens text ≡ t ∷ [])
 unfolding lexed begins_quote
 text_token text v h =

@@ -1,4 +1,4 @@
--- Queries and commands, as they are read with holes and with texts in their place.
+-- Queries and commands, read with holes and with literals in their place.
 use Rattle.std.proofs.Common.{◌≡◌, inl, inr, ⊎_elim, ℕ, Bool, cond, List, [], ◌∷◌, Option, Some, None, map, refl, sym, ap, subst, ◌∙◌}
 use Rattle.std.specs.List.{AllZip}
 use Rattle.std.specs.Option.{option_map, option_and_then, option_or}
@@ -118,7 +118,7 @@ item_same : ReadsSame from_item
 unfolding from_item after_table say_item
 item_same = then_same name after_table name_same (λ t. then_same name (say_item t) name_same (λ a. say_same (record { table = t; alias = a })))
 
--- as it is
+-- unchanged
 abbrev itself : {A : Type 0} → A → A
 itself x = x
 
@@ -232,7 +232,7 @@ query_alike =
 
 -- ---- commands
 
--- a query alone behind what makes a command of it
+-- a query after the keywords of a command
 made_alike : (make_x make_y : Query → Command) → ((x y : Query) → blank_query y ≡ blank_query x → blank (make_y y) ≡ blank (make_x x))
     → ReadAlike (query >>= (λ q. say (make_x q))) (query >>= (λ q. say (make_y q))) blank
 made_alike make_x make_y shaped =
@@ -352,7 +352,7 @@ module _ (k : Keyword) (starts : (us : List Token) → command_of (word k ∷ us
       (sym (starts (with_texts rest texts)) ∙ ap (λ l. command_of (with_texts l texts)) (sym is) ∙ g) in
       ⊎_elim (λ h. h.0) (λ h. absurd h) (alike rest texts c f [] [] r here there)
 
--- What tokens read with texts differs in its literals alone from what they read with holes.
+-- Tokens with literals and tokens with holes read as commands that differ only in their literals.
 pub read_alike : (ts texts : List Token) (c f : Command) → AreReadable texts → command_of ts ≡ Some c → command_of (with_texts ts texts) ≡ Some f
     → blank f ≡ blank c
 unfolding command_of is_fixed
@@ -367,7 +367,7 @@ read_alike ts texts c f r e g = by c e (command_read ts c e)
     by (Define (define.Watch w)) e h = behind_read keyword.Watch (λ us. refl) watch_alike ts _ texts _ f r h.3 e g
     by d e h = ap blank (same_Some f d (sym g ∙ ap command_of (fixed_texts ts texts d e refl) ∙ e))
 
--- A command that is read from tokens with texts is the filled one.
+-- A command that is read from tokens with literals is the filled one.
 pub read_filled : (ts texts : List Token) (values : List Value) (command filled : Command) → command_of ts ≡ Some command → AllZip IsText texts values
     → command_of (with_texts ts texts) ≡ Some filled → Filled (holes_among ts) values command filled
 read_filled ts texts values c f read stand e = record {

@@ -1,4 +1,4 @@
--- What commands read, with holes and with texts in their place, differs in its literals alone.
+-- Commands read with holes and with literals in their place differ only in their literals.
 use Rattle.std.proofs.Common.{◌≡◌, ◌⊎◌, inr, ℕ, Bool, true, false, cond, List, [], ◌∷◌, Option, Some, None, refl, sym, ap, ◌∙◌}
 use Rattle.std.specs.Prelude.{ℤ}
 use Rattle.std.specs.Option.{option_map, option_and_then, option_or}
@@ -52,7 +52,7 @@ same_token t ts texts r same (Some v) is x y us ws e f =
     (with_texts ts texts) refl (record { texts = texts; readable = r; split = refl }) (literal_there t v ts is)
     (ap (maybe (one literal_of)) same ∙ literal_there t v (with_texts ts texts) is) x y us ws e f
 
--- The literal that stands next, or none.
+-- The next token is a literal, or not.
 pub literal_alike : ReadAlike (maybe (one literal_of)) (maybe (one literal_of)) (option_map blank_value)
 literal_alike [] texts x y us ws r e f =
     settled (maybe (one literal_of)) (maybe (one literal_of)) (option_map blank_value) [] [] None None [] [] refl
@@ -169,7 +169,7 @@ with_shift_alike f None (Some y) h = absurd (cc)
 with_shift_alike f (Some x) None h = absurd (cc)
 
 module _ {F : Type 0} (column : Phrase F) (same : ReadsSame column) (ends : (ts : List Token) → column (Hole ∷ ts) ≡ None) where
-  -- a shift behind a column
+  -- a shift after a column
   shifted : F → Phrase (Operand F)
   shifted f = shift >>= (λ by. say (with_shift f by))
 
@@ -201,7 +201,7 @@ module _ {F : Type 0} (column : Phrase F) (same : ReadsSame column) (ends : (ts 
       then_alike (maybe (one literal_of)) (maybe (one literal_of)) (operand_behind column) (operand_behind column) (option_map blank_value) blank_operand
       behind_stops literal_alike behind_alike
 
-  -- a test, from its parts
+  -- a test, made of its parts
   say_test : F → Comparison → Operand F → Phrase (Atom F)
   say_test f c o = say (record { left = f; comparison = c; right = o })
 

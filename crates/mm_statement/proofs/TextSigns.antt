@@ -1,4 +1,4 @@
--- No sign stands in front of a number with a minus of its own.
+-- No sign precedes a number with a minus of its own.
 use Rattle.std.proofs.Common.{◌≡◌, inl, inr, ⊎_elim, ℕ, Bool, true, false, not, ◌&&◌, List, [], ◌∷◌, ◌++◌}
 use Rattle.std.proofs.Common.{refl, sym, ap, ◌∙◌, append_assoc, append-nil}
 use Rattle.std.specs.List.{AllByRecursion, AllZip}
@@ -27,7 +27,7 @@ use Rattle.mm_statement.specs.Texts.{begins_minus, keeps_signs}
 use Rattle.mm_statement.proofs.TextBytes.{HasSign, in_place, is_signed}
 use Rattle.mm_lang.proofs.SpelledSelect.{regrouped}
 
--- a sign directly in front of a number with a minus
+-- a sign directly before a number with a minus
 unfoldable pub signs_twice : List Token → Bool
 signs_twice [] = false
 signs_twice (Mark Plus ∷ Signed w ∷ ts) = true
@@ -36,7 +36,7 @@ signs_twice (t ∷ ts) = signs_twice ts
 
 -- ---- a command has none
 
--- the token is no sign
+-- the token is not a sign
 abbrev IsUnsigned : Token → Type 0
 IsUnsigned (Mark Plus) = ⊥
 IsUnsigned (Mark Minus) = ⊥
@@ -55,7 +55,7 @@ unsigned_front : (ts us : List Token) → AreUnsigned ts → signs_twice (ts ++ 
 unsigned_front [] us h = refl
 unsigned_front (t ∷ ts) us h = unsigned_step t (ts ++ us) h.0 ∙ unsigned_front ts us h.1
 
--- In front of any tokens, what spells a thing has no sign that stands so.
+-- A spelling has no sign directly before a number with a minus, whatever tokens follow.
 abbrev SignsOnce : {A : Type 0} → (List Token → A → Type 0) → Type 0
 SignsOnce {A} Spelled = (ts : List Token) (x : A) (us : List Token) → Spelled ts x → signs_twice (ts ++ us) ≡ signs_twice us
 
@@ -186,12 +186,12 @@ column_once ts c us h =
 
 -- ---- commands
 
--- words alone
+-- only words
 words_once : (ts us : List Token) → AreUnsigned us → ts ≡ us → signs_twice ts ≡ false
 unfolding signs_twice
 words_once ts us plain is = ap signs_twice (is ∙ sym (append-nil us)) ∙ unsigned_front us [] plain
 
--- words, and behind them a part
+-- words, followed by a part
 part_once : (ts front rest : List Token) → AreUnsigned front → ts ≡ front ++ rest → signs_twice rest ≡ false → signs_twice ts ≡ false
 part_once ts front rest plain is once = ap signs_twice is ∙ unsigned_front front rest plain ∙ once
 
@@ -230,7 +230,7 @@ command_once ts command.Rollback h = words_once ts _ (tt, tt) h
 command_once ts (command.Savepoint n) h = words_once ts _ (tt, (tt, tt)) h.1
 command_once ts (command.RollbackTo n) h = words_once ts _ (tt, (tt, (tt, tt))) h.1
 
--- ---- a text with a minus behind a sign
+-- ---- a literal with a minus after a sign
 
 twice_behind : (t : Token) (us : List Token) → signs_twice us ≡ true → signs_twice (t ∷ us) ≡ true
 unfolding signs_twice

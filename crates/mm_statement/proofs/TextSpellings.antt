@@ -1,4 +1,4 @@
--- What is spelled with holes is spelled with texts in their place.
+-- A spelling with holes is a spelling with literals in their place.
 use Rattle.std.proofs.Common.{◌≡◌, ◌⊎◌, inl, inr, ⊎_elim, ℕ, Bool, true, false, List, [], ◌∷◌, ◌++◌, None, map, pos, neg_ℤ, refl, sym, ap, ◌∙◌, subst}
 use Rattle.std.proofs.Common.{append_assoc, append-nil}
 use Rattle.std.specs.List.{AllByRecursion, cons_option, flat_map}
@@ -35,9 +35,9 @@ use Rattle.mm_statement.proofs.TextTokens.{AreReadable, literal_front, text_spel
 abbrev pub among : List Token → List Value
 among ts = literals_among ts
 
--- ---- tokens that stay
+-- ---- unchanged tokens
 
--- The token is no hole and no sign in front of one.
+-- The token is neither a hole nor a sign.
 abbrev pub IsQuiet : Token → Type 0
 IsQuiet (Mark Plus) = ⊥
 IsQuiet (Mark Minus) = ⊥
@@ -47,7 +47,7 @@ IsQuiet token = Unit {0}
 abbrev pub AreQuiet : List Token → Type 0
 AreQuiet ts = AllByRecursion IsQuiet ts
 
--- Nor is it a literal.
+-- The token is not a literal either.
 abbrev pub IsPlain : Token → Type 0
 IsPlain token = IsQuiet token × (literal_of token ≡ None)
 
@@ -86,7 +86,7 @@ plain_append : (ts us : List Token) → ArePlain ts → ArePlain us → ArePlain
 plain_append [] us p q = q
 plain_append (t ∷ ts) us p q = (p.0, plain_append ts us p.1 q)
 
--- What is left behind plain tokens, with texts in place of holes.
+-- The remaining tokens after plain tokens, with literals in place of holes.
 plain_texts : (ts us texts : List Token) → ArePlain ts → with_texts (ts ++ us) texts ≡ ts ++ with_texts us texts
 plain_texts ts us texts p = quiet_texts ts us texts (plain_quiet ts p)
 
@@ -95,7 +95,7 @@ plain_left ts us texts p = ap among (plain_texts ts us texts p) ∙ plain_among 
 
 -- ---- parts
 
--- Some tokens begin with a spelling of a part, and go on with those behind it, with the texts that are left and these literals.
+-- Some tokens begin with a spelling of a part. The rest are the following tokens, with the remaining literals and with these values.
 pub record Respelled {A : Type 0} (Spells : List Token → A → Type 0) (part : A) (all behind : List Token) (literals : List Value) : Type 0 where
   pub front : List Token
   pub left : List Token
@@ -104,8 +104,8 @@ pub record Respelled {A : Type 0} (Spells : List Token → A → Type 0) (part :
   pub split : all ≡ front ++ with_texts behind left
   pub literals_left : among (with_texts behind left) ≡ literals
 
--- With texts in the place of its holes, a spelling of a part spells each part that differs from it in its literals alone and has
--- the literals that are among the tokens then.
+-- With literals in place of its holes, a spelling of a part spells each part that differs from it only in its literals and has those among
+-- the tokens.
 abbrev pub Respells : {A : Type 0} → (List Token → A → Type 0) → (A → A) → (A → List Value) → Type 0
 Respells {A} Spells blank literals =
     (ts : List Token) (x y : A) (us texts : List Token) (tail : List Value) → AreReadable texts → Spells ts x → blank y ≡ blank x
@@ -123,7 +123,7 @@ read_as_other Spells Others x y all us tail other r = record {
   literals_left = r.literals_left;
 }
 
--- The same part behind plain tokens.
+-- The same part after plain tokens.
 behind_plain : {A : Type 0} (Spells : List Token → A → Type 0) (x : A) (ts more us texts : List Token) (tail : List Value) → ArePlain ts
     → Respelled Spells x (with_texts (more ++ us) texts) us tail
     → Respelled (λ front y. (rest : List Token) × Spells rest y × (front ≡ ts ++ rest)) x (with_texts ((ts ++ more) ++ us) texts) us tail
@@ -143,7 +143,7 @@ left_behind : (ts more us texts : List Token) (literals : List Value) → ArePla
 left_behind ts more us texts literals p e =
     sym (ap (λ l. among (with_texts l texts)) (append_assoc ts more us) ∙ plain_left ts (more ++ us) texts p) ∙ e
 
--- A part that is spelled by plain tokens alone.
+-- A part that plain tokens alone spell.
 plain_respells : {A : Type 0} (Spells : List Token → A → Type 0) → ((ts : List Token) (x : A) → Spells ts x → ArePlain ts)
     → Respells Spells (λ x. x) (λ x. [])
 plain_respells Spells plain ts x y us texts tail r h same e = record {
@@ -157,7 +157,7 @@ plain_respells Spells plain ts x y us texts tail r h same e = record {
 
 -- ---- literals
 
--- A literal in front, which is among the tokens then, is spelled by the token.
+-- The first of the literals among tokens is spelled by the first token.
 front_literal : (t : Token) (v w : Value) (us : List Token) (tail : List Value) → SpellsLiteral t v → among (t ∷ us) ≡ w ∷ tail
     → SpellsLiteral t w × (among us ≡ tail)
 front_literal t v w us tail h e =
@@ -193,7 +193,7 @@ literal_respells ts x y us texts tail r h same e =
 abbrev ShiftIn : ℤ → List Token → List Token → List Value → Type 0
 ShiftIn z all us tail = Respelled SpellsShift z all us tail
 
--- The number that is among the tokens then is the one that digits say, ..
+-- The number among the tokens is that of the digits, ..
 front_number : (t : Token) (v : Value) (z : ℤ) (us : List Token) (tail : List Value) → SpellsLiteral t v → among (t ∷ us) ≡ Int z ∷ tail
     → SpellsLiteral t (Int z) × (among us ≡ tail)
 front_number t v z us tail h e = front_literal t v (Int z) us tail h e
@@ -237,7 +237,7 @@ joined_digits w z us texts all tail r numeral is e =
       literals_left = p.1;
     }
 
--- .. or a one, where a hole is left, ..
+-- .. or one, for a hole without a literal, ..
 plus_hole : (z : ℤ) (us : List Token) (tail : List Value) → among (with_texts (Mark Plus ∷ Hole ∷ us) []) ≡ Int z ∷ tail
     → ShiftIn z (with_texts (Mark Plus ∷ Hole ∷ us) []) us tail
 plus_hole z us tail e =
@@ -268,7 +268,7 @@ minus_hole z us tail e =
       literals_left = rest;
     }
 
--- .. or the text's.
+-- .. or that of the literal.
 plus_text : (t : Token) (v : Value) (z : ℤ) (us texts : List Token) (tail : List Value) → AreReadable texts → IsText t v
     → among (behind Plus Minus t (with_texts us texts)) ≡ Int z ∷ tail → ShiftIn z (behind Plus Minus t (with_texts us texts)) us tail
 plus_text (Word w) (Int n) z us texts tail r h e = plus_digits w z us texts (behind Plus Minus (Word w) (with_texts us texts)) tail r h.0 refl e
@@ -287,7 +287,7 @@ minus_text (Quoted text) v z us texts tail r h e =
     absurd (cc)
 minus_text _ _ z us texts tail r h e = absurd h
 
--- The shift of these tokens, with the number that is among them then.
+-- The shift of these tokens, with the number among them.
 abbrev ShiftsTo : ℤ → List Token → List Token → List Value → List Token → Type 0
 ShiftsTo z us texts tail ts = among (with_texts (ts ++ us) texts) ≡ Int z ∷ tail → ShiftIn z (with_texts (ts ++ us) texts) us tail
 
@@ -379,7 +379,7 @@ clause_respells wanted separator Spells blank literals opens plain each ts (x �
 
 -- ---- tuples
 
--- What stands in parentheses.
+-- A part in parentheses.
 parentheses_respells : {A : Type 0} (Spells : List Token → A → Type 0) (blank : A → A) (literals : A → List Value) → Respells Spells blank literals
     → Respells (SpellsInParentheses Spells) blank literals
 parentheses_respells Spells blank literals each ts x y us texts tail r h same e =
@@ -562,7 +562,7 @@ query_respells ts x y texts r h same e =
 
 -- ---- a part alone
 
--- The tokens of one part, with texts in the place of its holes.
+-- The tokens of a whole part, with literals in place of its holes.
 pub respelled_alone : {A : Type 0} (Spells : List Token → A → Type 0) (blank : A → A) (literals : A → List Value) → Respells Spells blank literals
     → (ts : List Token) (x y : A) (texts : List Token) → AreReadable texts → Spells ts x → blank y ≡ blank x
     → among (with_texts ts texts) ≡ literals y → Spells (with_texts ts texts) y

@@ -1,4 +1,4 @@
--- What texts in the place of holes make of tokens.
+-- The effect of literals in place of holes on tokens.
 use Rattle.std.proofs.Common.{◌≡◌, ℕ, zero, suc, Bool, true, false, cond, List, [], ◌∷◌, Some, None, pos, negsuc, neg_ℤ, refl, sym, ap, ◌∙◌}
 use Rattle.std.specs.List.{AllByRecursion, AllZip, cons_option}
 use Rattle.std.specs.Option.{option_map}
@@ -18,9 +18,9 @@ use Rattle.mm_statement.specs.Filling.{given, merged}
 use Rattle.mm_statement.specs.Texts.{IsText, behind, with_texts}
 use Rattle.mm_statement.proofs.Fillers.{merged_no_values}
 
--- ---- texts
+-- ---- literals of values
 
--- The token is a text of some value.
+-- The token is a literal of some value.
 abbrev pub IsReadable : Token → Type 0
 IsReadable token = (value : Value) × IsText token value
 
@@ -35,7 +35,7 @@ texts_readable (t ∷ texts) (v ∷ values) h = ((v, h.0), texts_readable texts 
 
 -- ---- literals
 
--- a literal in front of tokens
+-- a literal before tokens
 pub literal_front : (t : Token) (v : Value) (us : List Token) → SpellsLiteral t v → literals_among (t ∷ us) ≡ v ∷ literals_among us
 literal_front (Word w) (Int z) us h = ap (λ o. cons_option o (literals_among us)) (literal_spelled (Word w) (Int z) h)
 literal_front (Signed w) (Int z) us h = ap (λ o. cons_option o (literals_among us)) (literal_spelled (Signed w) (Int z) h)
@@ -54,7 +54,7 @@ text_spelled Unreadable v h = h
 text_front : (t : Token) (v : Value) (us : List Token) → IsText t v → literals_among (t ∷ us) ≡ v ∷ literals_among us
 text_front t v us h = literal_front t v us (text_spelled t v h)
 
--- .. behind a plus ..
+-- .. after a plus ..
 plus_front : (t : Token) (v : Value) (us : List Token) → IsText t v → literals_among (behind Plus Minus t us) ≡ v ∷ literals_among us
 plus_front (Word w) v us h = text_front (Word w) v us h
 plus_front (Signed w) v us h = text_front (Signed w) v us h
@@ -66,7 +66,7 @@ neg_twice : (n : ℕ) → neg_ℤ (neg_ℤ (pos n)) ≡ pos n
 neg_twice zero = refl
 neg_twice (suc n) = refl
 
--- .. and behind a minus
+-- .. and after a minus
 minus_front : (t : Token) (v : Value) (us : List Token) → IsText t v
     → literals_among (behind Minus Plus t us) ≡ given (Int (negsuc zero)) v ∷ literals_among us
 minus_front (Word w) (Int z) us h = text_front (Signed w) (Int (neg_ℤ z)) us (h.0, ap neg_ℤ h.1)
@@ -75,7 +75,7 @@ minus_front (Signed w) (Int z) us h =
 minus_front (Quoted text) (Text said) us h = text_front (Quoted text) (Text said) us h
 minus_front _ _ us h = absurd h
 
--- ---- tokens without texts
+-- ---- tokens with no literals left to insert
 
 pub no_texts : (ts : List Token) → with_texts ts [] ≡ ts
 no_texts [] = refl
@@ -84,14 +84,14 @@ no_texts (Mark Minus ∷ Hole ∷ ts) = ap (λ l. Mark Minus ∷ Hole ∷ l) (no
 no_texts (Hole ∷ ts) = ap (λ l. Hole ∷ l) (no_texts ts)
 no_texts (t ∷ ts) = ap (λ l. t ∷ l) (no_texts ts)
 
--- ---- literals among tokens with texts
+-- ---- literals among tokens with inserted literals
 
 begins_number : List Token → Bool
 begins_number (Word w ∷ ts) = true
 begins_number (Hole ∷ ts) = true
 begins_number ts = false
 
--- A symbol stays one.
+-- A symbol remains a symbol.
 symbol_stays : (s : Symbol) (ts texts : List Token) → begins_number (with_texts (Mark s ∷ ts) texts) ≡ false
 unfolding begins_number
 symbol_stays Plus (Hole ∷ ts) (Signed w ∷ texts) = refl
@@ -100,7 +100,7 @@ symbol_stays Minus (Hole ∷ ts) (Signed w ∷ texts) = refl
 symbol_stays Minus (Hole ∷ ts) (t ∷ texts) = refl
 symbol_stays s ts texts = refl
 
--- A symbol is no literal, unless it is a sign of what is behind it.
+-- A symbol is not a literal, unless it is a sign of the following token.
 symbol_skipped : (s : Symbol) (ts : List Token) → begins_number ts ≡ false → literals_among (Mark s ∷ ts) ≡ literals_among ts
 unfolding begins_number
 symbol_skipped Plus (Hole ∷ ts) h = absurd (cc)
@@ -114,7 +114,7 @@ merged_number : (is_number : Bool) (v w : Value) (holes : List Bool) (values lit
 merged_number true v w holes values literals = refl
 merged_number false v w holes values literals = refl
 
--- Texts in the place of holes are values in the place of the literals that are holes.
+-- Inserting literals in place of holes is the same as replacing the holes among the literals by their values.
 pub among_texts : (ts texts : List Token) (values : List Value) → AllZip IsText texts values
     → literals_among (with_texts ts texts) ≡ merged (holes_among ts) values (literals_among ts)
 among_texts ts [] [] h = ap literals_among (no_texts ts) ∙ sym (merged_no_values (holes_among ts) (literals_among ts))

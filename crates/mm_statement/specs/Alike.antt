@@ -1,4 +1,4 @@
--- Commands that differ in their literals alone, and what their names stand for.
+-- Commands that differ only in their literals, before and after binding.
 use Rattle.std.specs.Prelude.{◌≡◌, ℕ, List, ◌++◌, map}
 use Rattle.std.specs.List.{flat_map}
 use Rattle.mm_value.specs.Types.{type_of}
@@ -13,7 +13,7 @@ use Rattle.mm_query.specs.declared.query.Query.{Query}
 use Rattle.mm_lang.specs.Reading.{literals_of, operand_literals, query_literals, test_literals}
 use Rattle.mm_statement.specs.Filling.{blank_assignment, blank_atom, blank_mutation, blank_query, blank_value}
 
--- Two queries differ in their literals alone, and these have the same types.
+-- Two queries differ only in their literals, which have the same types.
 pub record AreAlike (query other : Query) : Type 0 where
   pub same : blank_query query ≡ blank_query other
   pub types : map type_of (query_literals query) ≡ map type_of (query_literals other)
@@ -22,26 +22,26 @@ pub record AreAlike (query other : Query) : Type 0 where
 abbrev pub change_literals : Mutation → List Value
 change_literals mutation = literals_of (Change mutation)
 
--- Two changes of rows differ in their literals alone, and these have the same types.
+-- Two changes of rows differ only in their literals, which have the same types.
 pub record AreAlikeChanges (mutation other : Mutation) : Type 0 where
   pub same : blank_mutation mutation ≡ blank_mutation other
   pub types : map type_of (change_literals mutation) ≡ map type_of (change_literals other)
 
--- A 0 in place of each literal of a query whose names were resolved.
+-- A bound query with a 0 in place of each literal.
 abbrev pub blank_bound_query : BoundQuery → BoundQuery
 blank_bound_query query = record query { atoms = map blank_atom query.atoms }
 
--- The literals of a query whose names were resolved, from left to right.
+-- The literals of a bound query, from left to right.
 abbrev pub bound_query_literals : BoundQuery → List Value
 bound_query_literals query = flat_map test_literals query.atoms
 
--- A 0 in place of each literal of a change whose names were resolved.
+-- A bound change with a 0 in place of each literal.
 abbrev pub blank_bound_change : BoundChange → BoundChange
 blank_bound_change (bound.Insert table tuples) = bound.Insert table (map (map blank_value) tuples)
 blank_bound_change (bound.Update table assignments tests) = bound.Update table (map blank_assignment assignments) (map blank_atom tests)
 blank_bound_change (bound.Delete table tests) = bound.Delete table (map blank_atom tests)
 
--- The literals of a change whose names were resolved, from left to right.
+-- The literals of a bound change, from left to right.
 abbrev pub bound_change_literals : BoundChange → List Value
 bound_change_literals (bound.Insert table tuples) = flat_map (λ tuple. tuple) tuples
 bound_change_literals (bound.Update table assignments tests) =

@@ -21,12 +21,12 @@ use Rattle.mm_lang.specs.Reading.{first_fault, literals_of}
 
 -- ---- values in holes
 
--- The value that stands in a hole. Where a minus stands in front of it the hole reads as -1, and a number is negated.
+-- The value that replaces a hole. After a minus the hole reads as -1, and a number is negated.
 abbrev pub given : Value → Value → Value
 given (Int (negsuc zero)) (Int z) = Int (neg_ℤ z)
 given literal value = value
 
--- Literals in written order, with the values, in their order, in place of those that are marked as holes.
+-- Literals in written order, with the values, in order, in place of the literals that are holes.
 abbrev pub merged : List Bool → List Value → List Value → List Value
 merged (true ∷ holes) (value ∷ values) (literal ∷ literals) = given literal value ∷ merged holes values literals
 merged (false ∷ holes) values (literal ∷ literals) = literal ∷ merged holes values literals
@@ -38,36 +38,36 @@ merged holes values literals = literals
 abbrev pub blank_value : Value → Value
 blank_value value = Int (pos 0)
 
--- A 0 in place of each literal of an operand; the number of a shift is one.
+-- An operand with a 0 in place of its literal or the number of its shift.
 abbrev pub blank_operand : {F : Type 0} → Operand F → Operand F
 blank_operand (Literal value) = Literal (blank_value value)
 blank_operand (Column column) = Column column
 blank_operand (Shifted column by) = Shifted column (pos 0)
 
--- A 0 in place of each literal of an atom.
+-- An atom with a 0 in place of its literal.
 abbrev pub blank_atom : {F : Type 0} → Atom F → Atom F
 blank_atom atom = record { left = atom.left; comparison = atom.comparison; right = blank_operand atom.right }
 
--- A 0 in place of each literal of an assignment.
+-- An assignment with a 0 in place of its literal.
 abbrev pub blank_assignment : {F : Type 0} → Assignment F → Assignment F
 blank_assignment assignment = record { column = assignment.column; source = blank_operand assignment.source }
 
--- A 0 in place of each literal of a query, except for the positions of ORDER.
+-- A query with a 0 in place of each literal, except for the positions of ORDER.
 abbrev pub blank_query : Query → Query
 blank_query query = record query { atoms = map blank_atom query.atoms }
 
--- A 0 in place of each literal of a change of rows.
+-- A change of rows with a 0 in place of each literal.
 abbrev pub blank_mutation : Mutation → Mutation
 blank_mutation (Insert table tuples) = Insert table (map (map blank_value) tuples)
 blank_mutation (Update table assignments tests) = Update table (map blank_assignment assignments) (map blank_atom tests)
 blank_mutation (Delete table tests) = Delete table (map blank_atom tests)
 
--- A 0 in place of each literal of a change of the catalog.
+-- A change of the catalog with a 0 in place of each literal.
 abbrev pub blank_definition : Definition → Definition
 blank_definition (define.Watch watched) = define.Watch (record { name = watched.name; query = blank_query watched.query })
 blank_definition definition = definition
 
--- A 0 in place of each literal of a command, except for the positions of ORDER.
+-- A command with a 0 in place of each literal, except for the positions of ORDER.
 abbrev pub blank : Command → Command
 blank (Define definition) = Define (blank_definition definition)
 blank (Change mutation) = Change (blank_mutation mutation)
@@ -77,13 +77,13 @@ blank command = command
 
 -- ---- fillings
 
--- Two commands differ in their literals alone, and those of the second are those of the first with the values in place of the holes.
+-- Two commands differ only in their literals, and those of the second are those of the first with the values in place of the holes.
 pub record Filled (holes : List Bool) (values : List Value) (command filled : Command) : Type 0 where
   pub same : blank filled ≡ blank command
   pub literals : literals_of filled ≡ merged holes values (literals_of command)
 
--- A command with values in its holes: one in which no literal is past its limit. It is a syntax error where no command is so
--- filled, as with a text for the number of a shift, and past the range where a number of the filled command is.
+-- The result of filling: the filled command if no literal of it is past its limit. Syntax if there is no filled command, for example
+-- because a text is given for the number of a shift. NumberOutOfRange if the first literal past its limit is a number.
 abbrev pub IsFilling : List Bool → List Value → Command → Result Command Refusal → Type 0
 IsFilling holes values command (Ok filled) = Filled holes values command filled × (first_fault (literals_of filled) ≡ None)
 IsFilling holes values command (Err Syntax) = (filled : Command) → Filled holes values command filled → ⊥
@@ -91,6 +91,6 @@ IsFilling holes values command (Err NumberOutOfRange) =
     (filled : Command) × Filled holes values command filled × (first_fault (literals_of filled) ≡ Some NumberOutOfRange)
 IsFilling holes values command (Err refusal) = ⊥
 
--- A call gives the filling, or want of memory in its place.
+-- The result is that of filling, or Memory.
 abbrev pub AnswersFilling : List Bool → List Value → Command → Result Command Refusal → Type 0
 AnswersFilling holes values command result = IsFilling holes values command result ⊎ (result ≡ Err Memory)

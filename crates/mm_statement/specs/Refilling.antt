@@ -18,26 +18,26 @@ use Rattle.mm_statement.specs.Alike.{blank_bound_change, blank_bound_query, boun
 use Rattle.mm_statement.specs.Filling.{Filled}
 use Rattle.mm_statement.specs.Holes.{HolePlaces, hole_count}
 
--- The value that stands in a hole; behind a minus a number is negated.
+-- The value that replaces a hole; after a minus a number is negated.
 abbrev pub signed : Bool → Value → Value
 signed true (Int z) = Int (neg_ℤ z)
 signed is_minus_one value = value
 
--- Literals, with the values, in their order, in place of those that are marked as holes.
+-- Literals with the values, in order, in place of those that are holes.
 abbrev pub refilled : List Bool → List Bool → List Value → List Value → List Value
 refilled (true ∷ holes) (is_minus_one ∷ minus_ones) (value ∷ values) (literal ∷ literals) =
     signed is_minus_one value ∷ refilled holes minus_ones values literals
 refilled (false ∷ holes) (is_minus_one ∷ minus_ones) values (literal ∷ literals) = literal ∷ refilled holes minus_ones values literals
 refilled holes minus_ones values literals = literals
 
--- The values that are left over where each hole among literals has taken one.
+-- The values that remain after each hole among the literals has received one.
 abbrev pub left_over : List Bool → List Value → List Value → List Value
 left_over (true ∷ holes) (value ∷ values) (literal ∷ literals) = left_over holes values literals
 left_over (false ∷ holes) values (literal ∷ literals) = left_over holes values literals
 left_over holes values literals = values
 
--- A command has new values in its holes. It differs from what it was in its literals alone, and these have the same types. No value is
--- left over. Where no literal was past its limit, none is now.
+-- A command has new values in its holes, and differs only in its literals, which keep their types. No value remains. If no literal was past
+-- its limit, none is now.
 pub record Refills {B : Type 0} (blank : B → B) (literals_in : B → List Value) (holes : HolePlaces) (values : List Value) (old new : B) : Type 0 where
   pub same : blank new ≡ blank old
   pub types : map type_of (literals_in new) ≡ map type_of (literals_in old)
@@ -53,8 +53,8 @@ RefillsQuery holes values old new = Refills blank_bound_query bound_query_litera
 abbrev pub RefillsChange : HolePlaces → List Value → BoundChange → BoundChange → Type 0
 RefillsChange holes values old new = Refills blank_bound_change bound_change_literals holes values old new
 
--- The template with values in its holes is this query, which the catalog does not refuse and whose literals pass no limit; and this is
--- its bound form.
+-- The template with values in its holes is this query, and `bound` is its bound form. The catalog does not refuse the query, and none of
+-- its literals is past its limit.
 pub record BindsFilledQuery (schema : Schema) (holes : List Bool) (values : List Value) (template query : Query) (bound : BoundQuery) : Type 0 where
   pub count : length values ≡ hole_count holes
   pub filled : Filled holes values (Select template) (Select query)
@@ -62,8 +62,8 @@ pub record BindsFilledQuery (schema : Schema) (holes : List Bool) (values : List
   pub unrefused : first_refusal (query_conditions query schema) ≡ None
   pub placed : bound ≡ placed_query schema query
 
--- The template with values in its holes is this change of rows, which the catalog does not refuse and whose literals pass no limit; and
--- this is its bound form.
+-- The template with values in its holes is this change of rows, and `bound` is its bound form. The catalog does not refuse the change, and
+-- none of its literals is past its limit.
 pub record BindsFilledChange (schema : Schema) (holes : List Bool) (values : List Value) (template mutation : Mutation) (bound : BoundChange) : Type 0 where
   pub count : length values ≡ hole_count holes
   pub filled : Filled holes values (Change template) (Change mutation)

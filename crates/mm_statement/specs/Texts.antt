@@ -1,4 +1,4 @@
--- Texts in the place of holes.
+-- Literals in place of holes.
 use Rattle.std.specs.Prelude.{ℕ, ◌==◌, Bool, true, false, not, ◌&&◌, if◌then◌else◌, List, [], ◌∷◌, ◌++◌}
 use Rattle.mm_value.specs.declared.values.Value.{Value}
 use Rattle.mm_lang.specs.Spelling.{SpellsLiteral}
@@ -6,17 +6,17 @@ use Rattle.mm_lang.specs.Tokens.{Token, Word, Signed, Mark, Hole, Place, Outside
 use Rattle.mm_lang.specs.declared.read.token.Symbol.{Symbol}
 use Rattle.mm_lang.specs.declared.read.token.Symbol.TheVariants.{Plus, Minus}
 
--- The token spells the value, and is no hole.
+-- The token is a literal of the value, and not a hole.
 abbrev pub IsText : Token → Value → Type 0
 IsText Hole value = ⊥
 IsText token value = SpellsLiteral token value
 
--- A text behind a sign, and the tokens behind it. The minus of a number turns the sign into the other one.
+-- A literal after a sign, followed by other tokens. The minus of a number inverts the sign.
 abbrev pub behind : Symbol → Symbol → Token → List Token → List Token
 behind sign other (Signed digits) ts = Mark other ∷ Word digits ∷ ts
 behind sign other text ts = Mark sign ∷ text ∷ ts
 
--- Tokens with texts, in their order, in the place of their holes.
+-- Tokens with literals, in order, in place of their holes.
 abbrev pub with_texts : List Token → List Token → List Token
 with_texts [] texts = []
 with_texts (Mark Plus ∷ Hole ∷ ts) (text ∷ texts) = behind Plus Minus text (with_texts ts texts)
@@ -24,7 +24,7 @@ with_texts (Mark Minus ∷ Hole ∷ ts) (text ∷ texts) = behind Minus Plus tex
 with_texts (Hole ∷ ts) (text ∷ texts) = text ∷ with_texts ts texts
 with_texts (t ∷ ts) texts = t ∷ with_texts ts texts
 
--- A line's bytes from such a place on, with texts, in their order, in the place of its holes, and a blank on each side of a text.
+-- The bytes of a line from a position on, with literals, in order, in place of its holes, and a blank on each side of a literal.
 unfoldable pub filled_bytes : Place → List ℕ → List (List ℕ) → List ℕ
 filled_bytes place bytes [] = bytes
 filled_bytes place [] (text ∷ texts) = []
@@ -33,16 +33,16 @@ filled_bytes Outside (b ∷ bs) (text ∷ texts) =
     else b ∷ filled_bytes (if b == 39 then Inside else Outside) bs (text ∷ texts)
 filled_bytes Inside (b ∷ bs) (text ∷ texts) = b ∷ filled_bytes (if b == 39 then Outside else Inside) bs (text ∷ texts)
 
--- A line with texts in the place of its holes.
+-- A line with literals in place of its holes.
 abbrev pub filled_line : List ℕ → List (List ℕ) → List ℕ
 filled_line line texts = filled_bytes Outside line texts
 
--- The text begins with a minus.
+-- The literal begins with a minus.
 abbrev pub begins_minus : List ℕ → Bool
 begins_minus [] = false
 begins_minus (b ∷ bs) = b == 45
 
--- No text with a minus stands behind a sign.
+-- No literal with a minus follows a sign.
 abbrev pub keeps_signs : List Token → List (List ℕ) → Bool
 keeps_signs [] texts = true
 keeps_signs (Mark Plus ∷ Hole ∷ ts) (text ∷ texts) = not (begins_minus text) && keeps_signs ts texts

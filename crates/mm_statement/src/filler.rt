@@ -1,4 +1,4 @@
-//! The values that are left for the holes of a command.
+//! The remaining values for the holes of a command.
 ghost use Rattle.std.specs.Prelude.{◌≡◌, ◌↔◌, ◌∷◌, [], IsTrue, length, negsuc, pos};
 ghost use Rattle.std.specs.Vec.Iter.{into_iter_items, into_iter_len};
 ghost use Rattle.mm_value.specs.declared.values.Value.TheVariants.{Int};
@@ -7,12 +7,12 @@ use crate::holes::is_minus_one;
 use mm_value::Value;
 use std::vec;
 
-/// Which of the literals that are left are holes, and the values that are left for them.
+/// For each remaining literal whether it is a hole, and the remaining values.
 #[derive(Drop)]
 pub(crate) struct Filler<'a> {
     pub(crate) holes: &'a [bool],
     pub(crate) values: vec::IntoIter<Value>,
-    /// Whether some number behind a minus is past its range.
+    /// Whether any number after a minus is out of range.
     pub(crate) is_out_of_range: bool,
     ghost counted: { length (into_iter_items values) ≡ into_iter_len values },
 }
@@ -22,7 +22,7 @@ impl Filler<'_> {
     ghost use Rattle.mm_statement.specs.Filling.{given};
     ghost use Rattle.mm_statement.specs.steps.Fills.{KeepsPositions, Notes, Replaces, Takes};
 
-    /// The value for the next literal, if that is a hole.
+    /// Returns the value for the next literal, or `None` if that is not a hole.
     fn take(&mut self) -> Option<Value>
         ensures taken { Takes self.old self.new result }
         ensures fault { self.new.is_out_of_range ≡ self.old.is_out_of_range }
@@ -32,7 +32,8 @@ impl Filler<'_> {
         if *is_hole { self.values.next() } else { None }
     }
 
-    /// The value for the next literal, if that is a hole. Behind a minus a number is negated; one that is past its range then is noted.
+    /// Returns the value for the next literal, or `None` if that is not a hole. Negates a number after a minus, and records one that is
+    /// then out of range.
     pub(crate) fn next(&mut self, literal: &Value) -> Option<Value>
         ensures { Replaces self.old self.new literal.now result }
     {
@@ -48,7 +49,8 @@ impl Filler<'_> {
         }
     }
 
-    /// The value for a hole behind a minus. A number that is past its range then is noted, and stays.
+    /// Returns the value for a hole after a minus: a number is negated. Records a number that is then out of range, and returns it
+    /// unchanged.
     fn negated(&mut self, value: Value) -> Value
         requires { IsStorable value }
         ensures { Notes self.old self.new (given (Int (negsuc 0)) value) result }
@@ -65,7 +67,7 @@ impl Filler<'_> {
         }
     }
 
-    /// Passes over a position of ORDER, which no value changes. `false` where a value for it is not the position itself.
+    /// Skips a position of ORDER, which no value changes. Returns `false` if a value is given for it that is not the position itself.
     fn keeps_position(&mut self, position: usize) -> bool
         ensures { KeepsPositions self.old self.new (position ∷ []) result }
     {
@@ -75,7 +77,7 @@ impl Filler<'_> {
         is_position(&value, position)
     }
 
-    /// Passes over the positions of ORDER, which no value changes. `false` where a value for one is not the position itself.
+    /// Skips the positions of ORDER, which no value changes. Returns `false` if a value is given for one that is not the position itself.
     pub(crate) fn keeps_positions(&mut self, positions: &[usize]) -> bool
         ensures { KeepsPositions self.old self.new positions.now result }
     {
@@ -88,7 +90,7 @@ impl Filler<'_> {
     }
 }
 
-/// Whether a value is the number of a position.
+/// Returns whether a value is the number of a position.
 fn is_position(value: &Value, position: usize) -> bool
     ensures { IsTrue result ↔ (value.now ≡ Int (pos position)) }
 {

@@ -1,4 +1,4 @@
-//! Values in place of the holes of a command.
+//! Filling the holes of a command with values.
 ghost use Rattle.std.specs.Prelude.{◌≡◌, None, count_by, length};
 ghost use Rattle.mm_lang.specs.Reading.{definition_literals, first_fault, literals_of, query_literals};
 ghost use Rattle.mm_statement.specs.Alike.{change_literals};
@@ -11,10 +11,10 @@ use mm_query::{Command, Definition, Mutation, NamedQuery, Query};
 use mm_value::{Refusal, Value};
 use std::alloc::Global;
 
-/// The command with the values in its holes, in written order. Of each of its literals a flag says whether it is a hole. Values are
-/// moved; only the other literals of a tuple are copied. `Syntax` where a text is given for the number of a shift, or where a flag
-/// marks a position of ORDER and another value is given for it; else `NumberOutOfRange` where -2^63 is given for a hole behind a
-/// minus. `Memory` may come in their place and in that of success.
+/// Returns the command with the values in its holes, in written order. `holes` has a flag for each literal: whether it is a hole. Moves the
+/// values, and copies only the other literals of a tuple. Fails with `Syntax` if a text is given for the number of a shift, or a value for
+/// a position of ORDER that is not the position itself. Otherwise fails with `NumberOutOfRange` if -2^63 is given for a hole after a minus.
+/// May instead fail with `Memory`.
 pub fn fill<'l>(
     alloc: Global,
     command: Command<'l>,
@@ -41,7 +41,7 @@ pub fn fill<'l>(
     Ok(filled)
 }
 
-/// A command with the next values in its holes. `Syntax` where one may not stand there; or `Memory`.
+/// Fills a command with the next values. Fails with `Syntax` if a value does not fit its hole, and with `Memory` if an allocation fails.
 fn fill_command<'l>(
     alloc: Global,
     filler: &mut Filler<'_>,
@@ -71,7 +71,8 @@ fn fill_command<'l>(
     }
 }
 
-/// A change of the catalog with the next values in its holes. `Syntax` where one may not stand there; or `Memory`.
+/// Fills a change of the catalog with the next values. Fails with `Syntax` if a value does not fit its hole, and with `Memory` if an
+/// allocation fails.
 fn fill_definition<'l>(
     alloc: Global,
     filler: &mut Filler<'_>,
@@ -89,7 +90,8 @@ fn fill_definition<'l>(
     }
 }
 
-/// A change of rows with the next values in its holes. `Syntax` where one may not stand there; or `Memory`.
+/// Fills a change of rows with the next values. Fails with `Syntax` if a value does not fit its hole, and with `Memory` if an allocation
+/// fails.
 fn fill_mutation<'l>(
     alloc: Global,
     filler: &mut Filler<'_>,
@@ -125,7 +127,7 @@ fn fill_mutation<'l>(
     }
 }
 
-/// A query with the next values in its holes. `Syntax` where one may not stand there; or `Memory`.
+/// Fills a query with the next values. Fails with `Syntax` if a value does not fit its hole, and with `Memory` if an allocation fails.
 fn fill_query<'l>(
     alloc: Global,
     filler: &mut Filler<'_>,

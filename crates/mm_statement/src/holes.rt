@@ -1,4 +1,4 @@
-//! Where the holes of a command are.
+//! The holes of a command.
 ghost use Rattle.std.specs.Prelude.{◌≡◌, ◌↔◌, ◌++◌, IfOk, IsTrue, OnOk, map, negsuc};
 ghost use Rattle.std.specs.List.{flat_map};
 ghost use Rattle.mm_lang.specs.Reading.{assignment_literals, literals_of, operand_literals, position_literals, query_literals, test_literals};
@@ -12,8 +12,8 @@ use mm_value::Value;
 use std::alloc::{AllocError, Global};
 use std::marker::Model;
 
-/// Where the holes of a command are, and which of its literals read as -1, as a hole behind a minus does. The bound form of the command
-/// no longer shows it once a value stands there.
+/// For each literal of a command, whether it is a hole, and whether it reads as -1, as a hole after a minus does. The bound form of the
+/// command no longer shows this once it contains values.
 #[derive(Debug, Drop)]
 pub struct Holes {
     are_holes: Vec<bool>,
@@ -33,7 +33,8 @@ impl Model for Holes {
 }
 
 impl Holes {
-    /// The holes of a command as read, of each of whose literals a flag says whether it is one. `AllocError` where memory is refused.
+    /// Returns the holes of a parsed command, given for each of its literals whether it is one. Fails with `AllocError` if an allocation
+    /// fails.
     pub fn of(
         alloc: Global,
         command: &Command<'_>,
@@ -51,21 +52,21 @@ impl Holes {
         })
     }
 
-    /// How many holes there are.
+    /// Returns the number of holes.
     pub fn count(&self) -> usize
         ensures { result ≡ hole_count self.now.are_holes }
     {
         self.count
     }
 
-    /// Of each literal whether it is a hole, in written order.
+    /// Returns for each literal whether it is a hole, in written order.
     pub fn as_slice(&self) -> &[bool]
         ensures { result.now ≡ self.now.are_holes }
     {
         &self.are_holes
     }
 
-    /// Of each literal whether it reads as -1, in written order.
+    /// Returns for each literal whether it reads as -1, in written order.
     pub(crate) fn minus_ones(&self) -> &[bool]
         ensures { result.now ≡ self.now.are_minus_one }
     {
@@ -73,7 +74,7 @@ impl Holes {
     }
 }
 
-/// Appends whether each literal of a command reads as -1. `AllocError` where memory is refused.
+/// Appends for each literal of a command whether it reads as -1. Fails with `AllocError` if an allocation fails.
 fn flag_command(flags: &mut Vec<bool>, command: &Command<'_>) -> Result<(), AllocError>
     ensures { OnOk result (flags.new.items ≡ flags.old.items ++ map is_minus_one (literals_of command.now)) }
 {
@@ -86,7 +87,7 @@ fn flag_command(flags: &mut Vec<bool>, command: &Command<'_>) -> Result<(), Allo
     }
 }
 
-/// Appends whether each literal of a change of rows reads as -1. `AllocError` where memory is refused.
+/// Appends for each literal of a change of rows whether it reads as -1. Fails with `AllocError` if an allocation fails.
 fn flag_mutation(flags: &mut Vec<bool>, mutation: &Mutation<'_>) -> Result<(), AllocError>
     ensures { OnOk result (flags.new.items ≡ flags.old.items ++ map is_minus_one (change_literals mutation.now)) }
 {
@@ -104,7 +105,7 @@ fn flag_mutation(flags: &mut Vec<bool>, mutation: &Mutation<'_>) -> Result<(), A
     }
 }
 
-/// Appends whether each literal of a query reads as -1; no position of ORDER does. `AllocError` where memory is refused.
+/// Appends for each literal of a query whether it reads as -1; no position of ORDER does. Fails with `AllocError` if an allocation fails.
 fn flag_query(flags: &mut Vec<bool>, query: &Query<'_>) -> Result<(), AllocError>
     ensures { OnOk result (flags.new.items ≡ flags.old.items ++ map is_minus_one (query_literals query.now)) }
 {
@@ -112,7 +113,7 @@ fn flag_query(flags: &mut Vec<bool>, query: &Query<'_>) -> Result<(), AllocError
     flag_positions(flags, query.order.as_slice())
 }
 
-/// Appends `false` for each position of ORDER. `AllocError` where memory is refused.
+/// Appends `false` for each position of ORDER. Fails with `AllocError` if an allocation fails.
 fn flag_positions(flags: &mut Vec<bool>, positions: &[usize]) -> Result<(), AllocError>
     ensures { OnOk result (flags.new.items ≡ flags.old.items ++ map is_minus_one (flat_map position_literals positions.now)) }
 {
@@ -122,7 +123,7 @@ fn flag_positions(flags: &mut Vec<bool>, positions: &[usize]) -> Result<(), Allo
     Ok(())
 }
 
-/// Appends whether each literal of atoms reads as -1. `AllocError` where memory is refused.
+/// Appends for each literal of atoms whether it reads as -1. Fails with `AllocError` if an allocation fails.
 fn flag_atoms<C>(flags: &mut Vec<bool>, atoms: &[Atom<C>]) -> Result<(), AllocError>
     ensures { OnOk result (flags.new.items ≡ flags.old.items ++ map is_minus_one (flat_map test_literals atoms.now)) }
 {
@@ -132,7 +133,7 @@ fn flag_atoms<C>(flags: &mut Vec<bool>, atoms: &[Atom<C>]) -> Result<(), AllocEr
     Ok(())
 }
 
-/// Appends whether each literal of assignments reads as -1. `AllocError` where memory is refused.
+/// Appends for each literal of assignments whether it reads as -1. Fails with `AllocError` if an allocation fails.
 fn flag_assignments(
     flags: &mut Vec<bool>,
     assignments: &[Assignment<NameRef<'_>>],
@@ -145,7 +146,7 @@ fn flag_assignments(
     Ok(())
 }
 
-/// Appends whether the literal of an operand reads as -1, if it has one. `AllocError` where memory is refused.
+/// Appends whether the literal of an operand, if it has one, reads as -1. Fails with `AllocError` if an allocation fails.
 fn flag_operand<C>(flags: &mut Vec<bool>, operand: &Operand<C>) -> Result<(), AllocError>
     ensures { OnOk result (flags.new.items ≡ flags.old.items ++ map is_minus_one (operand_literals operand.now)) }
 {
@@ -158,7 +159,7 @@ fn flag_operand<C>(flags: &mut Vec<bool>, operand: &Operand<C>) -> Result<(), Al
     Ok(())
 }
 
-/// Appends whether each value of tuples reads as -1. `AllocError` where memory is refused.
+/// Appends for each value of tuples whether it reads as -1. Fails with `AllocError` if an allocation fails.
 fn flag_tuples(flags: &mut Vec<bool>, tuples: &RowList) -> Result<(), AllocError>
     ensures { OnOk result (flags.new.items ≡ flags.old.items ++ map is_minus_one (flat_map (λ tuple. tuple) tuples.now)) }
 {
@@ -168,7 +169,7 @@ fn flag_tuples(flags: &mut Vec<bool>, tuples: &RowList) -> Result<(), AllocError
     Ok(())
 }
 
-/// Appends whether each value reads as -1. `AllocError` where memory is refused.
+/// Appends for each value whether it reads as -1. Fails with `AllocError` if an allocation fails.
 fn flag_values(flags: &mut Vec<bool>, values: &[Value]) -> Result<(), AllocError>
     ensures { OnOk result (flags.new.items ≡ flags.old.items ++ map is_minus_one values.now) }
 {
@@ -178,7 +179,7 @@ fn flag_values(flags: &mut Vec<bool>, values: &[Value]) -> Result<(), AllocError
     Ok(())
 }
 
-/// Whether a literal reads as -1, as a hole behind a minus does.
+/// Returns whether a literal reads as -1, as a hole after a minus does.
 pub(crate) fn is_minus_one(literal: &Value) -> bool
     ensures value { result ≡ is_minus_one literal.now }
     ensures exact { IsTrue result ↔ (literal.now ≡ Int (negsuc 0)) }

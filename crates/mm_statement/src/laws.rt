@@ -1,4 +1,4 @@
-//! Laws of commands that differ in their literals alone.
+//! Laws of commands that differ only in their literals.
 ghost use Rattle.std.specs.Prelude.{◌≡◌, ◌++◌, ◌∷◌, [], Bool, List, Result, ℤ, false, length, neg_ℤ, negsuc, pos, true};
 ghost use Rattle.std.specs.List.{flat_map};
 ghost use Rattle.mm_schema.specs.Refused.{first_refusal};
@@ -21,8 +21,8 @@ ghost use Rattle.mm_value.specs.declared.refusal.Refusal.{Refusal as Ref};
 ghost use Rattle.mm_value.specs.declared.values.Value.{Value as Val};
 ghost use Rattle.mm_value.specs.declared.values.Value.TheVariants.{Int};
 
-/// Worked examples: values stand in holes in written order, and other literals stay. A hole behind the plus of a shift gets the
-/// number that is given, and one behind its minus gets that number negated.
+/// Worked examples: values fill holes in written order, and other literals are unchanged. A hole after the plus of a shift gets the given
+/// number, and a hole after its minus gets the negated number.
 pub fn values_come_in_written_order()
     ensures order { (first second literal : Val) → merged (true ∷ false ∷ true ∷ []) (first ∷ second ∷ []) (Int (pos 0) ∷ literal ∷ Int (pos 0) ∷ [])
         ≡ first ∷ literal ∷ second ∷ [] }
@@ -30,8 +30,8 @@ pub fn values_come_in_written_order()
     ensures minus { (number : ℤ) → merged (true ∷ []) (Int number ∷ []) (Int (negsuc 0) ∷ []) ≡ Int (neg_ℤ number) ∷ [] }
 {}
 
-/// A command is filled with values in one way: one command is the filled one, and filling has one result. No limit of the length of a line
-/// is involved.
+/// Filling is deterministic: a command filled with values is one command, and filling has one result. The maximum length of a line plays no
+/// role.
 pub fn commands_are_filled_in_one_way()
     ensures filled { (holes : List Bool) (values : List Val) (command filled other : Command) → Filled holes values command filled
         → Filled holes values command other → filled ≡ other }
@@ -39,14 +39,13 @@ pub fn commands_are_filled_in_one_way()
         → IsFilling holes values command result → IsFilling holes values command other → result ≡ other }
 {}
 
-/// The catalog refuses queries alike that differ in their literals alone, where these have the same types.
+/// Queries that differ only in their literals, which have the same types, have the same refusal.
 pub fn alike_queries_have_the_same_refusals()
     ensures { (schema : Schema) (query other : Query) → AreAlike query other
         → first_refusal (query_conditions query schema) ≡ first_refusal (query_conditions other schema) }
 {}
 
-/// Places in place of names leave the literals of a query as they are, in their order, and a query without its literals stands for
-/// what the query stands for, without its literals.
+/// Resolving the names of a query keeps its literals in order, and commutes with removing its literals.
 pub fn placing_keeps_literals()
     ensures literals { (schema : Schema) (query : Query)
         → query_literals query ≡ bound_query_literals (placed_query schema query) ++ flat_map position_literals query.order }
@@ -54,8 +53,8 @@ pub fn placing_keeps_literals()
         → placed_query schema (blank_query query) ≡ blank_bound_query (placed_query schema query) }
 {}
 
-/// What a query stands for, with the literals of another one that differs from it in its literals alone, is what the other one stands
-/// for; and what a query reads lies within its tables, whatever its literals.
+/// Substituting literals commutes with resolving the names of a query. If a query names only existing tables and columns, so does that
+/// query with other literals.
 pub fn alike_queries_are_placed_alike()
     ensures placed { (schema : Schema) (query other : Query) (changed : BoundQuery) → AreAlike query other
         → blank_bound_query changed ≡ blank_bound_query (placed_query schema query)
@@ -65,21 +64,21 @@ pub fn alike_queries_are_placed_alike()
         → IsQueryWithin schema query → IsQueryWithin schema changed }
 {}
 
-/// The catalog refuses changes of rows alike that differ in their literals alone, where these have the same types.
+/// Changes of rows that differ only in their literals, which have the same types, have the same refusal.
 pub fn alike_changes_have_the_same_refusals()
     ensures { (schema : Schema) (mutation other : Mutation) → AreAlikeChanges mutation other
         → first_refusal (binding_conditions mutation schema) ≡ first_refusal (binding_conditions other schema) }
 {}
 
-/// A change that is bound, with the literals of another one that differs from it in its literals alone, is the other one bound.
+/// Substituting literals commutes with binding a change of rows.
 pub fn alike_changes_bind_alike()
     ensures { (schema : Schema) (mutation other : Mutation) (bound changed : BoundChange) → AreAlikeChanges mutation other
         → Binds schema mutation bound → blank_bound_change changed ≡ blank_bound_change bound
         → bound_change_literals changed ≡ change_literals other → Binds schema other changed }
 {}
 
-/// A bound query with new values in its holes is the bound form of a query: of the one that its template is with these values. The
-/// catalog does not refuse that one either, and it has the same tables.
+/// A bound query with new values in its holes is the bound form of its template with these values. The catalog does not refuse that query
+/// either, and it has the same tables.
 pub fn refilled_queries_are_bound()
     ensures { (schema : Schema) (template query : Query) (old new : BoundQuery) (holes : List Bool) (earlier values : List Val)
         → BindsFilledQuery schema holes earlier template query old → length values ≡ hole_count holes
@@ -87,8 +86,8 @@ pub fn refilled_queries_are_bound()
         → (other : Query) × BindsFilledQuery schema holes values template other new × (other.from ≡ query.from) }
 {}
 
-/// A bound change of rows with new values in its holes is the bound form of a change: of the one that its template is with these
-/// values. The catalog does not refuse that one either.
+/// A bound change of rows with new values in its holes is the bound form of its template with these values. The catalog does not refuse
+/// that change either.
 pub fn refilled_changes_are_bound()
     ensures { (schema : Schema) (template mutation : Mutation) (old new : BoundChange) (holes : List Bool) (earlier values : List Val)
         → BindsFilledChange schema holes earlier template mutation old → length values ≡ hole_count holes

@@ -1,4 +1,4 @@
-//! Commands with values in place of their holes.
+//! Commands with values in place of their holes, before and after binding.
 #![tactic(auto)]
 
 mod filler;

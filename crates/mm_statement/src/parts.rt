@@ -1,4 +1,4 @@
-//! The parts of a command that have literals.
+//! The parts of a command that contain literals.
 ghost use Rattle.std.specs.Prelude.{◌≡◌, List, map};
 ghost use Rattle.std.specs.List.{flat_map};
 ghost use Rattle.std.specs.Mem.{FitsInMemory};
@@ -14,13 +14,13 @@ use mm_schema::NameRef;
 use mm_value::{Few, Refusal, Tuple, Value};
 use std::alloc::{AllocError, Global};
 
-/// A part of a command that has literals.
+/// A part of a command that contains literals.
 pub(crate) trait Fill: Sized + Drop {
     ghost blank: { Self → Self };
 
     ghost literals: { Self → List Val };
 
-    /// The part with the next values in its holes. `Syntax` where one may not stand there.
+    /// Fills the part with the next values. Fails with `Syntax` if a value does not fit its hole.
     fn fill(self, filler: &mut Filler<'_>) -> Result<Self, Refusal>
         ensures { FillsPart blank literals filler.old filler.new self result };
 
@@ -66,7 +66,7 @@ impl<'l> Fill for Assignment<NameRef<'l>> {
     ghost counted = { assignments_counted };
 }
 
-/// An operand with the next value in its hole, if it has one. `Syntax` where a text is given for the number of a shift.
+/// Fills an operand with the next value, if it has a hole. Fails with `Syntax` if a text is given for the number of a shift.
 fn fill_operand<C: Drop>(
     filler: &mut Filler<'_>,
     operand: Operand<C>,
@@ -86,7 +86,7 @@ fn fill_operand<C: Drop>(
     }
 }
 
-/// The number of a shift, or the next value in its hole. `Syntax` where that is a text.
+/// Returns the number of a shift, or the next value if it is a hole. Fails with `Syntax` if that is a text.
 fn fill_number(filler: &mut Filler<'_>, number: i64) -> Result<i64, Refusal>
     ensures { FillsPart blank_number only_number filler.old filler.new number result }
 {
@@ -98,7 +98,7 @@ fn fill_number(filler: &mut Filler<'_>, number: i64) -> Result<i64, Refusal>
     Ok(given)
 }
 
-/// The number that a value is.
+/// Returns the number of a value, or `None` for a text.
 fn number_of(value: &Value) -> Option<i64>
     ensures { result ≡ number_of value.now }
 {
@@ -108,7 +108,8 @@ fn number_of(value: &Value) -> Option<i64>
     }
 }
 
-/// Parts with the next values in their holes. `Syntax` where one may not stand there; or `Memory`, where there is more than one part.
+/// Fills parts with the next values. Fails with `Syntax` if a value does not fit its hole, and with `Memory` if an allocation for more than
+/// one part fails.
 pub(crate) fn fill_few<T: Fill>(
     alloc: Global,
     filler: &mut Filler<'_>,
@@ -133,7 +134,7 @@ pub(crate) fn fill_few<T: Fill>(
     Ok(Few::from_vec(filled))
 }
 
-/// Tuples with the next values in their holes, and copies of their other literals. `AllocError` where memory is refused.
+/// Returns tuples with the next values in their holes and copies of their other literals. Fails with `AllocError` if an allocation fails.
 pub(crate) fn fill_tuples(
     alloc: Global,
     filler: &mut Filler<'_>,
@@ -149,7 +150,7 @@ pub(crate) fn fill_tuples(
     Ok(RowList::new(filled))
 }
 
-/// A tuple with the next values in its holes, and copies of its other literals. `AllocError` where memory is refused.
+/// Returns a tuple with the next values in its holes and copies of its other literals. Fails with `AllocError` if an allocation fails.
 fn fill_tuple(alloc: Global, filler: &mut Filler<'_>, tuple: &Tuple) -> Result<Tuple, AllocError>
     ensures { FillsWithMemory (map blank_value) (λ tuple. tuple) filler.old filler.new tuple.now result }
 {
@@ -161,7 +162,8 @@ fn fill_tuple(alloc: Global, filler: &mut Filler<'_>, tuple: &Tuple) -> Result<T
     Ok(filled)
 }
 
-/// The next value, where a literal is a hole, or a copy of the literal. `AllocError` where memory is refused for a text.
+/// Returns the next value if a literal is a hole, and otherwise a copy of the literal. Fails with `AllocError` if an allocation for a text
+/// fails.
 fn fill_literal(
     alloc: Global,
     filler: &mut Filler<'_>,

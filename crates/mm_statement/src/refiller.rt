@@ -1,4 +1,4 @@
-//! The values that are left for the holes of a bound command.
+//! The remaining values for the holes of a bound command.
 ghost use Rattle.std.specs.Prelude.{◌≡◌, ◌∷◌, [], IfOk, IfSome, OnOk};
 ghost use Rattle.std.specs.Option.{unwrap_or};
 ghost use Rattle.mm_value.specs.declared.values.Value.TheVariants.{Int};
@@ -9,12 +9,12 @@ use crate::holes::Holes;
 use mm_value::Value;
 use std::alloc::{AllocError, AllocFailed, Global};
 
-/// Why a bound command does not get its values.
+/// Why a bound command does not receive its values.
 #[derive(Debug, Drop)]
 pub(crate) enum Stop {
-    /// There are more or fewer values than holes, or one does not fit into its hole.
+    /// There are more or fewer values than holes, or a value does not fit its hole.
     Misfit,
-    /// Memory was refused.
+    /// An allocation failed.
     Memory,
 }
 
@@ -30,7 +30,7 @@ impl<T: Drop> From<AllocFailed<T>> for Stop {
     }
 }
 
-/// Which of the literals that are left are holes, which of them read as -1, and the values that are left for them.
+/// For each remaining literal whether it is a hole and whether it reads as -1, and the remaining values.
 #[derive(Drop)]
 pub(crate) struct Refiller<'a> {
     pub(crate) holes: &'a [bool],
@@ -39,7 +39,7 @@ pub(crate) struct Refiller<'a> {
 }
 
 impl<'a> Refiller<'a> {
-    /// All literals of a command are left, and all values.
+    /// Returns a refiller for all literals of a command and all values.
     pub(crate) fn new(holes: &'a Holes, values: &'a [Value]) -> Refiller<'a>
         ensures holes { result.holes.now ≡ holes.now.are_holes }
         ensures minus_ones { result.minus_ones.now ≡ holes.now.are_minus_one }
@@ -52,7 +52,8 @@ impl<'a> Refiller<'a> {
         }
     }
 
-    /// The value for the next literal, if that is a hole. `Misfit` where there is none, or none that fits.
+    /// Returns the value for the next literal, or `None` if that is not a hole. Fails with `Misfit` if no value remains or the next one
+    /// does not fit, and with `Memory` if an allocation fails.
     pub(crate) fn next(&mut self, alloc: Global, literal: &Value) -> Result<Option<Value>, Stop>
         ensures { IfOk result (λ value. Puts self.old self.new (literal.now ∷ []) (unwrap_or value literal.now ∷ [])) }
     {
@@ -71,7 +72,7 @@ impl<'a> Refiller<'a> {
         Ok(Some(filled))
     }
 
-    /// `Misfit` where a value is left over.
+    /// Checks that no value remains. Fails with `Misfit` if one does.
     pub(crate) fn finish(&self) -> Result<(), Stop>
         ensures { OnOk result (self.now.values.now ≡ []) }
     {
@@ -83,7 +84,8 @@ impl<'a> Refiller<'a> {
     }
 }
 
-/// The value for the hole of a literal, negated where that reads as -1. `Misfit` where it is of another type, or past its range then.
+/// Returns the value for the hole of a literal, negated if the hole reads as -1. Fails with `Misfit` if its type differs from the literal's
+/// or the negated number is out of range, and with `Memory` if an allocation fails.
 fn suited(alloc: Global, is_minus_one: bool, value: &Value, literal: &Value) -> Result<Value, Stop>
     ensures { IfOk result (Suits is_minus_one value.now literal.now) }
 {
@@ -98,7 +100,7 @@ fn suited(alloc: Global, is_minus_one: bool, value: &Value, literal: &Value) -> 
     }
 }
 
-/// A number, or its negation, unless that is past its range.
+/// Returns a number or its negation, or `None` if that is out of range.
 fn signed_number(number: i64, is_negated: bool) -> Option<i64>
     ensures { IfSome result (λ filled. Int filled ≡ signed is_negated (Int number)) }
 {

@@ -1,4 +1,4 @@
-//! New values in the holes of a bound command.
+//! Writing new values into the holes of a bound command.
 ghost use Rattle.std.specs.Prelude.{◌≡◌, ◌∷◌, [], ℕ, List, IfOk, IfSome, IsOk, OnOk, map, true};
 ghost use Rattle.std.specs.List.{flat_map};
 ghost use Rattle.std.specs.Option.{unwrap_or};
@@ -16,9 +16,10 @@ use mm_query::{Assignment, Atom, BoundQuery, FieldPlace, Operand, RowList, Short
 use mm_value::{Few, Tuple, Value};
 use std::alloc::{AllocError, Global};
 
-/// Puts new values into the holes of a bound query, in written order. Nothing else of it is touched, and only a text of more than 16
-/// bytes takes memory. `false` where there are more or fewer values than holes, where one is of another type than what stands in its
-/// hole, or where it is -2^63 for a hole behind a minus. After that, and after `AllocError`, the query may have some of the values.
+/// Writes new values into the holes of a bound query, in written order, and returns `true`. Changes nothing else, and allocates only for a
+/// text of more than 16 bytes. Returns `false` if there are more or fewer values than holes, or if a value and the literal in its hole
+/// differ in type. Returns `false` also if -2^63 is given for a hole after a minus. After `false` or `AllocError`, the query may contain
+/// some of the values.
 pub fn refill_query(
     alloc: Global,
     holes: &Holes,
@@ -30,7 +31,7 @@ pub fn refill_query(
     are_fitting(refill_atoms(alloc, holes, values, &mut query.atoms))
 }
 
-/// Puts new values into the holes of a bound UPDATE, as `refill_query` does with those of a query.
+/// Writes new values into the holes of a bound UPDATE, as [`refill_query`] does for a query.
 pub fn refill_update(
     alloc: Global,
     holes: &Holes,
@@ -44,7 +45,7 @@ pub fn refill_update(
     are_fitting(refill_assignments_and_atoms(alloc, holes, values, assignments, tests))
 }
 
-/// Puts new values into the holes of a bound DELETE, as `refill_query` does with those of a query.
+/// Writes new values into the holes of a bound DELETE, as [`refill_query`] does for a query.
 pub fn refill_delete(
     alloc: Global,
     holes: &Holes,
@@ -57,8 +58,9 @@ pub fn refill_delete(
     are_fitting(refill_atoms(alloc, holes, values, tests))
 }
 
-/// The rows of a bound INSERT with new values in their holes and copies of the other values. `None` where `refill_query` gives `false`.
-/// `AllocError` where memory is refused for a list of several rows, a row of more than 4 values, or a text of more than 16 bytes.
+/// Returns the rows of a bound INSERT with new values in their holes and copies of the other values. Returns `None` if [`refill_query`]
+/// would return `false`. Fails with `AllocError` if an allocation fails, for a list of several rows, a row of more than 4 values, or a text
+/// of more than 16 bytes.
 pub fn refilled_rows(
     alloc: Global,
     holes: &Holes,
@@ -75,7 +77,7 @@ pub fn refilled_rows(
     }
 }
 
-/// Whether all values fit. `AllocError` where memory was refused.
+/// Returns whether all values fit. Fails with `AllocError` if an allocation failed.
 fn are_fitting(outcome: Result<(), Stop>) -> Result<bool, AllocError>
     ensures { IfOk result (λ is_done. is_done ≡ true → IsOk outcome) }
 {
@@ -86,7 +88,7 @@ fn are_fitting(outcome: Result<(), Stop>) -> Result<bool, AllocError>
     }
 }
 
-/// Puts new values into the holes of atoms.
+/// Writes new values into the holes of atoms.
 fn refill_atoms(
     alloc: Global,
     holes: &Holes,
@@ -100,7 +102,7 @@ fn refill_atoms(
     refiller.finish()
 }
 
-/// Puts new values into the holes of assignments, and then of atoms.
+/// Writes new values into the holes of assignments, and then of atoms.
 fn refill_assignments_and_atoms(
     alloc: Global,
     holes: &Holes,
@@ -117,7 +119,7 @@ fn refill_assignments_and_atoms(
     refiller.finish()
 }
 
-/// Puts the next values into the holes of atoms, where they lie.
+/// Writes the next values into the holes of atoms, in place.
 fn put_into_atoms(
     alloc: Global,
     refiller: &mut Refiller<'_>,
@@ -139,7 +141,7 @@ fn put_into_atoms(
     Ok(())
 }
 
-/// Puts the next values into the holes of assignments, where they lie.
+/// Writes the next values into the holes of assignments, in place.
 fn put_into_assignments(
     alloc: Global,
     refiller: &mut Refiller<'_>,
@@ -160,7 +162,7 @@ fn put_into_assignments(
     Ok(())
 }
 
-/// An operand with the next value in its hole, if it has one.
+/// Returns an operand with the next value in its hole, or `None` if it has no hole.
 fn refilled_operand<C: Copy + Drop>(
     alloc: Global,
     refiller: &mut Refiller<'_>,
@@ -181,7 +183,7 @@ fn refilled_operand<C: Copy + Drop>(
     }
 }
 
-/// The next value in place of the number of a shift, if that is a hole.
+/// Returns the next value for the number of a shift, or `None` if that is not a hole.
 fn refilled_number(
     alloc: Global,
     refiller: &mut Refiller<'_>,
@@ -196,7 +198,7 @@ fn refilled_number(
     }
 }
 
-/// Rows with new values in their holes, and copies of the other values.
+/// Returns rows with new values in their holes and copies of the other values.
 fn filled_rows(
     alloc: Global,
     holes: &Holes,
@@ -215,7 +217,7 @@ fn filled_rows(
     Ok(RowList::new(filled))
 }
 
-/// A row with the next values in its holes, and copies of its other values.
+/// Returns a row with the next values in its holes and copies of its other values.
 fn filled_row(alloc: Global, refiller: &mut Refiller<'_>, row: &Tuple) -> Result<Tuple, Stop>
     ensures { IfOk result (RefillsPart (map blank_value) (λ (row : List Val). row) refiller.old refiller.new row.now) }
 {
@@ -227,7 +229,7 @@ fn filled_row(alloc: Global, refiller: &mut Refiller<'_>, row: &Tuple) -> Result
     Ok(filled)
 }
 
-/// The next value, where a literal is a hole, or a copy of the literal.
+/// Returns the next value if a literal is a hole, and otherwise a copy of the literal.
 fn filled_value(alloc: Global, refiller: &mut Refiller<'_>, literal: &Value) -> Result<Value, Stop>
     ensures { IfOk result (λ filled. Puts refiller.old refiller.new (literal.now ∷ []) (filled ∷ [])) }
 {

@@ -1,4 +1,4 @@
-//! Texts of values in the place of holes.
+//! Laws of literals in place of holes.
 ghost use Rattle.std.specs.Prelude.{◌≡◌, ◌≤◌, ℕ, List, [], ◌∷◌, Err, Ok, Result, Some, codes, count_by, false, length, true};
 ghost use Rattle.std.specs.List.{AllZip};
 ghost use Rattle.mm_value.specs.Literal.{Spells};
@@ -14,9 +14,9 @@ ghost use Rattle.mm_lang.specs.declared.read.token.Symbol.TheVariants.{Minus, Pl
 ghost use Rattle.mm_statement.specs.Filling.{Filled, IsFilling};
 ghost use Rattle.mm_statement.specs.Texts.{IsText, filled_line, keeps_signs, with_texts};
 
-/// Tokens with texts of values in the place of their holes read as the command with these values in its holes, and as no other: where
-/// there is no such command, as with quotes for the number of a shift, they have no reading. A line of at most 4,096 bytes that has
-/// these tokens, with a value for each hole, reads as what filling the command gives.
+/// Tokens with literals of values in place of their holes read as the command with these values in its holes, and as no other command. If
+/// there is no such command, for example because a text is given for the number of a shift, they have no reading. A line of at most 4,096
+/// bytes with these tokens, and with a value for each hole, reads as the result of filling the command.
 pub fn texts_read_as_values()
     ensures filled { (ts texts : List Token) (values : List Val) (command filled : Command) → command_of ts ≡ Some command → AllZip IsText texts values
         → Filled (holes_among ts) values command filled → command_of (with_texts ts texts) ≡ Some filled }
@@ -28,9 +28,9 @@ pub fn texts_read_as_values()
         → reading written ≡ result }
 {}
 
-/// A line with a literal in the place of each hole, if it is then not longer than 4,096 bytes, reads as what filling its command with
-/// the values of these literals gives, and as no other command; but where a literal with a minus stands behind the sign of a shift, the
-/// line has no reading. The bytes of a literal, as those of a printed value, are one token, which is a text of its value.
+/// A line of at most 4,096 bytes, with a literal in place of each hole, reads as the result of filling its command with the values of these
+/// literals. The line reads as no other command. But if a literal with a minus follows the sign of a shift, the line has no reading. The
+/// bytes of a literal, such as those of a printed value, are one token, which denotes its value.
 pub fn filled_lines_read_as_fillings()
     ensures reads { (line : List ℕ) (texts : List (List ℕ)) (values : List Val) (command : Command) (result : Result Command Ref)
         → template_of line ≡ Ok command → AllZip Spells texts values → length values ≡ count_by (λ hole. hole) (holes_of line)
@@ -46,8 +46,8 @@ pub fn filled_lines_read_as_fillings()
     ensures tokens { (text : List ℕ) (value : Val) → Spells text value → (token : Token) × IsText token value × (tokens text ≡ token ∷ []) }
 {}
 
-/// Worked examples: texts stand in the place of holes in written order, with blanks around them, and a `?` in quotes stays. The minus of
-/// a number behind a sign turns that sign.
+/// Worked examples: literals replace holes in written order, with blanks around them, and a `?` in quotes is unchanged. A minus after a
+/// sign inverts that sign.
 pub fn texts_stand_in_written_order()
     ensures line { filled_line (codes "INSERT t ('?', ?, ?)") (codes "1" ∷ codes "'a'" ∷ []) ≡ codes "INSERT t ('?',  1 ,  'a' )" }
     ensures plus { (digits : List ℕ) → with_texts (Mark Plus ∷ Hole ∷ []) (Signed digits ∷ []) ≡ Mark Minus ∷ Word digits ∷ [] }

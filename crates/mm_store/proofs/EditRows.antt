@@ -1,4 +1,4 @@
--- The rows that edits make of a table, and what refuses them.
+-- The rows of a table after edits, and the refusals of edits.
 use Rattle.std.proofs.Common.{◌≡◌, ℕ, List, [], ◌∷◌, Option, Some, refl, sym, ap, ap₂, ◌∙◌}
 use Rattle.std.specs.Prelude.{◌==◌, ◌&&◌}
 use Rattle.std.specs.List.{All, cons_option, list_any}
@@ -40,7 +40,7 @@ pairs_fit key now (e ∷ es) fits =
     ap₂ (λ (o : Option Pair) (ps : List Pair). cons_option o ps) (pair_fit key now e (All-head (Fits key now) e es fits))
     (pairs_fit key now es (All-tail (Fits key now) e es fits))
 
--- ---- of a table of a store
+-- ---- a table of a store
 
 module _ (b : Base) (listed : IsListed b) (t : ℕ) (stored : StoredRows) (at : IsAt (tables_of b) t stored) (es : List Edit)
     (fits : All (Fits (key_in b.stored.tables t) (slots_in b.stored.tables t)) es) where
@@ -60,7 +60,7 @@ module _ (b : Base) (listed : IsListed b) (t : ℕ) (stored : StoredRows) (at : 
       ∙ makes_orphans-place b listed t (base.edit_pairs (slots_in b.stored.tables t) es) in
       λ i. table_rows_conditions (key i) (rows_after-made i) (lacks i) (leaves i)
 
--- ---- capacity was made
+-- ---- capacity was reserved
 
 module _ (t : ℕ) (old mid : Base) (kept : KeepsTaken t old mid) (same : slots_in mid.stored.tables t ≡ slots_in old.stored.tables t) (es : List Edit) where
   key : (u : ℕ) → key_in mid.stored.tables u ≡ key_in old.stored.tables u

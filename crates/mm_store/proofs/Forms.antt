@@ -27,7 +27,7 @@ forms_same tables = record { size = refl; each = λ k d within. SameForm-refl (g
 pub forms_twice : (a b c : List StoredRows) → EachTurns SameForm a b → EachTurns SameForm b c → EachTurns SameForm a c
 forms_twice a b c first second = EachTurns-twice SameForm SameForm SameForm SameForm-trans a b c first second
 
--- one table has turned, and all others are as they were
+-- one table was replaced, and all others are unchanged
 pub forms_turned : (old new : Tables) (place : ℕ) (was is : StoredRows) → IsAt old place was → Turns old place is new → SameForm was is
     → EachTurns SameForm old.tables new.tables
 forms_turned old new place was is there turned form =

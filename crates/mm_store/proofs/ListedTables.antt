@@ -127,7 +127,7 @@ module _ (b : Base) (listed : IsListed b) where
     pub rows_there : rows_of stored ≡ base.rows_at b.stored.tables t
     rows_there = ap (λ (o : Option StoredRows). option_map_or rows_of o []) (sym at) ∙ rows_at-place t
 
--- ---- a table comes
+-- ---- a table is added
 
 last_same : {X : Type 0} (xs ys : List X) (a b : X) → length xs ≡ length ys → xs ++ a ∷ [] ≡ ys ++ b ∷ [] → a ≡ b
 last_same {X} xs ys a b size same =
@@ -221,7 +221,7 @@ module _ (old new : Base) (shapes : map shape_of new.stored.tables ≡ map shape
         };
   }
 
--- ---- one table turns
+-- ---- one table is replaced
 
 module _ (old new : Base) (size : length new.stored.tables ≡ length old.stored.tables) (t : ℕ) (stored : StoredRows) (at : IsAt (tables_of old) t stored)
     (others : KeepsOthers t old.stored.tables new.stored.tables) where
@@ -258,7 +258,7 @@ module _ (old new : Base) (size : length new.stored.tables ≡ length old.stored
   pub turned_at : IsAt (tables_of new) t turned
   turned_at = at_place new t d (omega (arith, within_at old t stored at, size))
 
-  -- an index comes, or goes
+  -- an index is added or dropped
   pub index_added : (column : ℕ) (kind : IndexKind)
       → ((x : LoggedTable) → tables.IndexAdded column kind (get_or old.stored.tables t x) (get_or new.stored.tables t x))
       → (turned ≡ record stored { indexes = turned.indexes }) × AddsIndex column kind stored.indexes turned.indexes

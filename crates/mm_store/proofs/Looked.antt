@@ -1,4 +1,4 @@
--- Which index is the first on a column, and what is found along it.
+-- The first index on a column, and the references found along it.
 use Rattle.std.proofs.Common.{◌≡◌, ◌≢◌, ℕ, ◌+◌, ◌<◌, ◌≤◌, Bool, true, false, cond, List, [], ◌∷◌, ◌++◌, length, get_or, Option, Some, None, ⊎_elim}
 use Rattle.std.proofs.Common.{refl, sym, ◌∙◌, subst, arith}
 use Rattle.std.specs.Prelude.{IfNone, IfSome, position, slice_get}
@@ -58,14 +58,14 @@ pub any_of : (xs : List Index) (n : ℕ) → n < length xs → Index
 any_of [] n within = absurd (omega arith)
 any_of (x ∷ xs) n within = x
 
--- No index of a kind on the column stands before the one that a search finds.
+-- No index of a kind on the column is before the one that a search finds.
 least_on : (column : ℕ) (k : IndexKind) (indexes : List Index) (found place : ℕ) → Some found ≡ position (is_on column k) indexes
     → HasIndex indexes place column k → found ≤ place
 least_on column k indexes found place is has =
     let d : Index = any_of indexes place has.0 in
     position_least (is_on column k) indexes found place d is (test_from_IsOn column k (get_or indexes place d) (has.1 d))
 
--- what a search for an index of a kind tells
+-- the result of a search for an index of a kind
 pub record Sought (stored : StoredRows) (column : ℕ) (k : IndexKind) (result : Option ℕ) : Type 0 where
   pub first : result ≡ position (is_on column k) stored.indexes
   pub found : IfSome result (λ place. HasIndex stored.indexes place column k)
@@ -151,9 +151,9 @@ pub walk_of_keys : (stored : StoredRows) → IsKept stored.places.types stored.k
     → IsWalk stored.key stored stored.refs
 walk_of_keys stored kept = record { ordered = kept.by_key; same = IsPermutation-refl stored.refs }
 
--- ---- rows of one value
+-- ---- rows with one value
 
--- The range from a value to itself are the rows that have it.
+-- The range from a value to itself has exactly the rows with the value.
 pub matches_in_range : (column : ℕ) (stored : StoredRows) (value : Value) (found : List RowRef) → IsRange column stored (Some value) (Some value) found
     → AreMatches column (slot_at stored.places) value stored.refs found
 matches_in_range column stored value found (walk, is_walk, is) =
@@ -164,13 +164,13 @@ matches_in_range column stored value found (walk, is_walk, is) =
     (sym (is ∙ filter_agree (is_between place place) met (λ at. not_apart (place at)) walk))
     (IsPermutation-filter same_ref same_from_test (λ a. test_from_same a a refl) met walk stored.refs is_walk.same)
 
--- ---- the row of a key
+-- ---- the row with a key
 
 module _ (stored : StoredRows) (table : IsTable stored) where
   keys_apart : KeysApart stored.key (slot_at stored.places) stored.refs
   keys_apart = KeysApart-refs stored.key stored.key (slot_at stored.places) stored.refs table.apart table.kept.by_key
 
-  -- What is sought by the key is all that has the value.
+  -- A search by the key finds all rows with the value.
   pub found_of_key : (value : Value) (found : Option RowRef) → IfSome found (Contains stored.refs)
       → IfSome found (λ at. slice_get (row_at (slot_at stored.places) at) stored.key ≡ Some value)
       → IfNone found (All (λ at. slice_get (row_at (slot_at stored.places) at) stored.key ≢ Some value) stored.refs)
@@ -190,12 +190,12 @@ module _ (stored : StoredRows) (table : IsTable stored) where
   found_live (Some at) held = (table.kept.held at).0 held
   found_live None held = tt
 
--- What is found along an index is live, ..
+-- The references found along an index are live, ..
 all_live : (stored : StoredRows) → IsKept stored.places.types stored.key (slot_at stored.places) stored.refs stored.indexes
     → All (IsLive stored.places) stored.refs
 all_live stored kept = λ k d within. (kept.held (get_or stored.refs k d)).0 (Contains-get_or stored.refs k d within)
 
--- .. of one value ..
+-- .. those with one value ..
 pub live_matches : (stored : StoredRows) → IsKept stored.places.types stored.key (slot_at stored.places) stored.refs stored.indexes
     → (column : ℕ) (value : Value) (old new : List RowRef) → Appends (AreMatches column (slot_at stored.places) value stored.refs) old new
     → All (IsLive stored.places) old → All (IsLive stored.places) new
@@ -205,7 +205,7 @@ live_matches stored kept column value old new (found, is, are) live =
     (All-permutation (IsLive stored.places) (filter met stored.refs) found (IsPermutation-sym found (filter met stored.refs) are)
     (All-filter met (IsLive stored.places) stored.refs (all_live stored kept))))
 
--- .. or between two.
+-- .. and those between two.
 pub live_range : (stored : StoredRows) → IsKept stored.places.types stored.key (slot_at stored.places) stored.refs stored.indexes
     → (column : ℕ) (low high : Option Value) (old new : List RowRef) → Appends (IsRange column stored low high) old new
     → All (IsLive stored.places) old → All (IsLive stored.places) new

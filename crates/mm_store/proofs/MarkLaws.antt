@@ -11,16 +11,16 @@ use Rattle.mm_store.specs.Tables.{Tables}
 pub KeepsMarks-same : (store : Tables) (mark : ℕ) → KeepsMarks store store mark
 KeepsMarks-same store mark = record { kept = λ is. is; rows = refl }
 
--- Two changes that keep a savepoint keep it one after the other ..
+-- Two changes that keep a savepoint keep it one after another ..
 pub KeepsMarks-then : (a b c : Tables) (mark : ℕ) → KeepsMarks a b mark → KeepsMarks b c mark → KeepsMarks a c mark
 KeepsMarks-then a b c mark first second = record { kept = λ is. second.kept (first.kept is); rows = second.rows ∙ first.rows }
 
--- .. and so do two that keep all older savepoints, the log of the first being no longer afterwards than that of the second finds it.
+-- .. and so do two that keep all older savepoints, if the log after the first is no longer than the log before the second.
 pub marks_then : (a b c : Tables) → mark_of a ≤ mark_of b → ((mark : ℕ) → mark ≤ mark_of a → KeepsMarks a b mark)
     → ((mark : ℕ) → mark ≤ mark_of b → KeepsMarks b c mark) → (mark : ℕ) → mark ≤ mark_of a → KeepsMarks a c mark
 marks_then a b c longer first second mark within = KeepsMarks-then a b c mark (first mark within) (second mark (omega (arith, longer, within)))
 
--- Where two stores have the same tables and the same log, what is kept of one is kept of the other.
+-- If two stores have the same tables and the same log, what one keeps the other keeps.
 pub KeepsMarks-stored : (old new : Tables) (mark : ℕ) → new.stored ≡ old.stored → KeepsMarks old new mark
 KeepsMarks-stored old new mark same = record {
   kept = λ is. record { within = rw same is.within; lawful = rw same is.lawful };

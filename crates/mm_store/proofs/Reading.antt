@@ -1,4 +1,4 @@
--- What a store shows of its base tables.
+-- The tables of a store and its base tables.
 use Rattle.std.proofs.Common.{◌≡◌, ℕ, zero, suc, ◌<◌, List, [], ◌∷◌, length, map, get_or, Some, refl, sym, ap, ◌∙◌, subst, arith}
 use Rattle.std.specs.Prelude.{slice_get}
 use Rattle.std.specs.List.{All, Contains}
@@ -25,11 +25,11 @@ use Rattle.mm_store.proofs.Joining.{at_index}
 abbrev rows : LoggedTable → StoredRows
 rows table = table.rows
 
--- a table that was made for a list without one
+-- a table with an empty log
 abbrev made_of : StoredRows → LoggedTable
 made_of stored = record { rows = stored; owed = record { key = 0; indexes = 0 } }
 
--- a table that is shown is one of the base
+-- a table of the store is one of the base
 pub within_base : (b : Base) (store : Tables) (table : ℕ) → tables_of b ≡ store → table < length store.tables → table < length b.stored.tables
 within_base b store table is within = omega (arith, within, ap (λ (s : Tables). length s.tables) is, length-map b.stored.tables rows)
 
@@ -81,7 +81,7 @@ module _ (tables : List LoggedTable) (lawful : AreLawful (keys_of tables) (state
       let rest : rows_of_state (keys_of xs) (state_of xs) ≡ map rows_of (map rows xs) = listed xs (All-tail P x xs each) in
       λ i. sym first i ∷ rest i
 
-  -- The rows in use are the lists of rows that are shown.
+  -- The rows in use are the lists of rows of the store.
   pub rows_shown : rows_of_state (keys_of tables) (state_of tables) ≡ map rows_of (map rows tables)
   rows_shown =
       listed tables
@@ -89,23 +89,23 @@ module _ (tables : List LoggedTable) (lawful : AreLawful (keys_of tables) (state
       let kept : IsWhole (get_or tables k d).rows = whole k d within in
       rows_of-slots (get_or tables k d).rows kept.kept kept.small (each_table k d within).apart)
 
--- ---- references that are followed
+-- ---- references to targets
 
--- the slots of a table that is shown
+-- the slots of a table of the store
 slots_shown : (tables : List LoggedTable) (place : ℕ) (stored : StoredRows) → slice_get (map rows tables) place ≡ Some stored
     → slots_in tables place ≡ slot_at stored.places
 slots_shown [] place stored there = cc
 slots_shown (x ∷ xs) zero stored there = let same : x.rows ≡ stored = cc in ap (λ (s : StoredRows). slot_at s.places) same
 slots_shown (x ∷ xs) (suc place) stored there = slots_shown xs place stored there
 
--- a row in use of a table that is shown
+-- a row in use of a table of the store
 pub row_shown : (tables : List LoggedTable) (place : ℕ) (at : RowRef) → place < length tables
     → ((stored : StoredRows) → slice_get (map rows tables) place ≡ Some stored → IsLive stored.places at) → HasRow (slots_in tables place) at
 row_shown [] place at within live = absurd (omega (arith, within))
 row_shown (x ∷ xs) zero at within live = live x.rows refl
 row_shown (x ∷ xs) (suc place) at within live = row_shown xs place at (omega (arith, within)) live
 
--- The row of a reference is in a table that is shown.
+-- The row of a reference is in a table of the store.
 record Shows (tables : List LoggedTable) (place : ℕ) : Type 0 where
   stored : StoredRows
   there : slice_get (map rows tables) place ≡ Some stored
@@ -119,7 +119,7 @@ shows_row (x ∷ xs) (suc place) at live =
     let later = shows_row xs place at live in
     record { stored = later.stored; there = later.there; key = later.key; slots = later.slots }
 
--- what a store says of a row that a row refers to
+-- the target of a row in a store
 abbrev pub Follows : Tables → ℕ → ℕ → List Value → RowRef → Type 0
 Follows store table column row result =
     (target : StoredRows) × (to : ℕ) × Contains store.links (record { from = table; column = column; to = to })

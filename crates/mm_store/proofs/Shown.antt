@@ -1,4 +1,4 @@
--- What always holds of a table that a view shows.
+-- The invariant of a table that a view reads.
 use Rattle.std.proofs.Common.{◌≡◌, ℕ, ◌<◌, Bool, true, List, length, get_or, refl, sym, ◌∙◌, subst, ⊎_elim}
 use Rattle.std.proofs.Math.Logic.{∥∥₁_elim, ∥∥₁_map}
 use Rattle.std.proofs.Props.{props}
@@ -28,7 +28,7 @@ use Rattle.mm_store.specs.Joined.{IsTable}
 use Rattle.mm_store.specs.Seen.{Seen}
 use Rattle.mm_store.specs.Tables.{IsAt}
 
--- Each fact below is decided by what it speaks of, or has one proof at most. So where it holds truncated, it holds.
+-- Each property below is decidable or has at most one proof. So if it holds truncated, it holds.
 
 module _ {X : Type 0} (same : X → X → Bool) (told : (a b : X) → same a b ≡ true → a ≡ b) (itself : (a : X) → same a a ≡ true) where
   IsPermutation-had : (xs ys : List X) → ∥ IsPermutation xs ys ∥₁ → IsPermutation xs ys
@@ -108,6 +108,6 @@ pub table_at : (tables : List StoredRows) (place : ℕ) (stored : StoredRows) �
 table_at tables place stored all there =
     subst IsTable (get_or_from_slice_get tables place stored stored there) (all place stored (slice_get_within tables place stored there))
 
--- What always holds of a table holds of each that a view shows.
+-- The invariant of a table holds of each table that a view reads.
 pub table_seen : (seen : Seen) (table : ℕ) (stored : StoredRows) → IsAt seen.store table stored → IsTable stored
 table_seen seen table stored here = IsTable-had stored (∥∥₁_map seen.kept (λ all. table_at seen.store.tables table stored all here))

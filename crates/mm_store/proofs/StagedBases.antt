@@ -16,7 +16,7 @@ use Rattle.mm_tables.proofs.Slots.{put_other}
 use Rattle.mm_value.specs.declared.row_ref.RowRef.{RowRef}
 use Rattle.mm_value.specs.declared.values.Value.{Value}
 
--- ---- the content of slots
+-- ---- the contents of slots
 
 pub taken_if_live : (now : Slots) (at : RowRef) → HasRow now at → IsTaken (now at)
 taken_if_live now at live = ap holds_row live.1
@@ -24,7 +24,7 @@ taken_if_live now at live = ap holds_row live.1
 pub taken_if_hidden : (now : Slots) (at : RowRef) → HasHidden now at → IsTaken (now at)
 taken_if_hidden now at hidden = ap holds_row hidden.1
 
--- a slot with a row is no free slot
+-- a slot with a row is not a free slot
 pub apart_if_free : (now : Slots) (a b : RowRef) → IsTaken (now a) → now b ≡ Free → a ≢ b
 apart_if_free now a b taken free same =
     let both : true ≡ false = sym taken ∙ (ap (λ (r : RowRef). holds_row (now r)) same ∙ ap holds_row free) in cc
@@ -33,9 +33,9 @@ pub apart_if_live : (now : Slots) (a b : RowRef) → HasHidden now a → HasRow 
 apart_if_live now a b hidden live same =
     let both : Hidden hidden.0 ≡ Live live.0 = sym hidden.1 ∙ (ap now same ∙ live.1) in cc
 
--- ---- what is kept
+-- ---- what stays
 
--- Each slot of a table that has a row is as before, and so are all rows in use, all other tables, and what was logged.
+-- Each slot of a table that has a row is unchanged, and so are all rows in use, all other tables, and the earlier log.
 pub record KeepsTaken (table : ℕ) (old new : Base) : Type 0 where
   pub taken : (at : RowRef) → IsTaken (slots_in old.stored.tables table at) → slots_in new.stored.tables table at ≡ slots_in old.stored.tables table at
   pub rows : rows_now new.stored ≡ rows_now old.stored
@@ -49,7 +49,7 @@ pub log_longer : (t : ℕ) (a b : Base) → KeepsTaken t a b → length a.stored
 log_longer t a b kept =
     omega (arith, ap (λ (rs : List LogRecord). length rs) kept.log.1, length-append a.stored.log kept.log.0)
 
--- capacity was made
+-- capacity was reserved
 pub KeepsTaken-reserved : (t : ℕ) (old new : Base) → state_of new.stored.tables ≡ state_of old.stored.tables → new.stored.log ≡ old.stored.log
     → map shape_of new.stored.tables ≡ map shape_of old.stored.tables → KeepsOthers t old.stored.tables new.stored.tables
     → references_of new.links ≡ references_of old.links → KeepsTaken t old new

@@ -102,7 +102,7 @@ at_turned : (old new : Tables) (t : ℕ) (stored now : StoredRows) → IsAt old 
 at_turned old new t stored now at turns =
     ap (λ (tables : List StoredRows). slice_get tables t) turns ∙ get_set_same old.tables t now (slice_get_within old.tables t stored at)
 
--- ---- one after the other
+-- ---- one change after another
 
 KeepsSlots-both : (a b c : StoredRows) → KeepsSlots a b → KeepsSlots b c → KeepsSlots a c
 KeepsSlots-both a b c first second = record {
@@ -128,7 +128,7 @@ HasStaged-none table store = record {
   marks = λ mark within. KeepsMarks-same store mark;
 }
 
--- More was staged.
+-- More rows were staged.
 pub HasStaged-both : (table : ℕ) (a b c : Tables) → HasStaged table a b → HasStaged table b c → HasStaged table a c
 HasStaged-both table a b c first second = record {
   kept = λ stored at.
@@ -144,12 +144,12 @@ HasStaged-both table a b c first second = record {
   marks = marks_then a b c first.longer first.marks second.marks;
 }
 
--- The table afterwards.
+-- The table after staging.
 pub staged_at : (table : ℕ) (old new : Tables) (staged : HasStaged table old new) (stored : StoredRows) (at : IsAt old table stored)
     → IsAt new table (staged.kept stored at).0
 staged_at table old new staged stored at = at_turned old new table stored (staged.kept stored at).0 at (staged.kept stored at).1
 
--- ---- edits that are ready stay so while rows are staged, and change the same rows
+-- ---- edits that are ready remain so while rows are staged, and change the same rows
 
 module _ (key : ℕ) (now next : Slots) (kept : (at : RowRef) → IsTaken (now at) → next at ≡ now at) where
   row_next : (at : RowRef) → HasRow now at → HasRow next at
@@ -201,7 +201,7 @@ pub pairs_kept : (old new : StoredRows) (es : List Edit) → KeepsSlots old new 
     → pairs_of (slot_at new.places) es ≡ pairs_of (slot_at old.places) es
 pairs_kept old new es kept ready = pairs_next old.key (slot_at old.places) (slot_at new.places) kept.taken es ready.fits
 
--- ---- a further edit
+-- ---- one more edit
 
 abbrev is_no_stage : Edit → Bool
 is_no_stage (Stage at) = false
@@ -217,7 +217,7 @@ fits_no_stage key now (Update at other) fits = refl
 fits_no_stage key now (Move at other) fits = refl
 fits_no_stage key now (Delete at) fits = refl
 
--- No edit names the slot as that of a row that it takes away or replaces.
+-- No edit names the slot as that of its old row.
 abbrev pub NamesNone : List Edit → RowRef → Type 0
 NamesNone es r = All (λ e. (at : RowRef) → old_slot e ≡ Some at → at ≢ r) es
 
@@ -238,7 +238,7 @@ module _ (key : ℕ) (was : Slots) where
   leaves_live (Move at other) (had, hidden) r live out = (out at refl, apart_if_live was other r hidden live)
   leaves_live (Delete at) fits r live out = out at refl
 
-  -- The further edit brings the row of a slot that was free, and takes a row that no other edit does.
+  -- The new row of the further edit is in a slot that was free, and its old row is that of no other edit.
   module _ (f : Edit) (fresh : (at : RowRef) → new_slot f ≡ Some at → was at ≡ Free)
       (live : (at : RowRef) → old_slot f ≡ Some at → HasRow was at) where
     apart_from : (e : Edit) → Fits key was e → ((at : RowRef) → old_slot f ≡ Some at → (own : RowRef) → old_slot e ≡ Some own → own ≢ at)

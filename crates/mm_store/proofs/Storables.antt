@@ -10,6 +10,6 @@ in_storable Free _ = All-nil IsStorable
 in_storable (Live row) all = all
 in_storable (Hidden row) all = all
 
--- So has the row of each reference, which is empty where the slot is free.
+-- So has the row of each reference, which is empty if the slot is free.
 pub row_storable : (places : Places) (at : RowRef) → AreRowsStorable places → AreStorable (row_at (slot_at places) at)
 row_storable places at each = in_storable (slot_at places at) (each at)

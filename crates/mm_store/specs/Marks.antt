@@ -1,4 +1,4 @@
--- Savepoints: the rows of all tables as they were when the log had so many records.
+-- Savepoints: the rows of all tables when the log had a given length.
 use Rattle.std.specs.Prelude.{◌≡◌, ℕ, ◌≤◌, List, length}
 use Rattle.mm_base.specs.Bases as base
 use Rattle.mm_tables.specs.Tables.{at_mark, keys_of}
@@ -9,7 +9,7 @@ use Rattle.mm_store.specs.Tables.{Tables}
 abbrev pub mark_of : Tables → ℕ
 mark_of store = length store.stored.log
 
--- The rows of all tables as they were when the log had so many records.
+-- The rows of all tables when the log had this length.
 abbrev pub rows_at_mark : ℕ → Tables → List (List (List Value))
 rows_at_mark mark store = base.rows_at_mark store.stored mark
 
@@ -18,7 +18,7 @@ pub record IsMark (store : Tables) (mark : ℕ) : Type 0 where
   pub within : mark ≤ length store.stored.log
   pub lawful : base.AreLawful (keys_of store.stored.tables) (at_mark store.stored mark)
 
--- What can be undone in one store can be undone in the other, and leads to the same rows.
+-- If the log of the old store can be undone to the mark, so can the log of the new store, and this leads to the same rows.
 pub record KeepsMarks (old new : Tables) (mark : ℕ) : Type 0 where
   pub kept : IsMark old mark → IsMark new mark
   pub rows : rows_at_mark mark new ≡ rows_at_mark mark old

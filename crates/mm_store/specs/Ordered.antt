@@ -13,7 +13,7 @@ use Rattle.mm_store.specs.declared.table_rows.Order.{Order}
 use Rattle.mm_store.specs.declared.table_rows.Order.TheVariants.{Key, Made, Tree}
 use Rattle.mm_value.specs.declared.values.Value.{Value}
 
--- The rows by a column, and those of one value by their keys.
+-- The rows ordered by a column, and by their keys within a value.
 abbrev pub rows_in_order : ℕ → StoredRows → List (List Value)
 rows_in_order column stored = in_order (rows_by column stored.key) (rows_of stored)
 
@@ -23,7 +23,8 @@ ordered_rows stored Key = rows_of stored
 ordered_rows stored (Tree place column) = rows_in_order column stored
 ordered_rows stored (Made tree) = map (row_at (slot_at stored.places)) tree.refs
 
--- They can be read in it: they are there, few enough, and no two have one key.
+-- The rows can be read in this order: there are few enough of them; for an index, it exists and no two rows have one key; the references of
+-- a built tree are of live rows.
 abbrev pub IsOrder : StoredRows → Order → Type 0
 IsOrder stored Key = length stored.refs ≤ most_rows
 IsOrder stored (Tree place column) =

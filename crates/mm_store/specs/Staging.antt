@@ -1,4 +1,4 @@
--- Rows that are staged: they lie in hidden slots of their table, where no query sees them.
+-- Staged rows: they are in hidden slots of their table, where no query sees them.
 use Rattle.std.specs.Prelude.{◌≡◌, ℕ, ◌≤◌}
 use Rattle.mm_base.specs.Joined.{HaveEntriesFor}
 use Rattle.mm_indexed.specs.Index.{EachTurns, SameIndex}
@@ -13,7 +13,7 @@ use Rattle.std.specs.Prelude.{List}
 use Rattle.mm_store.specs.Marks.{KeepsMarks, mark_of}
 use Rattle.mm_store.specs.Tables.{IsAt, Tables, Turns}
 
--- There is capacity to stage so many rows of a table.
+-- There is capacity to stage `rows` rows of a table.
 pub record CanStage (rows table : ℕ) (store : Tables) : Type 0 where
   pub capacity : HoldsAt (HasCapacity rows 0) store.stored.tables table
   pub log_room : rows ≤ store.stored.log_room
@@ -27,12 +27,12 @@ pub record KeepsSlots (old new : StoredRows) : Type 0 where
   pub key : new.key ≡ old.key
   pub indexes : EachTurns SameIndex old.indexes new.indexes
 
--- A slot that was free has this row, hidden; every other slot is as before.
+-- A slot that was free has this row, hidden; every other slot is unchanged.
 pub record IsStaged (at : RowRef) (row : List Value) (old new : StoredRows) : Type 0 where
   pub fresh : slot_at old.places at ≡ Free
   pub slots : slot_at new.places ≡ put at (Hidden row) (slot_at old.places)
 
--- At most rows of one table were staged since. All tables are otherwise as they were, and so is what was logged.
+-- At most, rows of one table were staged. Otherwise all tables and the earlier log are unchanged.
 pub record HasStaged (table : ℕ) (old new : Tables) : Type 0 where
   pub kept : (stored : StoredRows) → IsAt old table stored → (now : StoredRows) × Turns old table now new × KeepsSlots stored now
   pub links : new.links ≡ old.links

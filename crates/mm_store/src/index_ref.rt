@@ -19,9 +19,9 @@ use ttree::Iter;
 pub enum IndexRef {
     /// The index on the key, which is a tree.
     Key,
-    /// The TREE index at this place of the table's, counted from 0.
+    /// The TREE index at this place among the table's indexes besides the one on the key, counted from 0.
     Tree(usize),
-    /// The HASH index at this place of the table's, counted from 0.
+    /// The HASH index at this place among the table's indexes besides the one on the key, counted from 0.
     Hash(usize),
 }
 
@@ -43,7 +43,7 @@ pub(crate) fn first_index(relation: &IndexedRows, column: usize) -> Option<Index
     }
 }
 
-/// Returns the tree of a table on a column that was created first, or `None` if the column has none. That on the key comes first.
+/// Returns the tree of a table on a column that was created first, or `None` if the column has none. The tree on the key is the first.
 pub(crate) fn first_tree(relation: &IndexedRows, column: usize) -> Option<IndexRef>
     ensures { IsFirstSuch IsTree relation.now column result }
 {
@@ -87,7 +87,7 @@ pub(crate) fn append_matches(
     }
 }
 
-/// Returns the references of all rows of a table along a tree, of which there are at most 1,048,576. Copies nothing.
+/// Returns the references of all rows of a table along a tree: at most 1,048,576. Copies nothing.
 pub(crate) fn tree_walk(relation: &IndexedRows, index: IndexRef) -> Iter<'_>
     requires tree { (column : ℕ) × IsIndexOn relation.now column index × IsTree index }
     requires few { length relation.now.refs ≤ most_rows }

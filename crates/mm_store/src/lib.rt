@@ -1,7 +1,7 @@
-//! The rows of all tables: read by references, in the order of their keys and along further indexes, and changed by edits of references
-//! to staged rows.
+//! The rows of all tables: read by references, in the order of their keys and along further indexes, and changed by edits of references to
+//! staged rows.
 //!
-//! A call that may allocate is passed the allocator; no other call allocates.
+//! A call that may allocate receives the allocator; no other call allocates.
 #![tactic(auto)]
 
 mod index_ref;

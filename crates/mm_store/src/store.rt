@@ -36,7 +36,7 @@ impl Model for Store {
 }
 
 impl Store {
-    /// No tables, and an empty log. Allocates nothing.
+    /// Returns a store without tables, with an empty log. Allocates nothing.
     pub fn new(alloc: Global) -> Store
         ensures tables { result.tables ≡ [] }
         ensures links { result.links ≡ [] }
@@ -47,14 +47,14 @@ impl Store {
         }
     }
 
-    /// The number of tables.
+    /// Returns the number of tables.
     pub fn len(&self) -> usize
         ensures { result ≡ length self.now.tables }
     {
         self.base.len()
     }
 
-    /// Lemma: what always holds of each table. The call does nothing.
+    /// Lemma: the invariant of each table. The call does nothing.
     pub fn keeps_tables(&self)
         ensures { All IsTable self.now.tables }
     {
@@ -62,7 +62,7 @@ impl Store {
         self.base.are_whole();
     }
 
-    /// The rows of a table with their indexes: at most 1,048,576 rows.
+    /// Returns the rows of a table with their indexes: at most 1,048,576 rows.
     pub(crate) fn table(&self, table: usize) -> &IndexedRows
         requires { table < length self.now.tables }
         ensures at { IsAt self.now table result.now }
@@ -73,7 +73,7 @@ impl Store {
         self.base.table(table)
     }
 
-    /// Whether a column of a table refers to another table, and to no further one.
+    /// Returns whether a column of a table refers to another table, and to no other one.
     pub(crate) fn refers_only_to(&self, table: usize, column: usize, to: usize) -> bool
         ensures { IsTrue result ↔ IsReference self.now.links table column to }
     {
@@ -92,7 +92,7 @@ impl Store {
         self.base.follow(table, column, at)
     }
 
-    /// The length of the log: a savepoint, at which the rows of all tables are the current ones.
+    /// Returns the length of the log: a savepoint, at which the rows of all tables are the current ones.
     pub fn mark(&self) -> usize
         ensures mark { result ≡ mark_of self.now }
         ensures is { IsMark self.now result }

@@ -1,4 +1,4 @@
-//! The rows of a table in an order, read where they lie.
+//! The rows of a table in an order, read in place.
 ghost use Rattle.std.specs.Prelude.{◌≡◌, ℕ, ◌∷◌, ◌<◌, ◌≤◌, [], All, IfOk, MatchOption, length, map};
 ghost use Rattle.mm_partition.specs.Places.{IsLive, slot_at};
 ghost use Rattle.mm_partition.specs.Views.{viewed};
@@ -21,18 +21,18 @@ use std::alloc::{AllocError, Global};
 use std::marker::Model;
 use ttree::{Iter, TTree};
 
-/// What the rows of a table are read along.
+/// The order in which the rows of a table are read.
 #[derive(Drop)]
 enum Order {
     /// The tree on the key.
     Key,
-    /// The TREE index at a place of the table's, which is on a column.
+    /// The TREE index at a place of the table's indexes, and its column.
     Tree { place: usize, column: usize },
-    /// A tree that was made for them.
+    /// A tree that was built for the rows.
     Made(TTree),
 }
 
-/// The rows of a table in an order, seen as their list. None is copied: a reader reads them where they lie.
+/// The rows of a table in an order, as their list. None is copied: a reader reads them in place.
 #[derive(Drop)]
 pub struct TableRows<'a> {
     relation: &'a IndexedRows,
@@ -51,7 +51,7 @@ impl<'a> Model for TableRows<'a> {
     ghost invariant = { λ r. IsOrder r.relation.now r.order };
 }
 
-/// The rows of a table that are left to be read, seen as their list.
+/// The unread rows of a table, as their list.
 #[derive(Drop)]
 pub struct StoredRows<'a> {
     relation: &'a IndexedRows,
@@ -71,7 +71,7 @@ impl<'a> Model for StoredRows<'a> {
     ghost invariant = { λ r. All (IsLive r.relation.now.places) r.walk };
 }
 
-// Whole tables are read from the store alone. A view gives no store, so code that is given a view cannot read rows uncounted.
+// Whole tables are read only from the store. A view does not return its store, so code that receives a view cannot read rows uncounted.
 impl Store {
     /// Returns the rows of a table in the order of its key. No row is counted.
     pub fn rows_by_key(&self, table: usize) -> TableRows<'_>
@@ -84,9 +84,9 @@ impl Store {
         }
     }
 
-    /// Returns the rows of a table ordered by the values in the column of the index at a place of the table's, and by their keys
-    /// within a value. A TREE index has this order; for a HASH index the references are sorted first. No row is counted.
-    /// Returns `AllocError` if an allocation fails.
+    /// Returns the rows of a table ordered by the values in the column of the index at a place of the table's indexes, and by their keys
+    /// within a value. A TREE index has this order; for a HASH index the references are sorted first. No row is counted. Fails with
+    /// `AllocError` if an allocation fails.
     pub fn rows_by_index(
         &self,
         alloc: Global,
@@ -110,7 +110,7 @@ impl Store {
 }
 
 impl<'a> TableRows<'a> {
-    /// How many rows there are.
+    /// Returns the number of rows.
     pub fn len(&self) -> usize
         ensures { result ≡ length self.now }
     {
@@ -121,7 +121,7 @@ impl<'a> TableRows<'a> {
         }
     }
 
-    /// What reads them, from the first one on.
+    /// Returns a reader of the rows, from the first one on.
     pub fn reader(&self) -> StoredRows<'_>
         ensures { result ≡ self.now }
     {
@@ -144,7 +144,7 @@ impl<'a> StoredRows<'a> {
     }
 }
 
-/// Reads the rows of a table in the order of its key.
+/// Returns a reader of the rows of a table in the order of its key.
 fn along_key(relation: &IndexedRows) -> StoredRows<'_>
     requires { length relation.now.refs ≤ most_rows }
     ensures { result ≡ rows_of relation.now }
@@ -153,7 +153,7 @@ fn along_key(relation: &IndexedRows) -> StoredRows<'_>
     StoredRows { relation, walk }
 }
 
-/// Reads the rows of a table along its TREE index at a place.
+/// Returns a reader of the rows of a table along its TREE index at a place.
 fn along_index(relation: &IndexedRows, place: usize) -> StoredRows<'_>
     requires few { length relation.now.refs ≤ most_rows }
     requires apart { AreApart relation.now.key (slot_at relation.now.places) }
@@ -164,7 +164,7 @@ fn along_index(relation: &IndexedRows, place: usize) -> StoredRows<'_>
     StoredRows { relation, walk }
 }
 
-/// Reads the rows of a table in the order of a tree.
+/// Returns a reader of the rows of a table in the order of a tree.
 fn along_tree<'a>(relation: &'a IndexedRows, tree: &'a TTree) -> StoredRows<'a>
     requires live { All (IsLive relation.now.places) tree.now.refs }
     requires few { length tree.now.refs ≤ most_rows }

@@ -1,4 +1,4 @@
-//! What a query sees of a store.
+//! Counting readers of a store.
 ghost use Rattle.std.specs.Prelude.{◌≡◌, ℕ, ◌+◌, ◌<◌, ◌≤◌, ◌↔◌, [], length, min, filter, Contains, Some, slice_get};
 ghost use Rattle.std.specs.Prelude.{All, IfOk, IfSome, IsOk, IsTrue, MatchOption, OnOk, OnErr};
 ghost use Rattle.std.specs.List.{cons_option};
@@ -49,7 +49,7 @@ impl<'a> Model for View<'a> {
 }
 
 impl Store {
-    /// Returns the store as a query sees it, of which no row was read yet.
+    /// Returns a view of the store, with no row read yet.
     pub fn view(&self) -> View<'_>
         ensures store { result.store ≡ self.now }
         ensures reads { result.reads ≡ 0 }
@@ -88,8 +88,8 @@ impl<'a> View<'a> {
         self.relation(table).are_references_small();
     }
 
-    /// Returns the row of a reference of a table, which is in use, where it lies. It has the types of the table's columns. The call adds
-    /// 1 to the number of rows read, up to `u64::MAX`.
+    /// Returns the row of a reference to a row in use of a table, in place. The row has the types of the table's columns. The call adds 1
+    /// to the number of rows read, up to `u64::MAX`.
     pub fn row(&mut self, table: usize, at: RowRef) -> RowView<'a>
         requires there { table < length self.old.store.tables }
         requires live { (stored : StoredRows) → IsAt self.old.store table stored → IsLive stored.places at }
@@ -103,7 +103,7 @@ impl<'a> View<'a> {
         store.table(table).row(at)
     }
 
-    /// Returns a staged row of a table, which is hidden, where it lies. No row is counted.
+    /// Returns a staged row of a table, which is hidden, in place. No row is counted.
     pub fn staged_row(&self, table: usize, at: RowRef) -> RowView<'a>
         requires there { table < length self.now.store.tables }
         requires hidden { (stored : StoredRows) → IsAt self.now.store table stored → IsHidden stored.places at }
@@ -112,9 +112,9 @@ impl<'a> View<'a> {
         self.store.table(table).hidden_row(at)
     }
 
-    /// Returns the `order_prefix` of what a row in use of a table has in a column, without reading a text, or `None` if the prefixes
-    /// of the column are not kept. A prefix determines a small number or a short text, so a prefix that is returned counts as a row
-    /// that is read: it adds 1 to the number of rows read, up to `u64::MAX`.
+    /// Returns the `order_prefix` of the value of a row in use of a table in a column, without reading a text, or `None` if the prefixes of
+    /// the column are not kept. A prefix determines a small number or a short text, so a returned prefix counts as a read: it adds 1 to the
+    /// number of rows read, up to `u64::MAX`.
     pub fn prefix_of(&mut self, table: usize, column: usize, at: RowRef) -> Option<u64>
         requires there { table < length self.old.store.tables }
         requires live { (stored : StoredRows) → IsAt self.old.store table stored → IsLive stored.places at }
@@ -155,8 +155,8 @@ impl<'a> View<'a> {
         self.relation(table).column_type(column)
     }
 
-    /// Returns the index in which values of a column of a table are looked up, or `None` if the column has no index: of those on the
-    /// column the one that was created first. That on the key comes before all others.
+    /// Returns the index in which values of a column of a table are looked up, or `None` if the column has no index: the index on the
+    /// column that was created first. The index on the key comes before all others.
     pub fn index_on(&self, table: usize, column: usize) -> Option<IndexRef>
         requires { table < length self.now.store.tables }
         ensures { (stored : StoredRows) → IsAt self.now.store table stored → IsFirstOn stored column result }
@@ -164,8 +164,8 @@ impl<'a> View<'a> {
         first_index(self.relation(table), column)
     }
 
-    /// Returns the tree on a column of a table, or `None` if the column has no tree: of those on the column the one that was created
-    /// first. That on the key comes before all others. The call goes over the table's indexes.
+    /// Returns the tree on a column of a table, or `None` if the column has no tree: the tree on the column that was created first. The
+    /// tree on the key comes before all others. The call visits the table's indexes.
     pub fn tree_on(&self, table: usize, column: usize) -> Option<IndexRef>
         requires { table < length self.now.store.tables }
         ensures { (stored : StoredRows) → IsAt self.now.store table stored → IsFirstSuch IsTree stored column result }
@@ -173,8 +173,8 @@ impl<'a> View<'a> {
         first_tree(self.relation(table), column)
     }
 
-    /// Returns the HASH index on a column of a table, or `None` if the column has no HASH index: of those on the column the one that
-    /// was created first. The call goes over the table's indexes.
+    /// Returns the HASH index on a column of a table, or `None` if the column has no HASH index: the one on the column that was created
+    /// first. The call visits the table's indexes.
     pub fn hash_on(&self, table: usize, column: usize) -> Option<IndexRef>
         requires { table < length self.now.store.tables }
         ensures { (stored : StoredRows) → IsAt self.now.store table stored → IsFirstSuch IsHash stored column result }
@@ -262,8 +262,8 @@ impl<'a> View<'a> {
         append_range(alloc, self.relation(table), index, low, high, out)
     }
 
-    /// Returns the references of all rows of a table along one of its trees: in the order of its column, and those of one value in the
-    /// order of their keys. Copies nothing. No row is counted.
+    /// Returns the references of all rows of a table along one of its trees: in the order of its column, and within one value in the order
+    /// of their keys. Copies nothing. No row is counted.
     pub fn walk(&self, table: usize, index: IndexRef) -> Iter<'a>
         requires there { table < length self.now.store.tables }
         requires tree { (stored : StoredRows) → IsAt self.now.store table stored
@@ -276,7 +276,7 @@ impl<'a> View<'a> {
         tree_walk(self.relation(table), index)
     }
 
-    /// Returns whether a column of a table refers to another table, and to no further one.
+    /// Returns whether a column of a table refers to another table, and to no other one.
     pub fn refers_only_to(&self, table: usize, column: usize, to: usize) -> bool
         ensures { IsTrue result ↔ IsReference self.now.store.links table column to }
     {

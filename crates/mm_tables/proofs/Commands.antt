@@ -15,7 +15,7 @@ use Rattle.mm_tables.specs.declared.edit.Edit.{Edit}
 use Rattle.mm_tables.specs.declared.edit.Edit.TheVariants.{Stage, Insert, Update, Move, Delete}
 use Rattle.mm_tables.proofs.Slots.{same_or_apart, holds_at, on_true, put_other, put_here, equal_self, equal_turns, equal_through}
 
--- an edit leaves a slot alone that it does not name
+-- an edit does not change a slot that it does not name
 pub step_leaves : (e : Edit) (now : Slots) (r : RowRef) → LeavesOut e r → step e now r ≡ now r
 step_leaves (Stage s) now r out = refl
 step_leaves (Insert s) now r out = put_other s r (Live (row_in (now s))) now out
@@ -31,7 +31,7 @@ row_stays old new r same (row, is) = (row, same ∙ is)
 hidden_stays : (old new : Slots) (r : RowRef) → new r ≡ old r → HasHidden old r → HasHidden new r
 hidden_stays old new r same (row, is) = (row, same ∙ is)
 
--- so what another edit needs, or has left, is still there
+-- so the slots that another edit requires, or has left, are unchanged
 fits_still : (key : ℕ) (e f : Edit) (now : Slots) → IsApart e f → Fits key now f → Fits key (step e now) f
 fits_still key e (Stage r) now out fits = fits
 fits_still key e (Insert r) now out fits = hidden_stays now (step e now) r (step_leaves e now r out) fits
@@ -190,7 +190,7 @@ AreApart-after key es now was fits alone at live (other, other_live, apart, same
     (after_new key es now other fits other_live))
     (after_new key es now at fits live)
 
--- ---- the rows that came are in use
+-- ---- the rows that edits brought are in use
 
 leaves_named : (s r : RowRef) (f : Edit) → s ≡ r → IsApart (Insert s) f → LeavesOut f r
 leaves_named s r (Stage q) is out = λ e. out (is ∙ sym e)

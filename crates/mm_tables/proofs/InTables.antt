@@ -88,7 +88,7 @@ module _ (tables : List LoggedTable) (i : ℕ) (old new : LoggedTable) (within :
   slots-other t apart =
       ap (λ ss. get_or ss t no_slots) (map-set slots_of tables i new) ∙ get_or-set_other (state_of tables) i t (slots_of new) no_slots apart
 
-  -- the slots of the table are put back
+  -- the slots of the table are restored
   pub state-back : (e : Edit) → step_back e (slots_of new) ≡ slots_of old → back (logged i e) (state_of (set tables i new)) ≡ state_of tables
   state-back e was =
       ap (set (state_of (set tables i new)) i) (ap (step_back e) slots-here ∙ (was ∙ sym (slots_read tables i old within read)))
@@ -101,7 +101,7 @@ module _ (tables : List LoggedTable) (i : ℕ) (old new : LoggedTable) (within :
   pub HoldsAt-other : (P : LoggedTable → Type 0) (t : ℕ) → t ≢ i → HoldsAt P tables t → HoldsAt P (set tables i new) t
   HoldsAt-other P t apart here d = subst P (sym (get_or-set_other tables i t new d apart)) (here d)
 
-  -- what the change makes of a table that was read
+  -- the effect of the change on a table that was read
   pub HoldsAt-turned : (P Q : LoggedTable → Type 0) → (P old → Q new) → HoldsAt P tables i → HoldsAt Q (set tables i new) i
   HoldsAt-turned P Q turn was = HoldsAt-here Q (turn (from_HoldsAt P tables i old read was))
 

@@ -6,3 +6,4 @@ pub mod InTables
 pub mod Logging
 pub mod Settling
 pub mod Making
+pub mod Deleting

@@ -224,7 +224,7 @@ counted-forgotten tables r rest old new within read owed spare was =
       spare = other.spare;
     })
 
--- the numbers of entries to forget are within what the table has counted
+-- the numbers of entries to forget are at most those that the table has counted
 pub owed-front : (r : LogRecord) (rest : List LogRecord) (table : LoggedTable) → HasCounted (r ∷ rest) r.table table
     → (key_places_back r.edit ≤ table.owed.key) × (places_back r.edit ≤ table.owed.indexes)
 owed-front r rest table counted = (
@@ -232,6 +232,6 @@ owed-front r rest table counted = (
   omega (arith, counted.indexes, sum_by-cons (places_in places_back r.table) r rest, places-here places_back r.table r refl),
 )
 
--- a table owes nothing for an empty log
+-- a table owes no capacity for an empty log
 pub owes_nothing : (t : ℕ) (table : LoggedTable) → HasCounted [] t table → (table.owed.key ≡ 0) × (table.owed.indexes ≡ 0)
 owes_nothing t table counted = (counted.key, counted.indexes)

@@ -16,7 +16,15 @@ module _ {E S : Type 0} (back : E → S → S) where
       ∙ (ap (λ es. before back es new) (drop-append-le mark log (e ∷ []) within)
       ∙ (before-append (drop mark log) (e ∷ []) new ∙ ap (before back (drop mark log)) was))
 
-  -- these changes are left, and the rest is undone
+  -- several changes at once
+  pub mark-push_all : (log new_log es : List E) (old new : S) (mark : ℕ) → new_log ≡ log ++ es → before back es new ≡ old → mark ≤ length log
+      → before back (drop mark new_log) new ≡ before back (drop mark log) old
+  mark-push_all log new_log es old new mark pushed was within =
+      ap (λ rs. before back (drop mark rs) new) pushed
+      ∙ (ap (λ rs. before back rs new) (drop-append-le mark log es within)
+      ∙ (before-append (drop mark log) es new ∙ ap (before back (drop mark log)) was))
+
+  -- these changes remain, and the rest is undone
   pub record IsUndoing (all : List E) (start : S) (left : List E) (now : S) : Type 0 where
     pub gone : List E
     pub split : all ≡ left ++ gone
@@ -55,6 +63,12 @@ module _ {E S : Type 0} (back : E → S → S) where
     StandsBack-push [] e now stands rest = (tt, stands)
     StandsBack-push (x ∷ es) e now stands (rest, here) =
         (StandsBack-push es e now stands rest, subst (λ s. Holds s x) (sym (before-append es (e ∷ []) now)) here)
+
+    pub StandsBack-append : (es fs : List E) (now : S) → StandsBack back Holds es (before back fs now) → StandsBack back Holds fs now
+        → StandsBack back Holds (es ++ fs) now
+    StandsBack-append [] fs now old new = new
+    StandsBack-append (x ∷ es) fs now (rest, here) new =
+        (StandsBack-append es fs now rest new, subst (λ s. Holds s x) (sym (before-append es fs now)) here)
 
     pub StandsBack-pop : (es : List E) (e : E) (now : S) → StandsBack back Holds (es ++ e ∷ []) now → Holds now e × StandsBack back Holds es (back e now)
     StandsBack-pop [] e now (rest, here) = (here, tt)

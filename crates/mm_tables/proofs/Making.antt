@@ -1,4 +1,4 @@
--- The edits of a command, one after the other, and the tables that come and go.
+-- The edits of a command, one after the other, and adding and dropping tables.
 use Rattle.std.proofs.Common.{◌≡◌, ℕ, ◌+◌, ◌^◌, ◌<◌, ◌≤◌, ⊎_elim, zero, suc}
 use Rattle.std.proofs.Common.{List, [], ◌∷◌, ◌++◌, length, map, get_or, set, drop, take, refl, sym, ap, ◌∙◌, subst, arith, add-one, length-set}
 use Rattle.std.specs.Prelude.{remove}
@@ -20,11 +20,11 @@ use Rattle.mm_tables.specs.declared.logged_table.LoggedTable.{LoggedTable}
 use Rattle.mm_tables.proofs.InTables.{slots_read, key_read, key_same, state_next, slots_next}
 use Rattle.mm_tables.proofs.Room.{HasRoom-fewer, HasRoomFor-cons}
 
--- the item that a loop has come to
+-- the item that a loop has reached
 pub dropped : {X : Type 0} (xs : List X) (i : ℕ) (x : X) → i < length xs → x ≡ get_or xs i x → drop i xs ≡ x ∷ drop (i + 1) xs
 dropped xs i x within is = rw (add-one i, drop-cons xs i x within) (ap (λ y. y ∷ drop (suc i) xs) (sym is))
 
--- the log has one edit more
+-- the log has one more edit
 pub log_more : (i : ℕ) (log : List LogRecord) (edits : List Edit) (k : ℕ) (e : Edit) → k < length edits → e ≡ get_or edits k e
     → (log ++ map (logged i) (take k edits)) ++ logged i e ∷ [] ≡ log ++ map (logged i) (take (k + 1) edits)
 log_more i log edits k e within is =
@@ -32,7 +32,7 @@ log_more i log edits k e within is =
     ∙ ap (λ (rs : List LogRecord). log ++ rs)
     (sym (ap (map (logged i)) (take_more edits k e within ∙ ap (λ x. take k edits ++ x ∷ []) (sym is)) ∙ map_push (logged i) (take k edits) e))
 
--- the capacity for the edits that are left is for the next one and the others
+-- the capacity for the remaining edits is for the next one and the others
 pub room_ahead : (edits : List Edit) (i : ℕ) (e : Edit) (t : LoggedTable) → i < length edits → e ≡ get_or edits i e → HasRoomFor (drop i edits) t
     → HasRoom 0 (sum_by key_places (drop (i + 1) edits) + key_places e) (sum_by places (drop (i + 1) edits) + places e) t
 room_ahead edits i e t within is was =
@@ -44,7 +44,7 @@ room_next edits i e t within is was =
     HasRoom-fewer 0 (sum_by key_places (drop (i + 1) edits) + key_places e) (sum_by places (drop (i + 1) edits) + places e) 0 (key_places e) (places e) t
     (omega arith) (omega arith) (omega arith) (room_ahead edits i e t within is was)
 
--- one edit more is made
+-- one more edit is made
 pub change_more : (t : ℕ) (log : List LogRecord) (old new : Stored) (edits : List Edit) (i : ℕ) (final : List Slots) (e : Edit)
     → new.log ≡ old.log ++ logged t e ∷ [] → state_of new.tables ≡ set (state_of old.tables) t (step e (slots_in old.tables t))
     → i < length edits → e ≡ get_or edits i e → t < length old.tables → map shape_of new.tables ≡ map shape_of old.tables
@@ -75,7 +75,7 @@ slots_made old new i edits table within size made read =
     let there : i < length (state_of old) = omega (arith, within, length-map old slots_of) in
     sym (slots_read new i table here read) ∙ slots_next (state_of old) (state_of new) i (after edits (slots_in old i)) there made
 
--- what holds of a table that was read
+-- a property of a table that was read
 pub as_read : (tables : List LoggedTable) (i : ℕ) (table : LoggedTable) → i < length tables → table ≡ get_or tables i table → (P : ℕ → Slots → Type 0)
     → P table.rows.key (slots_of table) → P (key_in tables i) (slots_in tables i)
 as_read tables i table within read P holds =
@@ -98,7 +98,7 @@ all_within tables log is k d within =
     let there : (get_or log k d).table < length (state_of tables) = within_from (keys_of tables) log (state_of tables) is.stands k d within in
     omega (arith, there, length-map tables slots_of)
 
--- ---- a table comes, or goes, while the log is empty
+-- ---- a table is added or dropped while the log is empty
 
 past_end : (ss : List Slots) (n : ℕ) → get_or (ss ++ no_slots ∷ []) n no_slots ≡ get_or ss n no_slots
 past_end [] zero = refl

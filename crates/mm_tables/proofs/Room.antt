@@ -2,10 +2,10 @@
 use Rattle.std.proofs.Common.{◌≡◌, ℕ, suc, ◌+◌, ◌*◌, ◌≤◌, List, [], ◌∷◌, length, refl, sym, subst, ap, ap₂, arith}
 use Rattle.std.specs.List.{sum_by}
 use Rattle.std.proofs.lemmas.List.Sums.{sum_by-cons}
-use Rattle.std.specs.Prelude.{map, min, remove, take, drop}
+use Rattle.std.specs.Prelude.{map, remove, take, drop}
 use Rattle.std.proofs.lemmas.List.Elements.{All-append, All-take, All-drop}
 use Rattle.mm_value.specs.declared.row_ref.RowRef.{RowRef}
-use Rattle.mm_indexed.specs.Index.{EachTurns, SameEntries, SameIndex, Trimmed, column_of, kind_of, spare_of}
+use Rattle.mm_indexed.specs.Index.{EachTurns, HasTrimmedRoom, SameEntries, SameIndex, Trimmed, column_of, kind_of, spare_of}
 use Rattle.mm_indexed.specs.Kept.{StoredRows, UsesRoom, SameTable}
 use Rattle.mm_indexed.specs.declared.indexes.index.Index.{Index}
 use Rattle.mm_indexed.specs.declared.indexes.index.Index.TheVariants.{Tree, Hash}
@@ -43,7 +43,7 @@ HasSpare-dropped k m i old new is was = subst (HasSpare k m) (sym is) (record {
       (All-take (λ x. m ≤ spare_of x) i old.indexes was.indexes) (All-drop (λ x. m ≤ spare_of x) (suc i) old.indexes was.indexes);
 })
 
--- the capacity where no entries were counted
+-- the capacity if no entries were counted
 module _ (old new : LoggedTable) (owed : new.owed ≡ old.owed) (spare : (k m : ℕ) → HasSpare k m old.rows → HasSpare k m new.rows) where
   pub HasSpare-same : HasSpare old.owed.key old.owed.indexes old.rows → HasSpare new.owed.key new.owed.indexes new.rows
   HasSpare-same was =
@@ -63,7 +63,7 @@ module _ (old new : LoggedTable) (owed : new.owed ≡ old.owed) (spare : (k m : 
         (spare (old.owed.key + k) (old.owed.indexes + m) was.spare);
   }
 
--- a staged row adds nothing to what a table owes
+-- a staged row adds nothing to the capacity that a table owes
 pub owes_no_more : (old new : LoggedTable) (r : RowRef) → new.owed ≡ old.owed → Owes (Stage r) old.owed new.owed
 owes_no_more old new r same = record {
   key = omega (arith, ap (λ (o : IndexRoom). o.key) same);
@@ -92,7 +92,7 @@ all_places_few (e ∷ es) =
     let rest : (sum_by key_places es ≤ 2 * length es) × (sum_by places es ≤ 2 * length es) = all_places_few es in
     (omega (arith, sum_by-cons key_places e es, (edit_places_few e).0, rest.0), omega (arith, sum_by-cons places e es, (edit_places_few e).1, rest.1))
 
--- capacity for so many edits is capacity for any that many
+-- capacity for a number of edits is capacity for any edits of that number
 pub HasRoomFor-any : (edits : List Edit) (t : LoggedTable) → HasCapacity 0 (length edits) t → HasRoomFor edits t
 HasRoomFor-any edits t was =
     HasRoom-fewer 0 (2 * length edits) (2 * length edits) 0 (sum_by key_places edits) (sum_by places edits) t (omega arith) (all_places_few edits).0
@@ -125,17 +125,17 @@ kind_same (Tree column refs) (Hash other more) same = absurd same
 kind_same (Hash column pairs) (Tree other more) same = absurd same
 kind_same (Hash column pairs) (Hash other more) same = λ i. (same.0 i, kinds.Hash)
 
--- a tree that was trimmed has few spare nodes
+-- a trimmed tree has capacity for few entries
 few_trimmed : (n : ℕ) (x y : Index) → Trimmed n x y → kind_of y ≡ kinds.Tree → spare_of y ≤ n
-few_trimmed n (Tree column refs) (Tree other more) trimmed is = omega (arith, trimmed.spare)
+few_trimmed n (Tree column refs) (Tree other more) trimmed is = trimmed.spare.few
 few_trimmed n (Tree column refs) (Hash other more) trimmed is = absurd trimmed.same
 few_trimmed n (Hash column pairs) (Tree other more) trimmed is = absurd trimmed.same
 few_trimmed n (Hash column pairs) (Hash other more) trimmed is = let no : ⊥ = cc in absurd no
 
-pub HasFewSpares-trimmed : (n : ℕ) (old : StoredRows) (new : LoggedTable) → new.rows ≡ record old { spare = min old.spare n; indexes = new.rows.indexes }
+pub HasFewSpares-trimmed : (n : ℕ) (old : StoredRows) (new : LoggedTable) → HasTrimmedRoom n old.spare new.rows.spare
     → EachTurns (Trimmed n) old.indexes new.rows.indexes → HasFewSpares n new
-HasFewSpares-trimmed n old new rest turns = record {
-  key = omega (arith, ap (λ (r : StoredRows). r.spare) rest);
+HasFewSpares-trimmed n old new key turns = record {
+  key = key.few;
   each = All-turned (Trimmed n) (λ x. Unit {0}) (λ x. kind_of x ≡ kinds.Tree → spare_of x ≤ n) old.indexes new.rows.indexes turns
       (λ x y any trimmed. few_trimmed n x y trimmed) (λ k d within. tt);
 }
@@ -172,7 +172,7 @@ kinds_trimmed n (x ∷ xs) (y ∷ ys) turns =
     { size = omega (arith, turns.size); each = λ k d within. turns.each (suc k) d (omega (arith, within)) } in
     ap₂ (λ (a : ℕ × IndexKind) (more : List (ℕ × IndexKind)). a ∷ more) (kind_same x y (turns.each 0 x (omega arith)).same) (kinds_trimmed n xs ys rest)
 
-pub shape_trimmed : (n : ℕ) (old new : StoredRows) → new ≡ record old { spare = min old.spare n; indexes = new.indexes }
+pub shape_trimmed : (n : ℕ) (old new : StoredRows) → new ≡ record old { spare = new.spare; indexes = new.indexes }
     → EachTurns (Trimmed n) old.indexes new.indexes → shape_rows new ≡ shape_rows old
 shape_trimmed n old new rest turns = λ i. record {
   key = (ap (λ (r : StoredRows). r.key) rest) i;

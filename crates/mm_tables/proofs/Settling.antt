@@ -52,7 +52,7 @@ step_hidden key (Delete r) now at stands (row, is) =
 abbrev pub KeptIn : List LogRecord → ℕ → RowRef → Type 0
 KeptIn rs t at = (r : LogRecord) × Contains rs r × (r.table ≡ t) × (kept_by r.edit ≡ Some at)
 
--- .. so too for all tables
+-- .. and the same for all tables
 back_hidden : (keys : List ℕ) (r : LogRecord) (s : List Slots) (t : ℕ) (at : RowRef) → Holds keys s r → HasHidden (get_or s t no_slots) at
     → HasHidden (get_or (back r s) t no_slots) at ⊎ ((r.table ≡ t) × (kept_by r.edit ≡ Some at))
 back_hidden keys r s t at holds hidden =
@@ -130,7 +130,7 @@ settled_free old new drops none at no_row =
     (λ (dropped : HasHidden old at × (new at ≡ Free)). dropped.1)
     (drops at)
 
--- one drop more
+-- one more drop
 pub DropsHidden-more : (old mid new : Slots) → DropsHidden old mid → DropsHidden mid new → DropsHidden old new
 DropsHidden-more old mid new first second at =
     ⊎_elim
@@ -172,11 +172,11 @@ module _ (tables : List LoggedTable) (i : ℕ) (old new : LoggedTable) (within :
       subst (λ (n : ℕ). IsCleared (slots_in (set tables i new) n) r.edit) (sym here)
       (subst (λ (s : Slots). IsCleared s r.edit) (sym (slots-here tables i old new within read)) cleared)
 
-  -- those that were cleared before still are
+  -- slots that were cleared before still are
   pub still_cleared : (r : LogRecord) → ClearedIn tables r → ClearedIn (set tables i new) r
   still_cleared r was = IsCleared-kept (slots_in tables r.table) (slots_in (set tables i new) r.table) r.edit (drops-set r.table) was
 
--- ---- one edit more of the log is forgotten
+-- ---- one more edit of the log is forgotten
 
 pub forget_more : (start tables : List LoggedTable) (log : List LogRecord) (i t : ℕ) (e : Edit) (old new : LoggedTable) → old ≡ get_or tables t old
     → DropsHidden (slots_of old) (slots_of new) → IsCleared (slots_of new) e → Owes e new.owed old.owed → HasSpare new.owed.key new.owed.indexes new.rows
@@ -218,11 +218,11 @@ pub drops-same : (start old new : List LoggedTable) → state_of new ≡ state_o
     → (t : ℕ) → DropsHidden (slots_in start t) (slots_in new t)
 drops-same start old new same was t = subst (λ (ss : List Slots). DropsHidden (slots_in start t) (get_or ss t no_slots)) (sym same) (was t)
 
--- what holds of the table that was trimmed last
+-- a property of the table that was trimmed last
 pub last_is : (x t : ℕ) (P : ℕ → Type 0) → Some x ≡ Some t → P x → P t
 last_is x t P is here = subst P (let same : x ≡ t = cc in same) here
 
--- one record more names a table that was trimmed
+-- one more record names a table that was trimmed
 pub trim_more : (tables new : List LoggedTable) (log : List LogRecord) (i t : ℕ) (e : Edit) → i < length log → logged t e ≡ get_or log i (logged t e)
     → HoldsAt (HasFewSpares 64) new t → ((n : ℕ) → HoldsAt (HasFewSpares 64) tables n → HoldsAt (HasFewSpares 64) new n)
     → ((k : ℕ) (d : LogRecord) → k < i → HoldsAt (HasFewSpares 64) tables (get_or log k d).table)

@@ -37,7 +37,7 @@ pub on_false : (P : Type 0) (b : Bool) → b ≡ false → OnFalse b P → P
 on_false P true e h = let no : ⊥ = cc in absurd no
 on_false P false e h = h
 
--- what holds of either result
+-- a property of either result
 pub either_way : {T E : Type 0} (r : Result T E) (A B C : Type 0) → OnOk r A → OnErr r B → (A → C) → (B → C) → C
 either_way (Ok x) A B C ok err from_ok from_err = from_ok ok
 either_way (Err e) A B C ok err from_ok from_err = from_err err
@@ -113,11 +113,11 @@ exchanged_made old new a b x y live hidden changes = λ i r.
 column_cmp_total : (key : ℕ) → IsTotalOrder (column_cmp key)
 column_cmp_total key = on_total (λ (row : List Value). slice_get row key) (options_total value_cmp_total)
 
--- rows of one key, the other way round
+-- the equality of keys is symmetric
 pub equal_turns : (key : ℕ) (x y : List Value) → column_cmp key x y ≡ Equal → column_cmp key y x ≡ Equal
 equal_turns key x y same = (column_cmp_total key).antisymm y x ∙ ap ordering_reverse same
 
--- a row has its own key, and two rows that have the key of a third one have one key
+-- a row has its own key, and two rows with the key of a third one have one key
 pub equal_self : (key : ℕ) (x : List Value) → column_cmp key x x ≡ Equal
 equal_self key x = tied_itself (column_cmp_total key) x
 

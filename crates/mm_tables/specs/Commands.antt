@@ -1,12 +1,16 @@
 -- The edits of a command in one table.
-use Rattle.std.specs.Prelude.{◌≡◌, ◌≢◌, ℕ, List, [], ◌∷◌, Some, All, AllPairs}
+use Rattle.std.specs.Prelude.{◌≡◌, ◌≢◌, ℕ, ◌+◌, ◌≤◌, Bool, true, false, List, [], ◌∷◌, Some, All, AllPairs, length}
 use Rattle.std.specs.Bool.{OnTrue}
+use Rattle.std.specs.List.{list_all, sum_by}
 use Rattle.mm_value.specs.declared.row_ref.RowRef.{RowRef}
+use Rattle.mm_schema.specs.Rows.{most_rows}
 use Rattle.mm_row_order.specs.Refs.{Slots, HasRow}
+use Rattle.mm_indexed.specs.Kept.{StoredRows}
 use Rattle.mm_indexed.specs.Twins.{HasTwin}
-use Rattle.mm_tables.specs.Edits.{step, Fits, came_by, has_new_key}
+use Rattle.mm_tables.specs.Edits.{step, Fits, came_by, has_new_key, key_places_back, places_back}
 use Rattle.mm_tables.specs.declared.edit.Edit.{Edit}
 use Rattle.mm_tables.specs.declared.edit.Edit.TheVariants.{Stage, Insert, Update, Move, Delete}
+use Rattle.mm_tables.specs.declared.index_room.IndexRoom.{IndexRoom}
 
 -- the slots after these edits, the first edit first
 abbrev pub after : List Edit → Slots → Slots
@@ -50,3 +54,22 @@ CameAlone key now e = (at : RowRef) → came_by e ≡ Some at → HasTwin key no
 -- .. if its key may be new
 abbrev pub NewKeyAlone : ℕ → Slots → Edit → Type 0
 NewKeyAlone key now e = OnTrue (has_new_key e) (CameAlone key now e)
+
+-- an edit is a deletion
+abbrev pub is_delete : Edit → Bool
+is_delete (Stage r) = false
+is_delete (Insert r) = false
+is_delete (Update a b) = false
+is_delete (Move a b) = false
+is_delete (Delete r) = true
+
+-- The edits are deletions, as many as there are rows in use, and at most as many as a table may have.
+pub record DeletesAll (edits : List Edit) (rows : StoredRows) : Type 0 where
+  pub deletions : list_all is_delete edits ≡ true
+  pub as_many : length edits ≡ length rows.refs
+  pub few : length edits ≤ most_rows
+
+-- A table owes the capacity for the undo of these edits in addition.
+pub record OwesAll (edits : List Edit) (old new : IndexRoom) : Type 0 where
+  pub key : new.key ≡ old.key + sum_by key_places_back edits
+  pub indexes : new.indexes ≡ old.indexes + sum_by places_back edits

@@ -53,7 +53,7 @@ Stands key now (Update a b) = HasRow now a × HasHidden now b × (keys_by key no
 Stands key now (Move a b) = HasRow now a × HasHidden now b
 Stands key now (Delete r) = HasHidden now r
 
--- how many entries an edit inserts into the index on the key, at most
+-- the most entries that an edit inserts into the index on the key
 abbrev pub key_places_made : Edit → ℕ
 key_places_made (Stage r) = 0
 key_places_made (Insert r) = 1
@@ -61,7 +61,7 @@ key_places_made (Update a b) = 0
 key_places_made (Move a b) = 1
 key_places_made (Delete r) = 0
 
--- how many entries an edit inserts into each further index, at most
+-- the most entries that an edit inserts into each further index
 abbrev pub places_made : Edit → ℕ
 places_made (Stage r) = 0
 places_made (Insert r) = 1
@@ -69,7 +69,7 @@ places_made (Update a b) = 1
 places_made (Move a b) = 1
 places_made (Delete r) = 0
 
--- how many entries the undo of an edit inserts into the index on the key, at most
+-- the most entries that the undo of an edit inserts into the index on the key
 abbrev pub key_places_back : Edit → ℕ
 key_places_back (Stage r) = 0
 key_places_back (Insert r) = 0
@@ -77,7 +77,7 @@ key_places_back (Update a b) = 0
 key_places_back (Move a b) = 1
 key_places_back (Delete r) = 1
 
--- how many entries the undo of an edit inserts into each further index, at most
+-- the most entries that the undo of an edit inserts into each further index
 abbrev pub places_back : Edit → ℕ
 places_back (Stage r) = 0
 places_back (Insert r) = 0
@@ -85,15 +85,15 @@ places_back (Update a b) = 1
 places_back (Move a b) = 1
 places_back (Delete r) = 1
 
--- how many entries an edit and its undo insert into the index on the key, at most
+-- the most entries that an edit and its undo insert into the index on the key
 abbrev pub key_places : Edit → ℕ
 key_places e = key_places_made e + key_places_back e
 
--- how many entries an edit and its undo insert into each further index, at most
+-- the most entries that an edit and its undo insert into each further index
 abbrev pub places : Edit → ℕ
 places e = places_made e + places_back e
 
--- A table owes the undo of one edit more than before.
+-- A table owes the capacity for the undo of one more edit.
 pub record Owes (e : Edit) (old new : IndexRoom) : Type 0 where
   pub key : new.key ≡ old.key + key_places_back e
   pub indexes : new.indexes ≡ old.indexes + places_back e
@@ -106,7 +106,7 @@ kept_by (Update a b) = None
 kept_by (Move a b) = None
 kept_by (Delete r) = Some r
 
--- the row that an edit brings into use, or gives other values
+-- the row that an edit brings into use, or whose values it replaces
 abbrev pub came_by : Edit → Option RowRef
 came_by (Stage r) = None
 came_by (Insert r) = Some r
@@ -114,7 +114,7 @@ came_by (Update a b) = Some a
 came_by (Move a b) = Some a
 came_by (Delete r) = None
 
--- the row that an edit brings may have a new key: an Update alone keeps the key
+-- the row that an edit brings may have a new key: only an Update keeps the key
 abbrev pub has_new_key : Edit → Bool
 has_new_key (Stage r) = false
 has_new_key (Insert r) = true

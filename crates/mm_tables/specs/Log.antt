@@ -1,4 +1,4 @@
--- A log of changes of a state, whatever they are, and their undo.
+-- A log of changes of a state of any kind, and their undo.
 use Rattle.std.specs.Prelude.{List, [], ◌∷◌}
 
 module _ {E S : Type 0} (back : E → S → S) where

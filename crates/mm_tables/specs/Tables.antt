@@ -24,7 +24,7 @@ no_slots at = Free
 abbrev pub slots_of : LoggedTable → Slots
 slots_of t = slot_at t.rows.places
 
--- What no edit changes: the key, the types of the columns, and the column and the kind of each further index.
+-- The parts of a table that no edit changes: the key, the types of the columns, and the column and the kind of each further index.
 pub record Shape : Type 0 where
   pub key : ℕ
   pub types : List ColType
@@ -40,7 +40,7 @@ state_of tables = map slots_of tables
 abbrev pub slots_in : List LoggedTable → ℕ → Slots
 slots_in tables t = slice_index_or (state_of tables) t no_slots
 
--- how many slots of each table have been used so far
+-- the number of slots of each table used so far
 abbrev pub extent_of_table : LoggedTable → ℕ
 extent_of_table t = extent_of t.rows.places
 
@@ -70,7 +70,7 @@ pub record Holds (keys : List ℕ) (s : List Slots) (r : LogRecord) : Type 0 whe
   pub within : r.table < length s
   pub stands : Stands (slice_index keys r.table) (slice_index_or s r.table no_slots) r.edit
 
--- The list has one table more at its end, which has no rows, these types, this key and no further index.
+-- The list has one more table at its end, without rows, with these types, this key and no further index.
 pub record AddsTable (key : ℕ) (types : List ColType) (old new : List LoggedTable) : Type 0 where
   pub table : LoggedTable
   pub added : new ≡ old ++ table ∷ []
@@ -78,16 +78,16 @@ pub record AddsTable (key : ℕ) (types : List ColType) (old new : List LoggedTa
   pub extent : extent_of_table table ≡ 0
   pub shape : shape_of table ≡ record { key = key; types = types; indexes = [] }
 
--- a number that belongs to the edit of a change, for the table of the change, and 0 for the others
+-- a number for the edit of a change, in the table of the change, and 0 in the other tables
 abbrev pub places_in : (Edit → ℕ) → ℕ → LogRecord → ℕ
 places_in count t r = cond (eqb t r.table) (count r.edit) 0
 
--- there is capacity for so many more entries in the index on the key, and in each further index
+-- there is capacity for k more entries in the index on the key, and m in each further index
 pub record HasSpare (k m : ℕ) (rows : StoredRows) : Type 0 where
   pub key : k ≤ rows.spare
   pub indexes : All (λ x. m ≤ spare_of x) rows.indexes
 
--- A table has capacity for n new rows, for so many entries in the index on the key and in each further one, and for the undo of all edits
+-- A table has capacity for n new rows, for k entries in the index on the key and m in each further one, and for the undo of all edits
 -- before.
 pub record HasRoom (n k m : ℕ) (t : LoggedTable) : Type 0 where
   pub rows : n ≤ t.rows.places.room
@@ -101,7 +101,7 @@ HasCapacity n m t = HasRoom n (2 * m) (2 * m) t
 abbrev pub HasRoomFor : List Edit → LoggedTable → Type 0
 HasRoomFor edits t = HasRoom 0 (sum_by key_places edits) (sum_by places edits) t
 
--- A table has one index more at the end of its list, on this column and of this kind, and is otherwise as before.
+-- A table has one more index at the end of its list, on this column and of this kind, and is otherwise as before.
 pub record IndexAdded (column : ℕ) (kind : IndexKind) (old new : LoggedTable) : Type 0 where
   pub added : AddsIndex column kind old.rows.indexes new.rows.indexes
   pub rest : new ≡ record old { rows = record old.rows { indexes = new.rows.indexes } }
@@ -110,12 +110,12 @@ pub record IndexAdded (column : ℕ) (kind : IndexKind) (old new : LoggedTable) 
 abbrev pub without_index : ℕ → LoggedTable → LoggedTable
 without_index index t = record t { rows = record t.rows { indexes = remove t.rows.indexes index } }
 
--- the tree on the key has at most so many spare nodes, and so does each TREE index
+-- the tree on the key has at most n spare nodes, and so does each TREE index
 pub record HasFewSpares (n : ℕ) (t : LoggedTable) : Type 0 where
   pub key : t.rows.spare ≤ n
   pub each : All (λ x. kind_of x ≡ kinds.Tree → spare_of x ≤ n) t.rows.indexes
 
--- it holds of a table of the list
+-- a property holds for a table of the list
 abbrev pub HoldsAt : (LoggedTable → Type 0) → List LoggedTable → ℕ → Type 0
 HoldsAt P tables t = (d : LoggedTable) → P (slice_index_or tables t d)
 
@@ -136,13 +136,13 @@ pub record IsLogged (tables : List LoggedTable) (log : List LogRecord) : Type 0 
   pub clean : (t : ℕ) → NoneHidden (slice_index_or (before back log (state_of tables)) t no_slots)
   pub counted : (t : ℕ) → t < length tables → HoldsAt (HasCounted log t) tables t
 
--- What callers see: the tables, the log, and how many more records the log takes without growing.
+-- The model: the tables, the log, and the capacity of the log for more records.
 pub record Stored : Type 0 where
   pub tables : List LoggedTable
   pub log : List LogRecord
   pub log_room : ℕ
 
--- the state when the log had so many records
+-- the state when the log had this length
 abbrev pub at_mark : Stored → ℕ → List Slots
 at_mark s mark = before back (drop mark s.log) (state_of s.tables)
 

@@ -1,6 +1,7 @@
 //! Edits of slots.
 ghost use Rattle.std.specs.Prelude.{◌≡◌};
 ghost use Rattle.std.specs.List.{sum_by};
+ghost use Rattle.mm_tables.specs.Commands.{is_delete};
 ghost use Rattle.mm_tables.specs.Edits.{came_by, has_new_key, kept_by, key_places, places, key_places_back, places_back};
 
 use crate::index_room::IndexRoom;
@@ -22,7 +23,7 @@ pub enum Edit {
 }
 
 impl Edit {
-    /// The most entries that the edit and its undo together insert.
+    /// Returns the most entries that the edit and its undo together insert.
     pub(crate) fn room(self) -> IndexRoom
         ensures key { result.key ≡ key_places self }
         ensures indexes { result.indexes ≡ places self }
@@ -36,7 +37,7 @@ impl Edit {
         IndexRoom { key, indexes }
     }
 
-    /// The most entries that the undo of the edit inserts.
+    /// Returns the most entries that the undo of the edit inserts.
     pub(crate) fn owed(self) -> IndexRoom
         ensures key { result.key ≡ key_places_back self }
         ensures indexes { result.indexes ≡ places_back self }
@@ -49,7 +50,7 @@ impl Edit {
         IndexRoom { key, indexes }
     }
 
-    /// The slot that the edit made hidden.
+    /// Returns the slot that the edit made hidden.
     pub(crate) fn kept(self) -> Option<RowRef>
         ensures { result ≡ kept_by self }
     {
@@ -59,7 +60,7 @@ impl Edit {
         }
     }
 
-    /// The row that the edit brings into use, or gives other values.
+    /// Returns the row that the edit brings into use, or whose values it replaces.
     pub(crate) fn came(self) -> Option<RowRef>
         ensures { result ≡ came_by self }
     {
@@ -69,7 +70,14 @@ impl Edit {
         }
     }
 
-    /// Whether the row that the edit brings may have a new key: an `Update` alone keeps the key.
+    /// Returns whether the edit is a deletion.
+    pub(crate) fn is_delete(self) -> bool
+        ensures { result ≡ is_delete self }
+    {
+        matches!(self, Edit::Delete(_))
+    }
+
+    /// Returns whether the row that the edit brings into use may have a new key. Only an `Update` keeps the key.
     pub(crate) fn has_new_key(self) -> bool
         ensures { result ≡ has_new_key self }
     {
@@ -80,7 +88,7 @@ impl Edit {
     }
 }
 
-/// The most entries that edits and their undo insert together.
+/// Returns the most entries that edits and their undo insert together.
 pub fn room_for(edits: &[Edit]) -> IndexRoom
     ensures key { result.key ≡ sum_by key_places edits.now }
     ensures indexes { result.indexes ≡ sum_by places edits.now }

@@ -1,12 +1,13 @@
-//! A table, and what the undo of its edits needs.
+//! A table, and the capacity that the undo of its edits needs.
 ghost use Rattle.std.specs.Prelude.{◌≡◌, ◌+◌, ◌≤◌, ◌<◌, ◌^◌, ℕ, All, length, OnOk, OnErr};
 ghost use Rattle.mm_value.specs.Storable.{AreStorable};
 ghost use Rattle.mm_schema.specs.Rows.{most_rows};
 ghost use Rattle.mm_partition.specs.Places.{Free, Hidden};
 ghost use Rattle.mm_partition.specs.Types.{HasTypes};
+ghost use Rattle.mm_tables.specs.Commands.{after, DeletesAll, FitsForth, OwesAll};
 ghost use Rattle.mm_tables.specs.Edits.{put, step, step_back, Fits, Stands, key_places, places, key_places_back, places_back, Owes};
 ghost use Rattle.mm_tables.specs.Edits.{IsCleared, DropsHidden};
-ghost use Rattle.mm_tables.specs.Tables.{extent_of_table, slots_of, shape_of, HasSpare, HasRoom, HasFewSpares, IndexAdded, without_index};
+ghost use Rattle.mm_tables.specs.Tables.{extent_of_table, slots_of, shape_of, HasSpare, HasRoom, HasRoomFor, HasFewSpares, IndexAdded, without_index};
 
 use crate::edit::Edit;
 use crate::index_room::IndexRoom;
@@ -16,7 +17,7 @@ use mm_schema::IndexKind;
 use mm_value::{RowRef, Value};
 use std::alloc::{AllocError, Global};
 
-/// A record pays for this many slots to be looked at when slots are given back.
+/// The number of slots that trimming may visit per record.
 const SLOTS_TO_A_RECORD: usize = 16;
 
 /// The rows of a table, and the most entries that the undo of all logged edits inserts into its indexes.
@@ -27,8 +28,7 @@ pub struct LoggedTable {
 }
 
 impl LoggedTable {
-    /// Makes capacity for `rows` new rows, and for so many more entries. `AllocError` if an allocation fails; then there may be more
-    /// capacity.
+    /// Reserves capacity for `rows` new rows, and for more entries. `AllocError` if an allocation fails; then there may be more capacity.
     pub(crate) fn reserve(
         &mut self,
         alloc: Global,
@@ -91,6 +91,25 @@ impl LoggedTable {
         self.owed.indexes += owed.indexes;
     }
 
+    /// Makes edits that delete all rows in use, without a search for each of them.
+    pub(crate) fn delete_all(&mut self, edits: &[Edit])
+        requires deletes { DeletesAll edits.now self.old.rows }
+        requires fits { FitsForth self.old.rows.key edits.now (slots_of self.old) }
+        requires room { HasRoomFor edits.now self.old }
+        requires few_keys { self.old.owed.key + length edits.now < 2 ^ 64 }
+        requires few { self.old.owed.indexes + length edits.now < 2 ^ 64 }
+        ensures slots { slots_of self.new ≡ after edits.now (slots_of self.old) }
+        ensures owed { OwesAll edits.now self.old.owed self.new.owed }
+        ensures spare { HasSpare self.new.owed.key self.new.owed.indexes self.new.rows }
+        ensures extent { extent_of_table self.new ≡ extent_of_table self.old }
+        ensures shape { shape_of self.new ≡ shape_of self.old }
+    {
+        self.rows.is_kept();
+        self.rows.hide_all();
+        self.owed.key += edits.len();
+        self.owed.indexes += edits.len();
+    }
+
     /// Undoes an edit.
     pub(crate) fn undo(&mut self, edit: Edit)
         requires stands { Stands self.old.rows.key (slots_of self.old) edit }
@@ -107,7 +126,7 @@ impl LoggedTable {
         self.owe_less(edit);
     }
 
-    /// Forgets an edit: drops the row that it has hidden, if the row is still hidden.
+    /// Drops the row that an edit has hidden, if the row is still hidden, and no longer keeps capacity for the undo of the edit.
     pub(crate) fn forget(&mut self, edit: Edit)
         requires spare { HasSpare self.old.owed.key self.old.owed.indexes self.old.rows }
         requires owed_keys { key_places_back edit ≤ self.old.owed.key }
@@ -123,7 +142,7 @@ impl LoggedTable {
         self.owe_less(edit);
     }
 
-    /// Owes the undo of an edit no more.
+    /// No longer keeps capacity for the undo of the edit.
     fn owe_less(&mut self, edit: Edit)
         requires owed_keys { key_places_back edit ≤ self.old.owed.key }
         requires owed { places_back edit ≤ self.old.owed.indexes }
@@ -165,7 +184,7 @@ impl LoggedTable {
         self.rows.drop_index(index);
     }
 
-    /// Gives back free slots, unless there were few records for the slots of the table: what that costs grows with the slots.
+    /// Drops the highest free slots, unless there were few records for the slots of the table: the cost of this grows with the slots.
     fn trim_slots(&mut self, records: usize)
         ensures slots { slots_of self.new ≡ slots_of self.old }
         ensures owed { self.new.owed ≡ self.old.owed }
@@ -177,8 +196,8 @@ impl LoggedTable {
         }
     }
 
-    /// Gives back free slots after so many records, and frees spare nodes of each tree until it has at most `n`. Requires that no undo is
-    /// owed.
+    /// Drops the highest free slots after that many records, and frees spare nodes of each tree until it has at most `n`. Requires that no
+    /// capacity is owed for an undo.
     pub(crate) fn trim(&mut self, n: usize, records: usize)
         requires key { self.old.owed.key ≡ 0 }
         requires indexes { self.old.owed.indexes ≡ 0 }

@@ -10,11 +10,12 @@ ghost use Rattle.mm_row_order.specs.Refs.{HasRow};
 ghost use Rattle.mm_indexed.specs.Twins.{AreApart};
 ghost use Rattle.mm_schema.specs.Rows.{most_rows};
 ghost use Rattle.mm_tables.specs.Edits.{put, step, Fits, key_places, places};
-ghost use Rattle.mm_tables.specs.Commands.{after, FitsForth, IsCommand};
+ghost use Rattle.mm_tables.specs.Commands.{after, DeletesAll, FitsForth, IsCommand};
 ghost use Rattle.mm_tables.specs.Tables.{AddsTable, IndexAdded, without_index, extent_in, extents_of, shape_of, state_of, slots_in, key_in, at_mark, logged};
 ghost use Rattle.mm_tables.specs.Tables.{HasCapacity, HasRoom, HasRoomFor, HasFewSpares, HoldsAt, KeepsOthers, IsLogged, IsUndone};
 ghost use Rattle.mm_tables.specs.declared.edit.Edit.TheVariants as made;
 
+use crate::deletions::{delete_all_rows, log_all};
 use crate::edit::{Edit, room_for};
 use crate::index_room::IndexRoom;
 use crate::log_record::LogRecord;
@@ -55,7 +56,7 @@ impl Model for Tables {
 }
 
 impl Tables {
-    /// No tables, and an empty log. Allocates nothing.
+    /// Returns no tables, with an empty log. Allocates nothing.
     pub fn new(alloc: Global) -> Tables
         ensures tables { result.tables ≡ [] }
         ensures log { result.log ≡ [] }
@@ -73,7 +74,7 @@ impl Tables {
         let _log = &self.log;
     }
 
-    /// The number of tables.
+    /// Returns the number of tables.
     pub fn len(&self) -> usize
         ensures { result ≡ length self.now.tables }
     {
@@ -102,7 +103,7 @@ impl Tables {
         Ok(())
     }
 
-    /// Drops a table. The tables after it move forward by one place.
+    /// Drops a table. The places of later tables decrease by one.
     pub fn drop_table(&mut self, table: usize)
         requires within { table < length self.old.tables }
         requires log { self.old.log ≡ [] }
@@ -135,7 +136,7 @@ impl Tables {
         self.tables[table].add_index(alloc, column, kind)
     }
 
-    /// Drops the index of a table at a place, counted from 0. The places of those after it fall by one.
+    /// Drops the index of a table at a place, counted from 0. The places of later indexes decrease by one.
     pub fn drop_index(&mut self, table: usize, index: usize)
         requires within { table < length self.old.tables }
         requires index { HoldsAt (λ x. index < length x.rows.indexes) self.old.tables table }
@@ -148,7 +149,7 @@ impl Tables {
         self.tables[table].drop_index(index);
     }
 
-    /// The rows of a table with their indexes.
+    /// Returns the rows of a table with their indexes.
     pub fn table(&self, table: usize) -> &IndexedRows
         requires { table < length self.now.tables }
         ensures { HoldsAt (λ x. result.now ≡ x.rows) self.now.tables table }
@@ -156,21 +157,21 @@ impl Tables {
         &self.tables[table].rows
     }
 
-    /// The records of the log, the oldest first.
+    /// Returns the records of the log, the oldest first.
     pub fn records(&self) -> &[LogRecord]
         ensures { result.now ≡ self.now.log }
     {
         self.log.as_slice()
     }
 
-    /// The length of the log: a savepoint.
+    /// Returns the length of the log: a savepoint.
     pub fn mark(&self) -> usize
         ensures { result ≡ length self.now.log }
     {
         self.log.len()
     }
 
-    /// Makes capacity for `rows` new rows of a table and `edits` edits, and for their undo. `AllocError` if an allocation fails; then
+    /// Reserves capacity for `rows` new rows of a table and `edits` edits, and for their undo. `AllocError` if an allocation fails; then
     /// there may be more capacity, and all else is as before.
     pub fn reserve(
         &mut self,
@@ -198,8 +199,8 @@ impl Tables {
         self.reserve_room(alloc, table, rows, more)
     }
 
-    /// Makes capacity for these edits of a table, and for their undo: an `Update` needs none in the index on the key. `AllocError` if
-    /// an allocation fails; then there may be more capacity, and all else is as before.
+    /// Reserves capacity for these edits of a table, and for their undo: an `Update` needs none in the index on the key. `AllocError` if an
+    /// allocation fails; then there may be more capacity, and all else is as before.
     pub fn reserve_for(
         &mut self,
         alloc: Global,
@@ -218,7 +219,7 @@ impl Tables {
         self.reserve_room(alloc, table, 0, room_for(edits))
     }
 
-    /// Makes capacity for `rows` new rows of a table, and for `more` entries of its indexes. `AllocError` if an allocation fails; then
+    /// Reserves capacity for `rows` new rows of a table, and for `more` entries of its indexes. `AllocError` if an allocation fails; then
     /// there may be more capacity, and all else is as before.
     pub fn reserve_room(
         &mut self,
@@ -239,7 +240,7 @@ impl Tables {
         self.tables[table].reserve(alloc, rows, more)
     }
 
-    /// Makes capacity for `records` records of the log. `AllocError` if the allocation fails; then nothing changes.
+    /// Reserves capacity for `records` records of the log. `AllocError` if the allocation fails; then nothing changes.
     pub fn reserve_log(&mut self, records: usize) -> Result<(), AllocError>
         ensures ok { OnOk result (records ≤ self.new.log_room) }
         ensures room { self.old.log_room ≤ self.new.log_room }
@@ -315,7 +316,7 @@ impl Tables {
         newest
     }
 
-    /// Undoes all changes that the log has beyond a mark, the newest first. Allocates nothing and cannot fail.
+    /// Undoes all changes that the log has beyond a savepoint, the newest first. Allocates nothing and cannot fail.
     pub fn revert(&mut self, mark: usize)
         requires { mark ≤ length self.old.log }
         ensures state { state_of self.new.tables ≡ at_mark self.old mark }
@@ -329,7 +330,27 @@ impl Tables {
         }
     }
 
-    /// Makes the edits of a command in a table, one after the other.
+    /// Makes the edits of a command that delete all rows of a table, at once.
+    fn delete_all(&mut self, table: usize, edits: &[Edit])
+        requires within { table < length self.old.tables }
+        requires deletes { HoldsAt (λ x. DeletesAll edits.now x.rows) self.old.tables table }
+        requires fits { FitsForth (key_in self.old.tables table) edits.now (slots_in self.old.tables table) }
+        requires capacity { HoldsAt (HasRoomFor edits.now) self.old.tables table }
+        requires log_room { length edits.now ≤ self.old.log_room }
+        ensures state { state_of self.new.tables
+            ≡ slice_set (state_of self.old.tables) table (after edits.now (slots_in self.old.tables table)) }
+        ensures log { self.new.log ≡ self.old.log ++ map (logged table) edits.now }
+        ensures marks { (mark : ℕ) → mark ≤ length self.old.log → at_mark self.new mark ≡ at_mark self.old mark }
+        ensures log_room { self.old.log_room ≤ self.new.log_room + length edits.now }
+        ensures others { KeepsOthers table self.old.tables self.new.tables }
+        ensures extents { extents_of self.new.tables ≡ extents_of self.old.tables }
+        ensures shapes { map shape_of self.new.tables ≡ map shape_of self.old.tables }
+    {
+        self.tables[table].delete_all(edits);
+        log_all(&mut self.log, table as u16, edits);
+    }
+
+    /// Makes the edits of a command in a table, one after the other, unless they delete all its rows.
     fn change_all(&mut self, table: usize, edits: &[Edit])
         requires within { table < length self.old.tables }
         requires fits { FitsForth (key_in self.old.tables table) edits.now (slots_in self.old.tables table) }
@@ -344,13 +365,17 @@ impl Tables {
         ensures extents { extents_of self.new.tables ≡ extents_of self.old.tables }
         ensures shapes { map shape_of self.new.tables ≡ map shape_of self.old.tables }
     {
+        if delete_all_rows(&self.tables[table].rows, edits) {
+            self.delete_all(table, edits);
+            return;
+        }
         for edit in edits {
             self.change(table, *edit);
         }
     }
 
-    /// Makes the edits of a command in a table and returns `true`, unless they leave two rows with one key. Then all tables and the log
-    /// are as they were at a mark, also without the rows that were staged since.
+    /// Makes the edits of a command in a table and returns `true`, unless they leave two rows with one key. In that case, rolls all tables
+    /// and the log back to a savepoint, including the rows staged since, and returns `false`.
     pub fn make(&mut self, mark: usize, table: usize, edits: &[Edit]) -> bool
         requires mark { mark ≤ length self.old.log }
         requires within { table < length self.old.tables }
@@ -388,7 +413,7 @@ impl Tables {
     }
 
     /// Ends the transaction: rows in use stay, every other slot becomes free, and the log is empty. Each table that the log names
-    /// gives back free slots, and each of its trees keeps at most 64 spare nodes. Allocates nothing and cannot fail.
+    /// drops its highest free slots, and each of its trees keeps at most 64 spare nodes. Allocates nothing and cannot fail.
     pub fn settle(&mut self)
         ensures log { self.new.log ≡ [] }
         ensures live { (t : ℕ) (at : RowRef) → HasRow (slots_in self.old.tables t) at

@@ -9,7 +9,7 @@ use crate::logged_table::LoggedTable;
 /// The most spare nodes that a tree keeps at the end of a log.
 const MAX_SPARES: usize = 64;
 
-/// Drops the rows that the edits of a log have hidden, and counts none of the edits any more.
+/// Drops the rows that the edits of a log have hidden, and no longer keeps capacity for the undo of these edits.
 pub fn forget_all(tables: &mut Vec<LoggedTable>, log: &[LogRecord])
     requires within { All (λ r. r.table < length tables.old.items) log.now }
     requires counted { (t : ℕ) → t < length tables.old.items → HoldsAt (HasCounted log.now t) tables.old.items t }
@@ -24,7 +24,7 @@ pub fn forget_all(tables: &mut Vec<LoggedTable>, log: &[LogRecord])
     }
 }
 
-/// Trims the slots and the trees of a table after so many records, unless it is the table that was trimmed last.
+/// Trims the slots and the trees of a table after `records` records, unless it is the table that was trimmed last.
 fn trim_next(tables: &mut Vec<LoggedTable>, last: Option<u16>, table: u16, records: usize)
     requires within { table < length tables.old.items }
     requires counted { (t : ℕ) → t < length tables.old.items → HoldsAt (HasCounted [] t) tables.old.items t }

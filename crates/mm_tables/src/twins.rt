@@ -10,7 +10,7 @@ use crate::edit::Edit;
 use mm_indexed::IndexedRows;
 use mm_value::RowRef;
 
-/// Whether the row that an edit brought has a key that may be new, and that another row has too.
+/// Returns whether an edit brought a row whose key may be new, and another row has that key too.
 fn brings_twin(rows: &IndexedRows, edit: Edit) -> bool
     requires { CameLive (slot_at rows.now.places) edit }
     ensures alone { OnFalse result (NewKeyAlone rows.now.key (slot_at rows.now.places) edit) }
@@ -25,7 +25,7 @@ fn brings_twin(rows: &IndexedRows, edit: Edit) -> bool
     }
 }
 
-/// The row that a command inserts, if that is all that it does.
+/// Returns the row that a command inserts, if that is all that it does.
 pub fn lone_insert(edits: &[Edit]) -> Option<RowRef>
     ensures { IfSome result (λ at. edits.now ≡ made.Insert at ∷ []) }
 {
@@ -35,7 +35,7 @@ pub fn lone_insert(edits: &[Edit]) -> Option<RowRef>
     }
 }
 
-/// Whether a row in use has the key of a hidden row.
+/// Returns whether a row in use has the key of a hidden row.
 pub fn brings_key(rows: &IndexedRows, at: RowRef) -> bool
     requires { IsHidden rows.now.places at }
     ensures { IsTrue result ↔ HasTwin rows.now.key (slot_at rows.now.places) at }
@@ -47,8 +47,8 @@ pub fn brings_key(rows: &IndexedRows, at: RowRef) -> bool
     }
 }
 
-/// Whether one of the rows that edits brought has a key that may be new, and that another row has too. Rows that kept their keys are not
-/// asked: they are apart if they were apart before.
+/// Returns whether an edit brought a row whose key may be new, and another row has that key too. Rows that kept their keys are not checked:
+/// their keys are unique if they were before.
 pub fn bring_twins(rows: &IndexedRows, edits: &[Edit]) -> bool
     requires { All (CameLive (slot_at rows.now.places)) edits.now }
     ensures alone { OnFalse result (All (NewKeyAlone rows.now.key (slot_at rows.now.places)) edits.now) }

@@ -1,4 +1,4 @@
--- Each piece of a line goes to the template as it is or as a hole, and the line is the template with texts in place of its holes.
+-- Each piece of a line is copied to the template or replaced by a hole, and the line is the template with texts in place of its holes.
 use Rattle.std.proofs.Common.{◌≡◌, ◌<◌, ◌≤◌, ◌-◌, inl, inr, ℕ, suc, Bool, true, false, not, ◌&&◌, ◌||◌, eqb, List, [], ◌∷◌}
 use Rattle.std.proofs.Common.{◌++◌, Some, None, append-nil, append_assoc, length, length-append, length-take, take, take-append-drop, drop}
 use Rattle.std.proofs.Common.{refl, sym, ap, subst, ◌∙◌, arith}
@@ -69,7 +69,7 @@ kept_step before after line left rest front behind template values split step c 
     joined : (tail : List ℕ) → (template ++ c.kept) ++ (front ++ tail) ≡ (template ++ (c.kept ++ front)) ++ tail
     joined tail = sym (append_assoc (template ++ c.kept) front tail) ∙ ap (λ l. l ++ tail) (append_assoc template c.kept front)
 
--- The longest run of bytes that are kept.
+-- The longest run of kept bytes.
 pub cut_run : (is_insert before : Bool) (line left bytes rest template : List ℕ) (values : List Value)
     → rest ≡ drop (prefix_len (is_passed is_insert) bytes) bytes → IsCutTo line left bytes template values before
     → IsCutTo line left rest template values false
@@ -99,7 +99,7 @@ cut_operator line left bytes behind template values takes_any n operator is c =
     negated true isnt = sym isnt
     negated false isnt = refl
 
--- .. and the blanks behind it.
+-- .. and the blanks after it.
 pub cut_blanks : (may : Bool) (line left bytes rest template : List ℕ) (values : List Value) → rest ≡ drop (prefix_len is_blank bytes) bytes
     → IsCutTo line left bytes template values may → IsCutTo line left rest template values may
 cut_blanks may line left bytes rest template values is c =
@@ -184,7 +184,7 @@ cut_literal line left rest front behind old new n may after literal taken is c c
     joined is tail =
         sym (append_assoc (old.template ++ c.kept) (63 ∷ []) tail) ∙ ap (λ l. l ++ tail) (sym is ∙ sym (append-nil new.template))
 
--- All is cut, and the rest is kept.
+-- The line is cut to its end, and the rest is kept.
 pub cut_end : (line left rest : List ℕ) (old new : Cut) (may : Bool) → length rest ≡ 0 → IsCutTo line left rest old.template old.values may
     → Keeps old new left → IsWhole line new.template new.values
 cut_end line left [] old new may none c keeps =
@@ -199,14 +199,14 @@ cut_end line left [] old new may none c keeps =
     }
 cut_end line left (b ∷ rest) old new may none c keeps = absurd (omega arith)
 
--- ---- the promise
+-- ---- the contract
 
 some_byte : (b : ℕ) (bs : List ℕ) → is_blank b ≡ false → eqb b 45 ≡ false → is_nothing (b ∷ bs) ≡ false
 some_byte b [] blank comment = ap (λ is. (is && true) || false) blank
 some_byte b (c ∷ bs) blank comment =
     ap (λ is. (is && list_all is_blank (c ∷ bs)) || ((eqb b 45) && (eqb c 45))) blank ∙ ap (λ is. is && (eqb c 45)) comment
 
--- The first byte of such a keyword is a capital letter.
+-- The first byte of a keyword whose lines are cut is a capital letter.
 keyword_byte : (b : ℕ) → (eqb b 83 || eqb b 73 || eqb b 85 || eqb b 68) ≡ true → 65 ≤ b
 keyword_byte b is = by (eqb b 83) refl (eqb b 73) refl (eqb b 85) refl is
   where
@@ -223,7 +223,7 @@ capital_byte b bs high =
     let no_tab : eqb b 9 ≡ false = ne_eqb b 9 (λ is. omega (arith, high, is)) in
     some_byte b bs (ap (λ x. x || eqb b 9) no_space ∙ no_tab) (ne_eqb b 45 (λ is. omega (arith, high, is)))
 
--- A template that begins as a line with such a keyword is no empty line and no comment.
+-- A template that begins as a line with such a keyword is neither an empty line nor a comment.
 begins_something : (line template : List ℕ) → begins_keyword line ≡ true → BeginsAs template line → is_nothing template ≡ false
 begins_something [] template keyword begins = absurd (false≢true keyword)
 begins_something (a ∷ rest) [] keyword (inl same) = let capital = keyword_byte a keyword in absurd (omega (arith, capital, same))
@@ -253,14 +253,14 @@ whole_cut line template values short keyword w =
       fits = omega arith;
     }
 
--- ---- for answers
+-- ---- for the results of calls
 
 -- No bytes are kept.
 pub keeps_nothing : (old : Cut) (bytes : List ℕ) → eqb (length bytes) 0 ≡ true → Keeps old old bytes
 keeps_nothing old [] none = record { template = sym (append-nil old.template); values = refl }
 keeps_nothing old (b ∷ bs) none = absurd (omega (arith, eqb-true (length (b ∷ bs)) 0 none))
 
--- What holds of a call that gives something.
+-- A property of the result of a call that returns `Some`.
 pub if_some : {A P Q : Type 0} (o : Option A) → (P → Q) → IfSome o (λ x. P) → IfSome o (λ x. Q)
 if_some None f h = tt
 if_some (Some x) f h = f h

@@ -1,4 +1,4 @@
--- Bytes that are one token, whatever follows them that begins alike.
+-- Bytes that are one token, whatever bytes with the same beginning follow them.
 use Rattle.std.proofs.Common.{◌≡◌, ◌<◌, ◌≤◌, ◌+◌, inl, inr, ⊎_elim, ℕ, suc, Bool, true, false, ◌&&◌, eqb, List, [], ◌∷◌, ◌++◌, length, take, drop, get_or}
 use Rattle.std.proofs.Common.{one-add, refl, sym, ap, subst, ◌∙◌, arith}
 use Rattle.std.specs.List.{list_all, prefix_len}
@@ -9,7 +9,7 @@ use Rattle.mm_lang.specs.Tokens.{Word, Signed, Mark, begins_equal, begins_word, 
 use Rattle.mm_lang.proofs.Lexing.{run_no, run_yes, word_step}
 use Rattle.mm_template.specs.steps.Pieces.{BeginsAs, IsOneToken, is_sign}
 
--- ---- what does not go on
+-- ---- bytes that continue no token
 
 word_at : (bytes : List ℕ) → begins_word bytes ≡ is_word_byte (get_or bytes 0 0)
 word_at [] = refl
@@ -40,7 +40,7 @@ word_front b (c ∷ cs) tail all ends =
     let behind = (c ∷ cs) ++ tail in
     word_step b behind p.0 ∙ ap (λ joins. onto_word b joins (tokens behind)) q.0 ∙ ap (onto_word b true) (word_front c cs tail p.1 ends)
 
--- The longest run of word bytes has word bytes alone, as each longest run has, and ends where no further one follows.
+-- The longest run of word bytes has only word bytes, as each longest run has, and ends where no further one follows.
 pub run_all : (p : ℕ → Bool) (bytes : List ℕ) → list_all p (take (prefix_len p bytes) bytes) ≡ true
 run_all p [] = refl
 run_all p (b ∷ bs) =
@@ -75,7 +75,7 @@ minus_front : (tail : List ℕ) → begins_word tail ≡ false → tokens (45 �
 unfolding lexed
 minus_front tail ends = ap (λ joins. onto_minus joins (tokens tail)) ends
 
--- A minus and the word directly behind it ..
+-- A minus and the word directly after it ..
 pub signed_token : (bytes : List ℕ) (n : ℕ) → 0 < length bytes → get_or bytes 0 0 ≡ 45 → n ≡ prefix_len is_word_byte (drop 1 bytes) → 0 < n
     → IsOneToken false (take (1 + n) bytes) (drop (1 + n) bytes)
 signed_token [] n some minus run long = absurd (omega arith)

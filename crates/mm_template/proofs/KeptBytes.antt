@@ -1,4 +1,4 @@
--- The table of the bytes that are kept.
+-- The table of the kept bytes.
 use Rattle.std.proofs.Common.{◌≡◌, ◌<◌, ℕ, Bool, map, get_or, refl, ap, ◌∙◌, arith}
 use Rattle.std.specs.List.{range_with_len}
 use Rattle.std.proofs.lemmas.List.FromFn.{get_or-map-range_with_len}

@@ -1,4 +1,4 @@
--- What stands at the front of bytes, by their first ones.
+-- The first piece of some bytes, by their first bytes.
 use Rattle.std.proofs.Common.{◌≡◌, ◌<◌, ◌≤◌, ◌+◌, inl, inr, ℕ, zero, suc, Bool, true, false, ◌||◌, eqb, List, [], ◌∷◌, length, take, drop, get_or}
 use Rattle.std.proofs.Common.{refl, arith}
 use Rattle.std.specs.List.{prefix_len}
@@ -49,7 +49,7 @@ pub comparison_joined : (bytes : List ℕ) → 2 ≤ length bytes → IsOneOf 60
 comparison_joined bytes some (inl less) equal = record { some = omega arith; fits = some; is = at_most_token bytes some less equal }
 comparison_joined bytes some (inr greater) equal = record { some = omega arith; fits = some; is = at_least_token bytes some greater equal }
 
--- A minus, with the word directly behind it if there is one.
+-- A minus, with the word directly after it if there is one.
 pub minus_operator : (bytes : List ℕ) (n : ℕ) → 0 < length bytes → get_or bytes 0 0 ≡ 45 → n ≡ prefix_len is_word_byte (drop 1 bytes)
     → 1 + n ≤ length bytes → IsOperator bytes false (1 + n)
 minus_operator bytes zero some minus run fits = record { some = omega arith; fits = fits; is = minus_token bytes zero some minus run refl }

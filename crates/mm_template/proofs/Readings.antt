@@ -1,4 +1,4 @@
--- What a line that was cut reads as.
+-- The reading of a line that was cut.
 use Rattle.std.proofs.Common.{◌≡◌, ◌≤◌, ℕ, Bool, true, false, cond, ltb, List, [], ◌∷◌, Option, Some, None, Ok, Err, length, refl, sym, ap, ◌∙◌}
 use Rattle.std.specs.Prelude.{Result, IsTrue}
 use Rattle.std.specs.Option.{option_or}
@@ -25,7 +25,7 @@ cut_reads line template values command result c read filling =
 
 -- ---- memory
 
--- A 0 in place of each literal changes nothing.
+-- A 0 in place of each literal does not change whether a command may allocate.
 blank_takes : (c : Command) → command_takes_memory (blank c) ≡ command_takes_memory c
 blank_takes (Define definition) = refl
 blank_takes (Change mutation) = refl
@@ -79,7 +79,7 @@ not_long line fits is =
     by true is = absurd (cc)
     by false is = not_read (plain_command (tokens line)) is
 
--- A line that was cut takes memory where its template's command does.
+-- A line that was cut may allocate if its template's command may.
 pub cut_takes : (line template : List ℕ) (values : List Value) (command : Command) → IsCut line template values → template_of template ≡ Ok command
     → IsTrue (command_takes_memory command) → IsTrue (takes_memory line)
 cut_takes line template values command c read takes = by (reading line) refl

@@ -1,4 +1,4 @@
--- Runs of bytes in front of bytes that agree: blanks, and bytes that are kept.
+-- Runs of bytes before bytes that agree: blanks, and kept bytes.
 use Rattle.std.proofs.Common.{◌≡◌, ◌≤◌, inl, ⊎_elim, ℕ, Bool, true, false, not, ◌&&◌, ◌||◌, eqb, List, [], ◌∷◌, ◌++◌, length, take, drop, get_or, refl}
 use Rattle.std.proofs.Common.{sym, ap, ◌∙◌, arith}
 use Rattle.std.specs.List.{list_all, prefix_len}
@@ -34,7 +34,7 @@ blanks_agree may (b ∷ bs) rest tail texts all a =
 
 -- ---- a byte of a word
 
--- Bytes that begin with a word, and the same with a text in place of each hole behind it.
+-- Bytes that begin with a word, and the same bytes with a text in place of each later hole.
 word_agrees : (b : ℕ) (rest tail word : List ℕ) (ts texts : List Token) → tokens (b ∷ tail) ≡ Word word ∷ ts
     → tokens (b ∷ rest) ≡ Word word ∷ with_texts ts texts → holes_in ts ≡ length texts → Agrees false (b ∷ rest) (b ∷ tail) texts
 word_agrees b rest tail word ts texts of_tail of_rest count = record {
@@ -80,7 +80,7 @@ letter_agrees b rest tail texts letter same a = ⊎_elim joins alone (cases_Bool
         (word_step b rest letter ∙ ap (λ j. onto_word b j (tokens rest)) (same ∙ ends) ∙ ap (λ l. Word (b ∷ []) ∷ l) a.written)
         a.count
 
--- ---- bytes that are kept
+-- ---- kept bytes
 
 kept_byte_agrees : (b : ℕ) (rest tail : List ℕ) (texts : List Token) → is_kept_byte b ≡ true → begins_word rest ≡ begins_word tail
     → Agrees false rest tail texts → Agrees false (b ∷ rest) (b ∷ tail) texts
@@ -111,7 +111,7 @@ not_word b isnt = by (is_word_byte b) isnt
     by true h = h
     by false h = refl
 
--- ---- bytes that are passed
+-- ---- skipped bytes
 
 pub passed_are_kept : (is_insert : Bool) (bytes : List ℕ) → list_all (is_passed is_insert) bytes ≡ true → list_all is_kept_byte bytes ≡ true
 passed_are_kept is_insert [] all = refl
@@ -137,7 +137,7 @@ not_passed is_insert b isnt = by (is_kept_byte b) refl is_insert (is_before_valu
     by true is true false same h = absurd (false≢true (sym h))
     by true is false before same h = absurd (false≢true (sym h))
 
--- The longest run of bytes that are passed ends where no byte of a word follows.
+-- The longest run of skipped bytes ends where no byte of a word follows.
 pub passed_ends : (is_insert : Bool) (bytes : List ℕ) → begins_word (drop (prefix_len (is_passed is_insert) bytes) bytes) ≡ false
 passed_ends is_insert [] = refl
 passed_ends is_insert (b ∷ bs) =
@@ -146,7 +146,7 @@ passed_ends is_insert (b ∷ bs) =
     (λ other. ap (λ n. begins_word (drop n (b ∷ bs))) (run_no (is_passed is_insert) b bs other) ∙ not_passed is_insert b other)
     (cases_Bool (is_passed is_insert b))
 
--- Behind four bytes that are passed the longest run goes on.
+-- After four skipped bytes the longest run continues.
 pub four_passed : (p : ℕ → Bool) (bytes : List ℕ) (w x y z : Bool) → 4 ≤ length bytes → w ≡ p (get_or bytes 0 0) → x ≡ p (get_or bytes 1 0)
     → y ≡ p (get_or bytes 2 0) → z ≡ p (get_or bytes 3 0) → (((w && x) && y) && z) ≡ true
     → drop (prefix_len p (drop 4 bytes)) (drop 4 bytes) ≡ drop (prefix_len p bytes) bytes

@@ -1,4 +1,4 @@
--- A token in front of bytes that agree.
+-- A token before bytes that agree.
 use Rattle.std.proofs.Common.{◌≡◌, ◌<◌, inl, ℕ, suc, Bool, true, false, cond, List, [], ◌∷◌, ◌++◌, Some, None, length, one-add, get_or, refl, sym, ap, ◌∙◌}
 use Rattle.std.proofs.Common.{arith}
 use Rattle.std.specs.Prelude.{count_by}
@@ -15,9 +15,9 @@ use Rattle.mm_statement.specs.Texts.{with_texts}
 use Rattle.mm_template.specs.steps.Pieces.{IsOneToken, is_sign}
 use Rattle.mm_template.specs.steps.Progress.{Agrees, begins_signed}
 
--- ---- a token in front of tokens
+-- ---- a token before tokens
 
--- A token that is no hole stays, unless it is a sign in front of a number with a minus.
+-- A token that is not a hole stays, unless it is a sign before a number with a minus.
 pub with_step : (t : Token) (ts texts : List Token) → is_hole t ≡ false → (is_sign t ≡ true → begins_signed ts texts ≡ false)
     → with_texts (t ∷ ts) texts ≡ t ∷ with_texts ts texts
 with_step (Mark Plus) [] texts no_hole unsigned = refl
@@ -41,7 +41,7 @@ not_signed (Quoted w) ts texts no_hole = refl
 not_signed (Mark s) ts texts no_hole = refl
 not_signed Unreadable ts texts no_hole = refl
 
--- how many holes there are
+-- the number of holes
 abbrev pub holes_in : List Token → ℕ
 holes_in ts = count_by (λ hole. hole) (holes_among ts)
 
@@ -61,7 +61,7 @@ count_step Unreadable ts no_hole = refl
 pub count_hole : (ts : List Token) → holes_in (Hole ∷ ts) ≡ suc (holes_in ts)
 count_hole ts = sum_by-cons (λ hole. cond hole 1 0) true (holes_among ts) ∙ one-add (holes_in ts)
 
--- ---- a piece in front of bytes
+-- ---- a piece before bytes
 
 first_of : (front rest tail : List ℕ) → 0 < length front → get_or (front ++ tail) 0 0 ≡ get_or (front ++ rest) 0 0
 first_of [] rest tail some = absurd (omega arith)

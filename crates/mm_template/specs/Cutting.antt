@@ -7,7 +7,7 @@ use Rattle.mm_lang.specs.Templates.{holes_of}
 use Rattle.mm_lang.specs.Tokens.{Token, tokens}
 use Rattle.mm_statement.specs.Texts.{IsText, with_texts}
 
--- A template, and the values of the literals in place of which it has holes, in their order.
+-- A template with holes, and the values of the literals that the holes replace, in order.
 pub record Cut : Type 0 where
   pub template : List ℕ
   pub values : List Value

@@ -10,11 +10,11 @@ use mm_value::{Value, read_literal};
 use std::alloc::Global;
 use std::marker::Model;
 
-/// The most bytes of a line that is cut. Longer lines are mostly lists of values that do not come again, and the templates that
-/// a caller keeps stay small.
+/// The most bytes of a line that is cut. Longer lines are mostly lists of values that do not occur again, and the limit keeps the templates
+/// that a caller stores small.
 const MAX_CUT_BYTES: usize = 512;
 
-/// The most literals of a line that is cut: more are mostly such lists.
+/// The most literals of a line that is cut. Lines with more are mostly such lists.
 const MAX_LITERALS: usize = 16;
 
 /// Cuts lines into a template and the values of its literals. Keeps the last cut; its allocations are reused.
@@ -33,7 +33,7 @@ impl Model for Cutter {
 }
 
 impl Cutter {
-    /// Nothing is cut yet. Allocates nothing.
+    /// Returns a cutter without a cut. Allocates nothing.
     pub fn new(alloc: Global) -> Cutter {
         Cutter {
             template: Vec::new(alloc),
@@ -41,12 +41,12 @@ impl Cutter {
         }
     }
 
-    /// Cuts a line, without its line feed, and returns whether it was cut. A line is cut that begins with `SELECT`, `INSERT`, `UPDATE`
-    /// or `DELETE`, has at most 512 bytes and 1 to 16 literals to be cut, no `?` outside a text, no text that is not to be cut, no byte
-    /// of no token and no literal past its limit. The template is the line with a `?` in place of each literal after a comparison, of
-    /// each number after a sign, and of each value of an INSERT. A minus directly before digits is cut with them, except after a word or
-    /// a sign, where both remain. Allocates only where the line or a text is longer than those before it, or the literals are more;
-    /// returns false if an allocation fails.
+    /// Cuts a line, without its line feed, and returns whether it was cut. A line is cut if it begins with `SELECT`, `INSERT`, `UPDATE` or
+    /// `DELETE`, and has at most 512 bytes and 1 to 16 literals to be cut. It must have no `?` outside a text, no text that is not to be
+    /// cut, no byte that is part of no token, and no literal past its limit. The template is the line with a `?` in place of each literal
+    /// after a comparison, of each number after a sign, and of each value of an INSERT. A minus directly before digits is cut with them,
+    /// except after a word or a sign, where both remain. Allocates only if the line or a text is longer than earlier ones, or there are
+    /// more literals; returns false if an allocation fails.
     pub fn cut(&mut self, alloc: Global, line: &[u8]) -> bool
         ensures { result ≡ true → IsCut line.now self.new.template self.new.values }
     {
@@ -64,21 +64,21 @@ impl Cutter {
         !self.values.is_empty()
     }
 
-    /// The template of the last line, if it was cut.
+    /// Returns the template of the last line, if it was cut.
     pub fn template(&self) -> &[u8]
         ensures { result.now ≡ self.now.template }
     {
         &self.template
     }
 
-    /// The values of the last line's literals in written order, if it was cut.
+    /// Returns the values of the last line's literals in written order, if it was cut.
     pub fn values(&self) -> &[Value]
         ensures { result.now ≡ self.now.values }
     {
         &self.values
     }
 
-    // Cuts the pieces of a line, one after the other. `None` if it is not to be cut.
+    // Cuts the pieces of a line, one after another. Returns `None` if the line is not to be cut.
     fn cut_pieces(&mut self, alloc: Global, line: &[u8]) -> Option<()>
         requires template { self.old.template ≡ [] }
         requires values { self.old.values ≡ [] }
@@ -103,8 +103,8 @@ impl Cutter {
         self.keep(left)
     }
 
-    // Copies bytes of a line to the template, and after them a hole for the literal that comes then. `None` if the next bytes are no
-    // literal, or more follows at once, or there are too many.
+    // Copies bytes of a line to the template, and after them a hole for the next literal. Returns `None` if the next bytes are not a
+    // literal, if a word or a text follows them directly, if there are too many literals, or if an allocation fails.
     fn cut_literal(&mut self, alloc: Global, kept: &[u8], bytes: &[u8], behind: &[u8]) -> Option<()>
         ensures { IfSome result (λ _. CutsLiteral self.old self.new kept.now bytes.now behind.now) }
     {
@@ -142,7 +142,7 @@ impl Cutter {
     }
 }
 
-// Whether a line begins with a keyword whose lines are cut.
+// Returns whether a line begins with a keyword whose lines are cut.
 fn begins_as_cut_line(line: &[u8]) -> bool
     ensures { result ≡ true → begins_keyword line.now ≡ true }
 {

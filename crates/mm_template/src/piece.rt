@@ -1,4 +1,4 @@
-//! The pieces of a line: what a cut keeps, operators, and how long literals are.
+//! The pieces of a line: bytes that a cut keeps, operators, and the lengths of literals.
 ghost use Rattle.std.specs.Prelude.{◌≡◌, ◌<◌, ◌≤◌, IfSome, drop, false, length, slice_index, slice_index_or, true};
 ghost use Rattle.std.specs.List.{prefix_len};
 ghost use Rattle.mm_lang.specs.Tokens.{is_blank};
@@ -9,14 +9,14 @@ use mm_lang::{blank_len, word_len};
 /// An operator at the front of some bytes.
 #[derive(Clone, Copy)]
 pub(crate) struct Operator {
-    /// Any literal may be cut behind it: it is a comparison, or in an INSERT a comma or an opening parenthesis. Else it is a sign, or a
-    /// minus and the word directly after it, and only a number without a minus may be cut.
+    /// Whether any literal may be cut after it: it is a comparison, or in an INSERT a comma or an opening parenthesis. Otherwise it is a
+    /// sign, or a minus and the word directly after it, and only a number without a minus may be cut.
     pub(crate) takes_any: bool,
     pub(crate) len: usize,
 }
 
-/// Whether each byte remains in the template wherever it is outside texts, operators and the literals after them: a letter, a digit,
-/// `_`, a blank, `.`, `,`, `(` or `)`.
+/// Whether each byte remains in the template if it is outside texts, operators and the literals after them: a letter, a digit, `_`, a
+/// blank, `.`, `,`, `(` or `)`.
 static KEPT_BYTES: [bool; 256] = [
     false, false, false, false, false, false, false, false, false, true, false, false, false,
     false, false, false, false, false, false, false, false, false, false, false, false, false,
@@ -39,8 +39,8 @@ static KEPT_BYTES: [bool; 256] = [
     false, false, false, false, false, false, false, false, false, false,
 ];
 
-/// The rest of some bytes after names, keywords, other words, blanks, points, closing parentheses and, except in an INSERT, commas and
-/// opening parentheses. Most of a line is skipped here, so four bytes are tested at a time.
+/// Returns the rest of some bytes after names, keywords, other words, blanks, points, closing parentheses and, except in an INSERT, commas
+/// and opening parentheses. Most of a line is skipped here, so four bytes are tested at a time.
 pub(crate) fn skip_kept(bytes: &[u8], is_insert: bool) -> &[u8]
     ensures rest { result.now ≡ drop (prefix_len (is_passed is_insert) bytes.now) bytes.now }
     ensures shorter { length result.now ≤ length bytes.now }
@@ -59,7 +59,7 @@ pub(crate) fn skip_kept(bytes: &[u8], is_insert: bool) -> &[u8]
     &rest[passed_len(rest, is_insert)..]
 }
 
-/// The rest of some bytes after blanks.
+/// Returns the rest of some bytes after blanks.
 #[inline(always)]
 pub(crate) fn skip_blanks(bytes: &[u8]) -> &[u8]
     ensures rest { result.now ≡ drop (prefix_len is_blank bytes.now) bytes.now }
@@ -68,8 +68,8 @@ pub(crate) fn skip_blanks(bytes: &[u8]) -> &[u8]
     &bytes[blank_len(bytes)..]
 }
 
-/// The operator at the front of some bytes. `None` where no line is cut: at a `?`, a text that follows no comparison, and a byte of
-/// no token.
+/// Returns the operator at the front of some bytes. Returns `None` if the line is not cut: at a `?`, a text that follows no comparison, and
+/// a byte that is part of no token.
 #[inline(always)]
 pub(crate) fn operator_at(bytes: &[u8]) -> Option<Operator>
     requires { 0 < length bytes.now }
@@ -98,8 +98,8 @@ pub(crate) fn operator_at(bytes: &[u8]) -> Option<Operator>
     }
 }
 
-/// The length of the literal at the front of some bytes that follow an operator and blanks: 0 if none is to be cut there. `None` if no
-/// quote closes a text.
+/// Returns the length of the literal at the front of some bytes that follow an operator and blanks: 0 if none is to be cut there. Returns
+/// `None` if no quote closes a text.
 #[inline(always)]
 pub(crate) fn literal_len(bytes: &[u8], takes_any: bool) -> Option<usize>
     ensures { IfSome result (λ len. MayBeCut bytes.now takes_any len) }
@@ -111,14 +111,14 @@ pub(crate) fn literal_len(bytes: &[u8], takes_any: bool) -> Option<usize>
     }
 }
 
-/// Whether some bytes begin with a quote.
+/// Returns whether some bytes begin with a quote.
 pub(crate) fn begins_text(bytes: &[u8]) -> bool
     ensures { result ≡ begins_text bytes.now }
 {
     matches!(bytes, [b'\'', ..])
 }
 
-// The length of the longest run of bytes that are passed.
+// Returns the length of the longest run of skipped bytes at the front.
 fn passed_len(bytes: &[u8], is_insert: bool) -> usize
     ensures run { result ≡ prefix_len (is_passed is_insert) bytes.now }
     ensures in_range { result ≤ length bytes.now }
@@ -129,7 +129,7 @@ fn passed_len(bytes: &[u8], is_insert: bool) -> usize
         .count()
 }
 
-// Whether a byte is kept, and nothing is looked for behind it. In an INSERT a value follows a comma or an opening parenthesis.
+// Returns whether a byte is kept and skipped. In an INSERT a value follows a comma or an opening parenthesis, so these are not skipped.
 #[inline(always)]
 fn is_passed(byte: u8, is_insert: bool) -> bool
     ensures { result ≡ is_passed is_insert byte }
@@ -137,7 +137,7 @@ fn is_passed(byte: u8, is_insert: bool) -> bool
     is_kept_byte(byte) && !(is_insert && matches!(byte, b',' | b'('))
 }
 
-// Whether a byte is kept.
+// Returns whether a byte is kept.
 #[inline(always)]
 fn is_kept_byte(byte: u8) -> bool
     ensures { result ≡ is_kept_byte byte }
@@ -145,7 +145,7 @@ fn is_kept_byte(byte: u8) -> bool
     is_marked(&KEPT_BYTES, byte)
 }
 
-// Whether a table of all bytes marks this one.
+// Returns whether a table of all bytes marks this one.
 #[inline(always)]
 fn is_marked(table: &[bool; 256], byte: u8) -> bool
     ensures { result ≡ slice_index_or table.now byte false }
@@ -153,7 +153,7 @@ fn is_marked(table: &[bool; 256], byte: u8) -> bool
     table[byte as usize]
 }
 
-// The operator of bytes that begin with `<` or `>`.
+// Returns the operator of bytes that begin with `<` or `>`.
 fn comparison(bytes: &[u8]) -> Operator
     requires some { 0 < length bytes.now }
     requires comparison { IsOneOf 60 62 (slice_index bytes.now 0) }
@@ -171,7 +171,7 @@ fn comparison(bytes: &[u8]) -> Operator
     }
 }
 
-// The operator of bytes that begin with a minus.
+// Returns the operator of bytes that begin with a minus.
 fn minus(bytes: &[u8]) -> Operator
     requires some { 0 < length bytes.now }
     requires minus { slice_index bytes.now 0 ≡ 45 }
@@ -184,7 +184,7 @@ fn minus(bytes: &[u8]) -> Operator
     }
 }
 
-// The length of the text, or of the number with a minus, at the front of bytes that follow a comparison.
+// Returns the length of the text, or of the number with a minus, at the front of bytes that follow a comparison.
 fn compared_len(bytes: &[u8]) -> Option<usize>
     ensures { IfSome result (λ len. len ≤ length bytes.now) }
 {
@@ -198,7 +198,7 @@ fn compared_len(bytes: &[u8]) -> Option<usize>
     }
 }
 
-// The length of a text in quotes at the front, each quote in it doubled. `None` if no quote closes it.
+// Returns the length of a text in quotes at the front, each quote in it doubled. Returns `None` if no quote closes it.
 fn text_len(bytes: &[u8]) -> Option<usize>
     requires { 0 < length bytes.now }
     ensures { IfSome result (λ len. (0 < len) × (len ≤ length bytes.now)) }

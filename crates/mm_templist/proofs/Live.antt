@@ -15,7 +15,7 @@ use Rattle.mm_query.specs.declared.bound_query.FieldPlace.{FieldPlace}
 use Rattle.mm_templist.specs.Combos.{AreLive, Combos, combo_rows, row_of, rows_of_combo}
 use Rattle.mm_templist.specs.Results.{projected_rows}
 
--- A reference is of a row that is there, in the table at a place.
+-- The reference is to a live row of the table at a position.
 abbrev pub IsThere : Tables → ℕ → RowRef → Type 0
 IsThere store table at = (stored : StoredRows) × IsAt store table stored × IsLive stored.places at
 
@@ -40,13 +40,13 @@ module _ (store : Tables) where
   row_in_place (table ∷ tables) (at ∷ refs) zero d e live within = refl
   row_in_place (table ∷ tables) (at ∷ refs) (suc k) d e live within = row_in_place tables refs k d e live.1 (omega (arith, within))
 
-  -- The rows of a combination are as many as its tables.
+  -- A combination has as many rows as tables.
   pub length_rows : (tables : List ℕ) (refs : List RowRef) → AreLive store tables refs → length (rows_of_combo store tables refs) ≡ length tables
   length_rows [] refs live = refl
   length_rows (table ∷ tables) [] live = absurd live
   length_rows (table ∷ tables) (at ∷ refs) live = ap suc (length_rows tables refs live.1)
 
-  -- A row that is there can be looked at, ..
+  -- The table of a live row exists.
   pub table_is_there : (table : ℕ) (at : RowRef) → IsThere store table at → table < length store.tables
   table_is_there table at there = slice_get_within store.tables table there.0 there.1
 
@@ -55,22 +55,22 @@ module _ (store : Tables) where
       let one : there.0 ≡ stored = ap (λ o. unwrap_or o stored) (sym there.1 ∙ is) in
       subst (λ (s : StoredRows). IsLive s.places at) one there.2
 
-  -- .. and what is found there is its row.
+  -- The row that is found is the row of the reference.
   pub row_is_found : (table : ℕ) (at : RowRef) (row : List Value) → IsThere store table at
       → ((stored : StoredRows) → IsAt store table stored → slot_at stored.places at ≡ Live row) → row_of store table at ≡ row
   row_is_found table at row there found =
       ap (λ o. option_map_or (λ stored. row_at (slot_at stored.places) at) o []) there.1 ∙ ap row_in (found there.0 there.1)
 
--- One element more.
+-- One more element.
 pub next_of : {X : Type 0} (xs : List X) (k : ℕ) (x : X) → slice_get xs k ≡ Some x → take (k + 1) xs ≡ take k xs ++ x ∷ []
 next_of xs k x is = take_more xs k x (slice_get_within xs k x is) ∙ ap (λ y. take k xs ++ y ∷ []) (get_or_from_slice_get xs k x x is)
 
--- One row more, of which each is there.
+-- One more row.
 pub next_row : (rows : List (List Value)) (k : ℕ) (row : List Value) → slice_get rows k ≡ Some row
     → map Some (take (k + 1) rows) ≡ map Some (take k rows) ++ Some row ∷ []
 next_row rows k row is = ap (map Some) (next_of rows k row is) ∙ map_push Some (take k rows) row
 
--- One row of the result more.
+-- One more row of the result.
 pub next_projected : (store : Tables) (list : Combos) (k : ℕ) (combo : List RowRef) → slice_get list.combos k ≡ Some combo
     → take (k + 1) (projected_rows store list)
     ≡ take k (projected_rows store list) ++ values_of list.fields (map Some (rows_of_combo store list.tables combo)) ∷ []

@@ -15,7 +15,7 @@ length_projected store list =
     length-map (combo_rows store list) (λ rows. values_of list.fields (map Some rows))
     ∙ length-map list.combos (rows_of_combo store list.tables)
 
--- An only combination gives the only row.
+-- The row of the only combination is the only row.
 pub only_projected : (store : Tables) (list : Combos) (combo : List RowRef) → length list.combos ≡ 1 → slice_get list.combos 0 ≡ Some combo
     → projected_rows store list ≡ values_of list.fields (map Some (rows_of_combo store list.tables combo)) ∷ []
 only_projected store list combo one is =

@@ -1,4 +1,4 @@
--- Pieces of one width: how many there are, which one stands where, and one more behind them.
+-- Pieces of equal width: their number, their positions, and one more.
 use Rattle.std.proofs.Common.{◌≡◌, ℕ, zero, suc, ◌+◌, ◌*◌, ◌<◌, ◌≤◌, List, [], ◌∷◌, ◌++◌, Some, length, map, take, drop, refl, ap, ◌∙◌, arith, length-drop}
 use Rattle.std.specs.Prelude.{slice_get}
 use Rattle.std.proofs.Math.Nat.{mul-le-mul_left, mul-le-mul_right}
@@ -10,7 +10,7 @@ module _ {X : Type 0} (width : ℕ) where
   length-pieces zero xs = refl
   length-pieces (suc count) xs = ap suc (length-pieces count (drop width xs))
 
-  -- The piece at a place.
+  -- The piece at a position.
   pub piece_at : (count : ℕ) (xs : List X) (i : ℕ) → i < count → slice_get (pieces width count xs) i ≡ Some (take width (drop (i * width) xs))
   piece_at zero xs i below = absurd (omega arith)
   piece_at (suc count) xs zero below =
@@ -20,7 +20,7 @@ module _ {X : Type 0} (width : ℕ) where
       piece_at count (drop width xs) i (omega arith)
       ∙ ap (λ l. Some (take width l)) (drop-drop (i * width) width xs ∙ ap (λ n. drop n xs) (omega arith))
 
-  -- A piece more behind the others.
+  -- One more piece after the others.
   pub pieces-push : (count : ℕ) (xs piece : List X) → length xs ≡ count * width → length piece ≡ width
       → pieces width (count + 1) (xs ++ piece) ≡ pieces width count xs ++ piece ∷ []
   pieces-push zero [] piece whole wide = ap (λ l. l ∷ []) (take_all width piece (omega (arith, wide)))
@@ -33,14 +33,14 @@ module _ {X : Type 0} (width : ℕ) where
       ∙ (λ i. take-append-le width xs piece within i ∷ pieces width (count + 1) (drop-append-le width xs piece within i))
       ∙ ap (λ l. take width xs ∷ l) (pieces-push count (drop width xs) piece rest wide)
 
-  -- There are no more pieces than elements, where each piece has some.
+  -- There are at most as many pieces as elements, if the pieces are not empty.
   pub few_pieces : (count : ℕ) (xs : List X) → length xs ≡ count * width → 0 < width → count ≤ length xs
   few_pieces count xs whole some =
       let one : 1 ≤ width = omega (arith, some) in
       let each : count * 1 ≤ count * width = mul-le-mul_left count one in
       omega (arith, whole, each)
 
-  -- A piece ends where the pieces end, or before.
+  -- A piece ends within the list.
   pub piece_within : (count i : ℕ) (xs : List X) (all : List (List X)) → pieces width count xs ≡ all → length xs ≡ count * width
       → i < length all → i * width + width ≤ length xs
   piece_within count i xs all are whole below =

@@ -1,4 +1,4 @@
--- Places that are sorted have sorted rows.
+-- Sorted positions have sorted rows.
 use Rattle.std.proofs.Common.{◌≡◌, ℕ, ◌+◌, ◌<◌, ◌≤◌, Bool, true, false, All, cond, List, [], ◌∷◌, drop, get_or, length, map, take}
 use Rattle.std.proofs.Common.{refl, sym, ap, ◌∙◌, subst, arith}
 use Rattle.std.specs.Cmp.{IsTotalOrder, nat_cmp_total, on_total, then_total}
@@ -27,14 +27,14 @@ use Rattle.mm_templist.specs.Runs.{leading_prefix, referred, run_from}
 use Rattle.mm_templist.specs.Shown.{HasPrefix, placed_cmp, placed_row}
 use Rattle.mm_templist.specs.declared.shown.Placed.{Placed}
 
--- The row from a place on is that much of all values.
+-- The row from a position on is that part of all values.
 pub run_is_piece : (width : ℕ) (refs : List ValueRef) (start : ℕ) → run_from width refs start ≡ take width (drop start (referred refs))
 run_is_piece width refs start =
     sym (take-map value_of width (drop start refs)) ∙ ap (take width) (sym (drop-map value_of start refs))
 
--- ---- numbers
+-- ---- prefixes
 
--- A sort key that comes first has no greater number.
+-- A sort key that is less has a prefix that is not greater.
 pub leading_keeps : (a b : List Value) → row_cmp a b ≡ Less → leading_prefix a ≤ leading_prefix b
 leading_keeps [] b less = omega arith
 leading_keeps (x ∷ xs) [] less = cc
@@ -85,7 +85,7 @@ module _ (order : List ℕ) (width : ℕ) (refs : List ValueRef) where
   pub placed_total : IsTotalOrder (placed_cmp order width refs)
   placed_total = then_total (on_total (λ (p : Placed). p.prefix) nat_cmp_total) (on_total (placed_row width refs) (shown_total order))
 
-  -- A place that isn't before another has a row that isn't before that one's.
+  -- If a position is not before another one, its row is not before the other row.
   not_before : (p q : Placed) → HasPrefix order width refs p → HasPrefix order width refs q → is_lt (placed_cmp order width refs p q) ≡ false
       → is_lt (rows_by_columns order (row p) (row q)) ≡ false
   not_before p q first second behind = by (rows_by_columns order (row p) (row q)) refl
@@ -116,11 +116,11 @@ module _ (order : List ℕ) (width : ℕ) (refs : List ValueRef) where
     up_rows : IsSorted (rows_by_columns order) (map row sorted)
     up_rows = rows_sorted sorted (All-permutation (HasPrefix order width refs) places sorted moved numbered) up
 
-    -- The rows of sorted places are in order, ..
+    -- The rows of sorted positions are in order.
     pub placed_in_order : map row sorted ≡ in_order (rows_by_columns order) projected
     placed_in_order = sym (sorted_is_in_order order projected (map row sorted) moved_rows up_rows)
 
-    -- .. and without equal neighbours they are one of each.
+    -- Without equal neighbours they are in order, each once.
     pub placed_once_in_order : map row (dedup (λ a b. same_row (row a) (row b)) sorted) ≡ in_order (rows_by_columns order) (one_of_each projected)
     placed_once_in_order =
         mapped_dedup row same_row sorted ∙ sym (deduped_is_in_order order projected (map row sorted) moved_rows up_rows)

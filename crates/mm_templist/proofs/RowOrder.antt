@@ -1,4 +1,4 @@
--- Rows of values that are referred to, compared value by value: what is left to compare decides.
+-- Rows of referenced values, compared value by value: the rest decides.
 use Rattle.std.proofs.Common.{◌≡◌, ◌≢◌, ℕ, ◌+◌, ◌<◌, ◌≤◌, cond, List, [], ◌∷◌, drop, get_or, length, refl, sym, ap, ◌∙◌, arith, length-drop}
 use Rattle.std.specs.Cmp.{nat_cmp_total}
 use Rattle.std.specs.Ordering.{nat_cmp, ordering_then}
@@ -14,7 +14,7 @@ use Rattle.mm_value.specs.Order.{row_cmp, value_cmp}
 use Rattle.mm_value.specs.declared.values.Value.{Value}
 use Rattle.mm_templist.specs.Runs.{referred}
 
--- The values before a place are equal, and both rows have them: the rows compare as what is behind them.
+-- The first values are equal, and both rows have them, so the rows compare as their rests.
 abbrev pub AreEqualTo : ℕ → List Value → List Value → Type 0
 AreEqualTo i a b = (row_cmp (drop i a) (drop i b) ≡ row_cmp a b) × (i ≤ length b)
 
@@ -24,7 +24,7 @@ longer n (value ∷ rest) =
     let less : n < n + length (value ∷ rest) = omega arith in
     λ i. cond (lt-ltb n (n + length (value ∷ rest)) less i) Less (cond (n == n + length (value ∷ rest)) Equal Greater)
 
--- Where all values of the first row are equal to those of the second, their numbers decide.
+-- If all values of the first row equal those of the second, the lengths decide.
 pub lengths_decide : (i : ℕ) (a b : List Value) → AreEqualTo i a b → i ≤ length a → length a ≤ i → nat_cmp (length a) (length b) ≡ row_cmp a b
 lengths_decide i a b equal within ends =
     let here : length a ≡ i = omega (arith, within, ends) in
@@ -36,7 +36,7 @@ first_decides Less rest other = refl
 first_decides Equal rest other = absurd (other refl)
 first_decides Greater rest other = refl
 
--- The value of a reference stands in front of those behind it.
+-- The value of a reference is before those of the later references.
 in_front : (refs : List ValueRef) (i : ℕ) (x : ValueRef) → i < length refs → x ≡ get_or refs i x
     → drop i (referred refs) ≡ value_of x ∷ drop (i + 1) (referred refs)
 in_front refs i x within is =
@@ -45,7 +45,7 @@ in_front refs i x within is =
     ∙ (λ k. value_of (sym is k) ∷ sym (drop-map value_of (i + 1) refs) k))
 
 module _ (a b : List ValueRef) (i : ℕ) (x : ValueRef) (equal : AreEqualTo i (referred a) (referred b)) (within : i < length a) (is : x ≡ get_or a i x) where
-  -- A row that has more values than those equal to another's is greater.
+  -- A row with more values than the equal ones of another is greater.
   pub longer_is_greater : length b ≤ i → Greater ≡ row_cmp (referred a) (referred b)
   longer_is_greater ends =
       let none : drop i (referred b) ≡ [] = drop_all i (referred b) (omega (arith, ends, length-map b value_of)) in
@@ -56,12 +56,12 @@ module _ (a b : List ValueRef) (i : ℕ) (x : ValueRef) (equal : AreEqualTo i (r
         ≡ row_cmp (referred a) (referred b)
     behind = sym (λ k. row_cmp (in_front a i x within is k) (in_front b i y there same k)) ∙ equal.0
 
-    -- The first values that differ decide, ..
+    -- The first values that differ decide.
     pub differing_decide : value_cmp (value_of x) (value_of y) ≢ Equal → value_cmp (value_of x) (value_of y) ≡ row_cmp (referred a) (referred b)
     differing_decide other =
         first_decides (value_cmp (value_of x) (value_of y)) (row_cmp (drop (i + 1) (referred a)) (drop (i + 1) (referred b))) other ∙ behind
 
-    -- .. and behind equal ones the rows still compare as what is left.
+    -- After equal values, the rows still compare as their rests.
     pub AreEqualTo-more : value_cmp (value_of x) (value_of y) ≡ Equal → AreEqualTo (i + 1) (referred a) (referred b)
     AreEqualTo-more tie = (
       sym (ap (λ o. ordering_then o (row_cmp (drop (i + 1) (referred a)) (drop (i + 1) (referred b)))) tie) ∙ behind,

@@ -1,4 +1,4 @@
--- A temporary list: combinations of references, and the rows that they are of.
+-- Temporary lists: combinations of references, and their rows.
 use Rattle.std.specs.Prelude.{ℕ, List, [], ◌∷◌, map, slice_get}
 use Rattle.std.specs.Option.{option_map_or}
 use Rattle.mm_value.specs.declared.row_ref.RowRef.{RowRef}
@@ -9,23 +9,23 @@ use Rattle.mm_indexed.specs.Kept.{StoredRows}
 use Rattle.mm_row_order.specs.Refs.{row_at}
 use Rattle.mm_store.specs.Tables.{IsAt, Tables}
 
--- A temporary list: the tables whose rows it combines, by their places in the store, the fields that it shows, and its combinations.
+-- A temporary list: the positions in the store of the tables whose rows are combined, the fields of the result, and the combinations.
 pub record Combos : Type 0 where
   pub tables : List ℕ
   pub fields : List FieldPlace
   pub combos : List (List RowRef)
 
--- The row of a reference in the table at a place, and no values where there is no such table.
+-- The row of a reference in the table at a position, and no values if there is no such table.
 abbrev pub row_of : Tables → ℕ → RowRef → List Value
 row_of store table at = option_map_or (λ stored. row_at (slot_at stored.places) at) (slice_get store.tables table) []
 
--- The rows of a combination, each in the table at its place.
+-- The rows of a combination, one from each table.
 abbrev pub rows_of_combo : Tables → List ℕ → List RowRef → List (List Value)
 rows_of_combo store [] refs = []
 rows_of_combo store (table ∷ tables) [] = []
 rows_of_combo store (table ∷ tables) (at ∷ refs) = row_of store table at ∷ rows_of_combo store tables refs
 
--- Each reference of a combination is of a row that is there, and there is one for each table.
+-- A combination has a reference to a live row of each table.
 abbrev pub AreLive : Tables → List ℕ → List RowRef → Type 0
 AreLive store [] [] = Unit {0}
 AreLive store [] (at ∷ refs) = ⊥

@@ -1,7 +1,6 @@
-//! Temporary lists: combinations of references to rows, of which no row is copied before the result (Lehman and Carey,
-//! SIGMOD 1986).
+//! Temporary lists: combinations of references to rows. No row is copied before the result (Lehman and Carey, SIGMOD 1986).
 //!
-//! A call that may take memory is handed the allocator; no other call takes any.
+//! Every public function that may allocate has a parameter for the allocator, except `TempList::push`, which uses that of the list.
 #![tactic(auto)]
 
 mod results;

@@ -1,4 +1,4 @@
-//! What a temporary list shows.
+//! The results of temporary lists.
 ghost use Rattle.std.specs.Prelude.{◌≡◌, ◌+◌, ◌++◌, ◌*◌, ◌∷◌, ◌≤◌, [], All, IfOk, OnErr, OnOk, Some, length, map, pos, take};
 ghost use Rattle.std.specs.Option.{unwrap_or};
 ghost use Rattle.mm_value.specs.Views.{value_of};
@@ -19,17 +19,16 @@ use mm_value::{Row, RowRef, ValueRef};
 use smallvec::SmallVec;
 use std::alloc::{AllocError, Global};
 
-/// How many values an only row may have that is copied without a block: as many as a query has fields.
+/// The most values of a single row that is copied without an intermediate allocation: the most fields that a query has.
 const FEW_VALUES: usize = 16;
 
 /// The rows of a combination. A query has at most four tables.
 type Chosen<'s> = SmallVec<Option<RowView<'s>>, 4>;
 
 impl<'a> TempList<'a> {
-    /// The rows of the result, a row of the values of the fields for each combination, sorted by their values in the columns of
-    /// `order`, counted from 0, and as whole rows where these are equal; with `distinct` one of each row. No value is copied. A
-    /// field whose place has no row, or one that ends before its column, reads as 0. The view counts the
-    /// rows that are read, of which each reference asks for one. `AllocError` where memory is refused.
+    /// Returns the rows of the result: for each combination a row of the values of the fields. The rows are sorted by their values in the
+    /// columns of `order`, from 0, and then as whole rows. With `distinct`, equal rows are returned once. Copies no value. A field without
+    /// a row, or past the end of its row, counts as 0. Each reference counts as one read. Fails with `AllocError` if an allocation fails.
     pub fn shown<'s>(
         &self,
         alloc: Global,
@@ -47,7 +46,7 @@ impl<'a> TempList<'a> {
         ShownRows::sorted(alloc, values, width, self.len(), distinct, order)
     }
 
-    /// Copies of the rows of the result, as `shown` has them. `AllocError` where memory is refused.
+    /// Returns copies of the rows of the result, those of `shown`. Fails with `AllocError` if an allocation fails.
     pub fn project_sorted(
         &self,
         alloc: Global,
@@ -64,9 +63,9 @@ impl<'a> TempList<'a> {
         copy_rows(alloc, &shown)
     }
 
-    /// Copies the rows of the result, as `shown` has them, behind those of a buffer. An only row goes from where it lies to the
-    /// buffer, and no memory is taken but for the buffer, where it has at most 16 values. `AllocError` where memory is refused;
-    /// then some of the rows may have been added, and those that were there stand as they did.
+    /// Appends copies of the rows of the result, those of `shown`, to a buffer. A single row of at most 16 values is copied directly, so
+    /// that only the buffer allocates. Fails with `AllocError` if an allocation fails; then the previous rows of the buffer are unchanged,
+    /// and some of the result may follow them.
     pub fn copy_into(
         &self,
         alloc: Global,
@@ -88,8 +87,8 @@ impl<'a> TempList<'a> {
         shown.copy_into(alloc, buffer)
     }
 
-    /// Copies the row of the only combination behind those of a buffer. `AllocError` where memory is refused, and then the rows
-    /// are as before.
+    /// Appends a copy of the row of the only combination to a buffer. Fails with `AllocError` if an allocation fails; then the rows are
+    /// unchanged.
     fn copy_only(
         &self,
         alloc: Global,
@@ -110,8 +109,8 @@ impl<'a> TempList<'a> {
         copy_values(alloc, descriptor.fields, chosen.as_slice(), buffer)
     }
 
-    /// The values of the fields of each combination in turn, one behind the other, where they stand. `AllocError` where memory
-    /// is refused.
+    /// Returns the values of the fields, combination by combination, as references to where they are stored. Fails with `AllocError` if an
+    /// allocation fails.
     fn projected<'s>(
         &self,
         alloc: Global,
@@ -136,7 +135,7 @@ impl<'a> TempList<'a> {
     }
 }
 
-/// Adds the values of fields of some rows. `AllocError` where memory is refused.
+/// Appends the values of fields of these rows. Fails with `AllocError` if an allocation fails.
 fn push_values<'s>(
     values: &mut Vec<ValueRef<'s>>,
     fields: &[FieldPlace],
@@ -150,8 +149,8 @@ fn push_values<'s>(
     Ok(())
 }
 
-/// Copies the row of the values of fields of some rows behind those of a buffer. `AllocError` where memory is refused, and then the
-/// rows are as before.
+/// Appends the row of the values of fields of these rows to a buffer. Fails with `AllocError` if an allocation fails; then the buffer's
+/// rows are unchanged.
 fn copy_values(
     alloc: Global,
     fields: &[FieldPlace],
@@ -169,7 +168,7 @@ fn copy_values(
     buffer.push(alloc, &values[..fields.len()])
 }
 
-/// The value of a field, and 0 where its place has no row or the row ends before it.
+/// Returns the value of a field, and 0 if there is no such row or the row ends before the field.
 fn value_at<'s>(rows: &[Option<RowView<'s>>], field: FieldPlace) -> ValueRef<'s>
     ensures { value_of result ≡ unwrap_or (value_at (rows_read viewed rows.now) field) (Int (pos 0)) }
 {
@@ -179,7 +178,7 @@ fn value_at<'s>(rows: &[Option<RowView<'s>>], field: FieldPlace) -> ValueRef<'s>
     }
 }
 
-/// Copies of all rows. `AllocError` where memory is refused.
+/// Returns copies of all rows. Fails with `AllocError` if an allocation fails.
 fn copy_rows(alloc: Global, shown: &ShownRows) -> Result<Vec<Row>, AllocError>
     ensures { IfOk result (λ rows. rows.items ≡ shown.now) }
 {
@@ -190,7 +189,7 @@ fn copy_rows(alloc: Global, shown: &ShownRows) -> Result<Vec<Row>, AllocError>
     Ok(rows)
 }
 
-/// A row of copies of values. `AllocError` where memory is refused.
+/// Returns a row of copies of values. Fails with `AllocError` if an allocation fails.
 fn copy_row(alloc: Global, values: &[ValueRef<'_>]) -> Result<Row, AllocError>
     ensures { IfOk result (λ row. row ≡ referred values.now) }
 {
@@ -201,7 +200,7 @@ fn copy_row(alloc: Global, values: &[ValueRef<'_>]) -> Result<Row, AllocError>
     Ok(Row::new(row))
 }
 
-/// Makes `chosen` the rows of a combination, each in the table at its place. `AllocError` where memory is refused.
+/// Replaces the contents of `chosen` by the rows of a combination, one from each table. Fails with `AllocError` if an allocation fails.
 fn choose_rows<'s>(
     view: &mut View<'s>,
     tables: &[usize],

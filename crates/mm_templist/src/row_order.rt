@@ -1,4 +1,4 @@
-//! The orders of rows whose values are read where they stand.
+//! Orders of rows whose values are read where they are stored.
 ghost use Rattle.std.specs.Prelude.{◌≡◌};
 ghost use Rattle.mm_value.specs.Order.{row_cmp, value_cmp};
 ghost use Rattle.mm_value.specs.Views.{value_of};
@@ -9,7 +9,7 @@ ghost use Rattle.mm_templist.specs.Runs.{leading_prefix, referred};
 use mm_value::{ValueRef, compare, order_prefix};
 use std::cmp::Ordering;
 
-/// How `a` stands to `b` as whole rows: by their first values that differ, and else the shorter row is less.
+/// Compares two whole rows: by their first values that differ, and otherwise the shorter row is less.
 pub(crate) fn compare_values(a: &[ValueRef<'_>], b: &[ValueRef<'_>]) -> Ordering
     ensures { result ≡ row_cmp (referred a.now) (referred b.now) }
 {
@@ -25,7 +25,7 @@ pub(crate) fn compare_values(a: &[ValueRef<'_>], b: &[ValueRef<'_>]) -> Ordering
     a.len().cmp(&b.len())
 }
 
-/// The value of a row in a column, and 0 past its end.
+/// Returns the value of a row in a column, and 0 past the end of the row.
 fn value_in<'a>(row: &[ValueRef<'a>], column: usize) -> ValueRef<'a>
     ensures { value_of result ≡ value_in column (referred row.now) }
 {
@@ -35,15 +35,14 @@ fn value_in<'a>(row: &[ValueRef<'a>], column: usize) -> ValueRef<'a>
     }
 }
 
-/// How `a` stands to `b` by their values in a column. A row reads as 0 past its end.
+/// Compares two rows by their values in a column. A row counts as 0 past its end.
 fn compare_column(column: usize, a: &[ValueRef<'_>], b: &[ValueRef<'_>]) -> Ordering
     ensures { result ≡ value_cmp (value_in column (referred a.now)) (value_in column (referred b.now)) }
 {
     compare(&value_in(a, column), &value_in(b, column))
 }
 
-/// How `a` stands to `b` by their values in some columns, from left to right, and as whole rows where these are equal. A row
-/// reads as 0 past its end.
+/// Compares two rows by their values in these columns, from left to right, and then as whole rows. A row counts as 0 past its end.
 pub(crate) fn compare_by_columns(
     columns: &[usize],
     a: &[ValueRef<'_>],
@@ -60,8 +59,8 @@ pub(crate) fn compare_by_columns(
     compare_values(a, b)
 }
 
-/// The number of the value by which a row is sorted first: that in the first of the columns, or its first value where there
-/// are no columns. 0 where there is no such value.
+/// Returns the prefix of the value by which a row is sorted first. This is the value in the first of the columns, or the row's first value
+/// if there are no columns. Returns 0 if there is no such value.
 pub(crate) fn leading_prefix(columns: &[usize], row: &[ValueRef<'_>]) -> u64
     ensures { result ≡ leading_prefix (sort_key columns.now (referred row.now)) }
 {

@@ -1,4 +1,4 @@
-//! Rows as they are shown.
+//! The sorted rows of a result.
 ghost use Rattle.std.specs.Prelude.{◌≡◌, ◌++◌, ◌*◌, ◌<◌, All, IfOk, IsPermutation, OnErr, OnOk, Some, length, map, slice_get, take};
 ghost use Rattle.std.specs.List.{dedup};
 ghost use Rattle.std.specs.List.Sorted.{IsSorted};
@@ -16,28 +16,28 @@ use std::alloc::{AllocError, Global};
 use std::cmp::Ordering;
 use std::marker::Model;
 
-/// The rows of a result, each a run of values where they stand, in the order in which they are shown.
+/// The rows of a result in order. Their values are references to where they are stored.
 ///
-/// No row takes a block of its own: the values of all rows stand in one vector as they are read, and what is sorted are the rows' places in it.
-/// The places of up to four rows take no block.
+/// No row has an allocation of its own: the values of all rows are in one vector, in the order in which they were read. Only the positions
+/// of the rows in it are sorted. The positions of up to four rows are stored inline.
 #[derive(Drop)]
 pub struct ShownRows<'s> {
-    /// How many values a row has.
+    /// The number of values of each row.
     width: usize,
-    /// The values of all rows, one behind the other, in the order in which the rows were made.
+    /// The values of all rows, row by row, in the order in which the rows were added.
     values: Vec<ValueRef<'s>>,
-    /// A place for each row, in the order in which the rows are shown.
+    /// The position of each row, in the order of the result.
     places: Places,
 }
 
-/// A row: where its values begin, and the number of the one by which it is sorted first.
+/// A row: the position where its values begin, and the prefix of the value by which the row is sorted first.
 #[derive(Clone, Copy, Default)]
 struct Placed {
     prefix: u64,
     start: usize,
 }
 
-/// Places of rows.
+/// The positions of rows.
 type Places = SmallVec<Placed, 4>;
 
 impl<'s> Model for ShownRows<'s> {
@@ -51,8 +51,8 @@ impl<'s> Model for ShownRows<'s> {
 }
 
 impl<'s> ShownRows<'s> {
-    /// So many rows of this width, of which the values stand one behind the other: sorted by their values in the columns of
-    /// `order`, and as whole rows where these are equal; with `distinct` one of each. `AllocError` where memory is refused.
+    /// Returns `count` rows of this width, whose values are row by row in `values`. The rows are sorted by their values in the columns of
+    /// `order`, and then as whole rows. With `distinct`, equal rows are returned once. Fails with `AllocError` if an allocation fails.
     pub fn sorted(
         alloc: Global,
         values: Vec<ValueRef<'s>>,
@@ -77,14 +77,14 @@ impl<'s> ShownRows<'s> {
         })
     }
 
-    /// How many rows there are.
+    /// Returns the number of rows.
     pub fn len(&self) -> usize
         ensures { result ≡ length self.now }
     {
         self.places.len()
     }
 
-    /// The values of the row at a place, counted from 0.
+    /// Returns the values of the row at a position, from 0.
     pub fn row(&self, i: usize) -> &[ValueRef<'s>]
         requires { i < length self.now }
         ensures { slice_get self.now i ≡ Some (map value_of result.now) }
@@ -92,8 +92,8 @@ impl<'s> ShownRows<'s> {
         run_from(self.values.as_slice(), self.places[i].start, self.width)
     }
 
-    /// Copies the rows, in their order, behind those of a buffer. `AllocError` where memory is refused; then some of them may have
-    /// been added, and those that were there stand as they did.
+    /// Appends copies of the rows, in order, to a buffer. Fails with `AllocError` if an allocation fails; then the previous rows of the
+    /// buffer are unchanged, and some of these rows may follow them.
     pub fn copy_into(&self, alloc: Global, buffer: &mut RowBuffer) -> Result<(), AllocError>
         ensures ok { OnOk result (buffer.new ≡ buffer.old ++ self.now) }
         ensures err { OnErr result (take (length buffer.old) buffer.new ≡ buffer.old) }
@@ -105,7 +105,8 @@ impl<'s> ShownRows<'s> {
     }
 }
 
-/// So many values from a place on, or as many as there are. It takes any place, since a sort asks for a comparison of any two.
+/// Returns `width` values from a position on, or as many as there are. Accepts any position, since the sort must be able to compare any
+/// two.
 fn run_from<'v, 's>(values: &'v [ValueRef<'s>], start: usize, width: usize) -> &'v [ValueRef<'s>]
     ensures { referred result.now ≡ run_from width values.now start }
 {
@@ -113,7 +114,7 @@ fn run_from<'v, 's>(values: &'v [ValueRef<'s>], start: usize, width: usize) -> &
     &rest[..width.min(rest.len())]
 }
 
-/// The places of the rows of which the values stand one behind the other. `AllocError` where memory is refused.
+/// Returns the positions of `count` rows whose values are row by row in `values`. Fails with `AllocError` if an allocation fails.
 fn placed_rows(
     alloc: Global,
     values: &[ValueRef<'_>],
@@ -134,7 +135,7 @@ fn placed_rows(
     Ok(places)
 }
 
-/// How the rows at two places stand. Most are told apart by their numbers, with no look at their values.
+/// Compares the rows at two positions. Most differ in their prefixes, so that their values need not be read.
 fn compare_placed(
     values: &[ValueRef<'_>],
     width: usize,
@@ -153,7 +154,7 @@ fn compare_placed(
     }
 }
 
-/// Sorts places by their rows. It takes no memory and O(n log n) comparisons for n places.
+/// Sorts positions by their rows. Allocates nothing. Makes O(n log n) comparisons for n positions.
 fn sort_places(places: &mut Places, values: &[ValueRef<'_>], width: usize, order: &[usize])
     ensures permutation { IsPermutation places.old.items places.new.items }
     ensures sorted { IsSorted (placed_cmp order.now width values.now) places.new.items }
@@ -161,7 +162,7 @@ fn sort_places(places: &mut Places, values: &[ValueRef<'_>], width: usize, order
     places.sort_unstable_by(|a, b| compare_placed(values, width, order, a, b));
 }
 
-/// Whether the rows at two places are equal.
+/// Returns whether the rows at two positions are equal.
 fn are_equal(values: &[ValueRef<'_>], width: usize, a: &Placed, b: &Placed) -> bool
     ensures { result ≡ same_row (placed_row width values.now a.now) (placed_row width values.now b.now) }
 {
@@ -169,7 +170,7 @@ fn are_equal(values: &[ValueRef<'_>], width: usize, a: &Placed, b: &Placed) -> b
     compare_values(left, run_from(values, b.start, width)).is_eq()
 }
 
-/// Drops each place whose row is equal to that of the one before it.
+/// Removes each position whose row equals the row before it.
 fn drop_equal_neighbours(places: &mut Places, values: &[ValueRef<'_>], width: usize)
     ensures { places.new.items ≡ dedup (λ a b. same_row (placed_row width values.now a) (placed_row width values.now b)) places.old.items }
 {

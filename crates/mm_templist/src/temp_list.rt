@@ -8,26 +8,26 @@ use smallvec::SmallVec;
 use std::alloc::{AllocError, Global};
 use std::marker::Model;
 
-/// What a temporary list refers to, and which fields its result has.
+/// The tables of a temporary list, and the fields of its result.
 #[derive(Clone, Copy)]
 pub struct Descriptor<'a> {
-    /// The places in the store of the tables whose rows are combined, in FROM order.
+    /// The positions in the store of the tables whose rows are combined, in FROM order.
     pub tables: &'a [usize],
     /// The fields of the result, from left to right.
     pub fields: &'a [FieldPlace],
 }
 
-/// Combinations of references to rows, one row of each table (a temporary list of Lehman and Carey, SIGMOD 1986). No row is
-/// copied: the result descriptor tells which fields of the rows a result has.
+/// Combinations of references to rows, one row of each table (a temporary list of Lehman and Carey, SIGMOD 1986). No row is copied: the
+/// descriptor says which fields of the rows are in the result.
 ///
-/// The references stand in one vector, those of a combination one behind the other, so a combination takes no block of its own.
-/// Up to four references lie in the list itself: one combination takes no block at all.
+/// The references are in one vector, combination by combination, so a combination has no allocation of its own. Up to four references are
+/// stored inline, so a single combination needs no allocation.
 #[derive(Drop)]
 pub struct TempList<'a> {
     descriptor: Descriptor<'a>,
-    /// As many references for each combination as there are tables.
+    /// A reference for each table, for each combination.
     refs: FoundRefs,
-    /// How many combinations there are.
+    /// The number of combinations.
     len: usize,
 }
 
@@ -48,7 +48,7 @@ impl<'a> Model for TempList<'a> {
 }
 
 impl<'a> TempList<'a> {
-    /// No combinations, with this descriptor. It takes no memory.
+    /// Returns an empty list with this descriptor. Allocates nothing.
     pub fn new(alloc: Global, descriptor: Descriptor<'a>) -> TempList<'a>
         ensures { result ≡ record { tables = descriptor.entry.tables.now; fields = descriptor.entry.fields.now; combos = [] } }
     {
@@ -59,7 +59,7 @@ impl<'a> TempList<'a> {
         }
     }
 
-    /// The one combination of the rows of no tables, with which joins begin. It takes no memory.
+    /// Returns a list with the combination of no tables, from which joins start. Allocates nothing.
     pub fn unit(alloc: Global, fields: &'a [FieldPlace]) -> TempList<'a>
         ensures { result ≡ record { tables = []; fields = fields.now; combos = [] ∷ [] } }
     {
@@ -73,7 +73,7 @@ impl<'a> TempList<'a> {
         }
     }
 
-    /// A combination of one row for each of these references to rows of one table, in their order. It takes no memory.
+    /// Returns a list with a combination for each of these references to rows of one table, in order. Allocates nothing.
     pub fn of_refs(descriptor: Descriptor<'a>, refs: FoundRefs) -> TempList<'a>
         requires { length descriptor.tables.now ≡ 1 }
         ensures { result ≡ record { tables = descriptor.entry.tables.now; fields = descriptor.entry.fields.now; combos = map (λ at. at ∷ []) refs.items } }
@@ -86,7 +86,7 @@ impl<'a> TempList<'a> {
         }
     }
 
-    /// What the list refers to, and which fields its result has.
+    /// Returns the tables of the list, and the fields of its result.
     pub fn descriptor(&self) -> Descriptor<'a>
         ensures tables { result.tables.now ≡ self.now.tables }
         ensures fields { result.fields.now ≡ self.now.fields }
@@ -94,14 +94,14 @@ impl<'a> TempList<'a> {
         self.descriptor
     }
 
-    /// How many combinations there are.
+    /// Returns the number of combinations.
     pub fn len(&self) -> usize
         ensures { result ≡ length self.now.combos }
     {
         self.len
     }
 
-    /// The combination at a place, counted from 0: a reference for each table.
+    /// Returns the combination at a position, from 0: a reference for each table.
     pub fn combo(&self, i: usize) -> &[RowRef]
         requires { i < length self.now.combos }
         ensures { slice_get self.now.combos i ≡ Some result.now }
@@ -112,13 +112,14 @@ impl<'a> TempList<'a> {
         &refs[start..start + width]
     }
 
-    /// Adds the combination of `front` and behind it `at`. `AllocError` where memory is refused, and then nothing changes.
+    /// Appends the combination of the references `front` followed by `at`. Fails with `AllocError` if an allocation fails; then nothing
+    /// changes.
     pub fn push(&mut self, front: &[RowRef], at: RowRef) -> Result<(), AllocError>
         requires { length front.now + 1 ≡ length self.old.tables }
         ensures ok { OnOk result (self.new ≡ record self.old { combos = self.old.combos ++ (front.now ++ at ∷ []) ∷ [] }) }
         ensures err { OnErr result (self.new ≡ self.old) }
     {
-        // A slice of all references shows that their number can be counted.
+        // The length of a slice bounds the number of references, so the number of combinations does not overflow.
         let _counted = self.refs.as_slice();
         self.refs.reserve(front.len() + 1)?;
         self.refs.extend_from_slice(front)?;

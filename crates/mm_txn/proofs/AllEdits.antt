@@ -1,4 +1,4 @@
--- The edits of all tables that a change concerns: those of the table that it names, and the cascaded ones.
+-- The edits of all tables that a change affects: those of the table that it names, and the cascaded ones.
 use Rattle.std.proofs.Common.{◌≡◌, ℕ, Bool, true, false, List, [], ◌∷◌, Option, Some, None, Bor, map, slice_get, refl, sym, ap, subst, ◌∙◌, arith}
 use Rattle.std.specs.List.{filter}
 use Rattle.std.specs.Option.{option_map_or}
@@ -46,7 +46,7 @@ is_delete (Insert table tuples) = false
 is_delete (Update table assignments tests) = false
 is_delete (Delete table tests) = true
 
--- A bound DELETE is of a DELETE, ..
+-- A bound DELETE is the bound form of a DELETE, ..
 pub delete_bound : (schema : Schema) (mutation : Mutation) (place : ℕ) (tests : List (Atom FieldPlace)) → Binds schema mutation (bound.Delete place tests)
     → is_delete mutation ≡ true
 delete_bound schema (Insert table tuples) place tests binds = absurd binds
@@ -62,26 +62,26 @@ other_bound schema (Delete table written) (run.Insert place tuples) binds other 
 other_bound schema (Delete table written) (run.Update place assignments tests) binds other = absurd binds
 other_bound schema (Delete table written) (run.Delete place tests) binds other = absurd (other place tests refl)
 
--- It brings no rows, ..
+-- A DELETE inserts no rows, ..
 delete_removes : (mutation : Mutation) (state : State) → is_delete mutation ≡ true → AreRemovals (own_pairs mutation state)
 delete_removes (Insert table tuples) state is = cc
 delete_removes (Update table assignments tests) state is = cc
 delete_removes (Delete table tests) state is = removals_remove (filter (meets (tests_for table state.schema tests)) (rows_in state table))
 
--- .. and its edits are those of its table with the cascaded rows, ..
+-- .. and its edits are those of its table and those of the cascaded rows.
 delete_edits : (mutation : Mutation) (state : State) → is_delete mutation ≡ true
     → all_edits mutation state ≡ with_cascades state.schema state.schema.tables state.rows (own_edits mutation state ∷ [])
 delete_edits (Insert table tuples) state is = cc
 delete_edits (Update table assignments tests) state is = cc
 delete_edits (Delete table tests) state is = refl
 
--- .. and those of any other change are those of its table alone.
+-- The edits of any other change are those of its table alone.
 other_edits : (mutation : Mutation) (state : State) → is_delete mutation ≡ false → all_edits mutation state ≡ own_edits mutation state ∷ []
 other_edits (Insert table tuples) state is = refl
 other_edits (Update table assignments tests) state is = refl
 other_edits (Delete table tests) state is = cc
 
--- Edits bring no rows where none comes by their pairs.
+-- Edits bring no rows if their pairs have no new rows.
 bring_none : (now : Slots) (es : List Edit) → AreRemovals (pairs_of now es) → BringNone es
 bring_none now [] none = All-nil (λ (e : Edit). came_by e ≡ None)
 bring_none now (e ∷ es) none = All-cons (λ (f : Edit). came_by f ≡ None) e es (one e none.0) (bring_none now es none.1)
@@ -93,7 +93,7 @@ bring_none now (e ∷ es) none = All-cons (λ (f : Edit). came_by f ≡ None) e 
     one (Move at other) is = cc
     one (edit.Delete at) is = refl
 
--- ---- the edits of one
+-- ---- the edits of one table
 
 module _ (schema : Schema) (store : Tables) (are : AreOf schema.tables store.tables) (mutation : Mutation) (place : ℕ) (edits : List Edit)
     (own : AreOwnEditsOf mutation schema store.tables place edits) where
@@ -106,11 +106,11 @@ module _ (schema : Schema) (store : Tables) (are : AreOf schema.tables store.tab
   stored_there : (stored : StoredRows) × (slice_get store.tables place ≡ Some stored)
   stored_there = some_there store.tables place (rows_there schema store.tables are (changed_table mutation) place own.placed)
 
-  -- They fit their relation, ..
+  -- The edits fit their relation, ..
   pub own_fit : FitsAt store own_placed
   own_fit = (stored_there.0, stored_there.1, own.fit stored_there.0 stored_there.1)
 
-  -- .. bring no rows where rows may be cascaded, ..
+  -- .. bring no rows if rows may be cascaded, ..
   pub own_removes : is_delete mutation ≡ true → BringNone edits
   own_removes is =
       bring_none (slot_at stored_there.0.places) edits
@@ -144,7 +144,7 @@ module _ (schema : Schema) (store : Tables) (are : AreOf schema.tables store.tab
     named = (λ i. own_named i ∷ []) ∙ sym (other_edits mutation state is);
   }
 
-  -- With the removals of cascaded rows they are those of a DELETE.
+  -- With the deletions of cascaded rows they are the edits of a DELETE.
   pub edits_with_others : is_delete mutation ≡ true → (cascaded : List PlacedEdits) → AreEdits store (own_placed ∷ cascaded)
       → map (named schema store.tables) (own_placed ∷ cascaded)
       ≡ with_cascades schema schema.tables (instance_of store.tables) (named schema store.tables own_placed ∷ [])

@@ -1,4 +1,4 @@
--- Columns refer to tables that stand before their own.
+-- Columns refer to tables before their own.
 use Rattle.std.proofs.Common.{◌≡◌, ℕ, zero, suc, ◌+◌, ◌<◌, ◌||◌, Bool, true, false, cond, ltb, not, List, [], ◌∷◌, ◌++◌, Some, None, length, map, slice_get}
 use Rattle.std.proofs.Common.{refl, sym, subst, ◌∙◌, append_assoc, add-zero, arith}
 use Rattle.std.specs.List.{All, AllByRecursion, list_any, position_or_len}
@@ -13,11 +13,11 @@ use Rattle.mm_schema.specs.declared.reference.Reference.{Reference}
 use Rattle.mm_schema.specs.declared.table.Table.{Table}
 use Rattle.mm_schema.proofs.Instances.{name_of}
 
--- the place of the first table of a name
+-- the place of the first table with a name
 abbrev pub first_of : List ℕ → List Table → ℕ
 first_of name tables = position_or_len (λ t. same_name name (name_of t)) tables
 
--- A name that one of the tables in front has stands there.
+-- The first table with a name is among the earlier tables if one of these has the name.
 first_in_front : (name : List ℕ) (front ts : List Table) → list_any (same_name name) (map name_of front) ≡ true
     → first_of name (front ++ ts) < length front
 first_in_front name [] ts some = cc
@@ -30,7 +30,7 @@ first_in_front name (t ∷ front) ts some = by (same_name name (name_of t)) some
     by false some later = let within = later some in omega arith
 
 module _ (schema : Schema) where
-  -- The table that a column refers to stands before a place.
+  -- The table that a column refers to is before a place.
   abbrev pub IsOlder : ℕ → ℕ × List ℕ → Type 0
   IsOlder place r = first_of r.1 schema.tables < place
 

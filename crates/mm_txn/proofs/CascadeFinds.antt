@@ -1,4 +1,4 @@
--- What the loops over edits, columns and tables find.
+-- The results of the loops over edits, columns and tables.
 use Rattle.std.proofs.Common.{◌≡◌, ◌≢◌, ℕ, suc, ◌+◌, ◌<◌, ◌≤◌, Bool, true, false, cond, ◌||◌, ◌==◌, List, [], ◌∷◌, ◌++◌, Option, Some, None, inl, inr, drop}
 use Rattle.std.proofs.Common.{drop-cons, filter, find, get_or, length, map, slice_get, take, refl, sym, ap, ◌∙◌, subst, arith}
 use Rattle.std.specs.List.{All, Contains, cons_option, filter_map, list_any}
@@ -56,20 +56,20 @@ same_at store place a b at_a at_b = let both : Some a ≡ Some b = sym at_a ∙ 
 pub fits_relation : (store : Tables) (change : PlacedEdits) → FitsAt store change → (target : StoredRows) → IsAt store change.0 target → AreFit target change.1
 fits_relation store change fit target at = subst (λ (s : StoredRows). AreFit s change.1) (same_at store change.0 fit.0 target fit.1 at) fit.2
 
--- The row that an edit takes away is there.
+-- The row that an edit deletes exists.
 pub gone_live : (store : Tables) (change : PlacedEdits) → FitsAt store change → (target : StoredRows) → IsAt store change.0 target → (k : ℕ) (d : Edit)
     → k < length change.1 → (at : RowRef) → old_slot (get_or change.1 k d) ≡ Some at → HasRow (slot_at target.places) at
 gone_live store change fit target there k d within at name =
     fits_live target.key (slot_at target.places) (get_or change.1 k d) ((fits_relation store change fit target there).ready.fits k d within) at name
 
--- Rows go by edits as they do by the rows that these take away.
+-- Edits and the rows that they delete cascade to the same rows.
 pub is_cascaded_by_at : (store : Tables) (column : ℕ) (change : PlacedEdits) (target : StoredRows) → IsAt store change.0 target → (row : Row)
     → tests column target.key (rows_taken (slot_at target.places) change.1) row ≡ is_cascaded_by store.tables column change row
 is_cascaded_by_at store column change target at row = λ i.
     list_any (refers column (option_map_or (λ (s : StoredRows). s.key) (sym at i) 0) row)
     (filter_map (λ (p : Pair). p.0) (option_map_or (λ (s : StoredRows). pairs_of (slot_at s.places) change.1) (sym at i) []))
 
--- What a row refers to goes exactly if the row is cascaded.
+-- The row that a row refers to is deleted exactly if the deletion cascades to the row.
 pub scan_goes : (store : Tables) (table column : ℕ) (change : PlacedEdits) → IsCascade store table column change → (row : Row) (found : RowRef)
     → (target : StoredRows) × (to : ℕ) × Contains store.links (record { from = table; column = column; to = to }) × IsAt store to target
     × RefersTo column target.key (slot_at target.places) row found
@@ -83,7 +83,7 @@ scan_goes store table column change is row found (target, to, link, at, refers_t
 pub filter_push : (q : RowRef → Bool) (xs : List RowRef) (x : RowRef) (b : Bool) → q x ≡ b → filter q (xs ++ x ∷ []) ≡ filter q xs ++ cond b (x ∷ []) []
 filter_push q xs x b is = filter-append q xs (x ∷ []) ∙ ap (λ c. filter q xs ++ cond c (x ∷ []) []) is
 
--- What is found at a place behind another.
+-- The deletions found at a later place.
 pub removals_found : (own : PlacedEdits) (cascaded : List RelationEdits) (place k : ℕ) (x : RelationEdits) → k < length cascaded → x ≡ get_or cascaded k x
     → x.table ≡ place → own.0 ≢ place → edits_at (map placed (drop k cascaded)) place ≡ edits_at (map placed cascaded) place
     → x.edits ≡ edits_at (own ∷ map placed cascaded) place
@@ -147,7 +147,7 @@ module _ (schema : Schema) (store : Tables) (kept : AreKept schema store) (disti
   table_of : (k : ℕ) → k < length rs → (t : Table) × (slice_get schema.tables k ≡ Some t)
   table_of k within = some_at schema.tables k (subst (λ n. k < n) (sym (as_many schema.tables rs kept.relations)) within)
 
-  -- The tables up to that of the command add none.
+  -- The tables up to that of the command add no deletions.
   pub rest_at_first : (own : PlacedEdits) → FitsAt store own
       → with_cascades schema schema.tables (instance_of rs) (named schema rs own ∷ []) ≡ rest_from (own.0 + 1) (named schema rs own ∷ [])
   rest_at_first own fit =
@@ -171,7 +171,7 @@ module _ (schema : Schema) (store : Tables) (kept : AreKept schema store) (disti
         ∙ (λ i. rest_from (table + 1) (also before (name i) (removals_of (filter (is_cascaded schema before t.definition.columns) (rows i)))))
         ∙ ap (λ ps. rest_from (table + 1) (also before (named schema rs (table, edits)).table ps)) (sym (pairs t at))
 
-    -- A table that adds none, ..
+    -- A table that adds no deletions, ..
     pub none_more : edits ≡ [] → rest_from table before ≡ rest_from (table + 1) before
     none_more none = next ∙ ap (λ ps. rest_from (table + 1) (also before (named schema rs (table, edits)).table ps)) no_pairs
       where

@@ -1,4 +1,4 @@
--- The rows that named edits take away, and the columns that rows go by, at the places of tables.
+-- The rows that named edits delete, and the columns by which they cascade, by the places of tables.
 use Rattle.std.proofs.Common.{◌≡◌, ℕ, zero, suc, ◌+◌, ◌<◌, ◌≤◌, ◌==◌, Bool, true, false, cond, ◌⊎◌, List, [], ◌∷◌, ◌++◌, Option, Some, None, inl, inr, filter}
 use Rattle.std.proofs.Common.{find, length, map, slice_get, refl, sym, ap, ◌∙◌, subst, append-nil, arith}
 use Rattle.std.specs.List.{AllByRecursion, AllPairs, IsDistinct, filter_map, flat_map, list_any}
@@ -32,7 +32,7 @@ use Rattle.mm_txn.specs.PlacedEdits.{PlacedEdits, edits_at, named, pairs_at}
 
 -- ---- names at places
 
--- No table of a list that lacks a name has it.
+-- A list of tables that lacks a name has no table with it.
 pub lacks_at : (name : List ℕ) (ts : List Table) → LackName name ts → (k : ℕ) (t : Table) → slice_get ts k ≡ Some t → same_name name (name_of t) ≡ false
 lacks_at name [] lack k t there = cc
 lacks_at name (x ∷ xs) lack zero t there = let same : x ≡ t = cc in ap (λ (u : Table). same_name name (name_of u)) (sym same) ∙ lack.0
@@ -72,7 +72,7 @@ abbrev name_at : Schema → ℕ → List ℕ
 name_at schema place = option_map_or (λ (t : Table). t.definition.name) (slice_get schema.tables place) []
 
 module _ (schema : Schema) (distinct : HasDistinctNames schema) (name : List ℕ) (to : ℕ) (placed : table_place name schema ≡ Some to) where
-  -- A table has the name just where its place is that of the name.
+  -- A table has the name exactly if its place is that of the name.
   same_place : (place : ℕ) → place < length schema.tables → same_name (name_at schema place) name ≡ (place == to)
   same_place place within =
       let (t, at) = some_at schema.tables place within in
@@ -92,7 +92,7 @@ module _ (schema : Schema) (distinct : HasDistinctNames schema) (name : List ℕ
 
 -- ---- edits at places
 
--- each is for a later table than those in front
+-- each change is for a later table than those before it
 abbrev pub Ascends : List PlacedEdits → Type 0
 Ascends [] = Unit {0}
 Ascends (c ∷ cs) = AllByRecursion (λ (d : PlacedEdits). c.0 < d.0) cs × Ascends cs
@@ -157,7 +157,7 @@ module _ (schema : Schema) (distinct : HasDistinctNames schema) (relations : Lis
           ∙ append-nil (pairs_at relations c) ∙ ap (λ n. pairs_at relations (n, c.1)) here
       by false is later = later
 
-  -- A row is cascaded by a column to the table of a name exactly if it is by the edits at its place.
+  -- Named edits cascade to a row by a column exactly if the edits at the place of the column's target do.
   pub goes_at_place : key_named name schema ≡ key_at relations to → (column : ℕ) (cs : List PlacedEdits) → AllByRecursion IsThere cs → Ascends cs → (row : Row)
       → list_any (refers column (key_named name schema) row) (old_rows name (map (named schema relations) cs))
       ≡ is_cascaded_by relations column (to, edits_at cs to) row
@@ -261,7 +261,7 @@ module _ (schema : Schema) where
             }
       ]
 
-  -- A REF column of the table at a place refers to the table of its name and to no other.
+  -- A REF column of the table at a place refers to the table with its name and to no other.
   pub is_reference : (place : ℕ) (table : Table) → slice_get schema.tables place ≡ Some table → (column : ℕ) (name : List ℕ)
       → IsIn {X = ℕ × List ℕ} (column, name) (references_of table.definition.columns) → (to : ℕ) → table_place name schema ≡ Some to
       → IsReference (all_references schema) place column to
@@ -303,7 +303,7 @@ among_references n (c ∷ cs) r here = by (cascades c) (target_of c) here (among
     by false None there later = later there
     by false (Some name) there later = inr (later there)
 
--- The column at a place is among them where it cascades.
+-- The column at a place is a CASCADE column if it cascades.
 pub cascading_there : (n : ℕ) (cs : List Column) (k : ℕ) (c : Column) (name : List ℕ) → slice_get cs k ≡ Some c → cascading_target c ≡ Some name
     → IsIn {X = ℕ × List ℕ} (n + k, name) (cascading_from n cs)
 cascading_there n [] k c name at is = cc

@@ -1,4 +1,4 @@
--- The cascaded removals, table by table.
+-- The cascaded deletions, table by table.
 use Rattle.std.proofs.Common.{◌≡◌, ◌≢◌, ℕ, zero, suc, ◌+◌, ◌≤◌, Bool, true, false, cond, ◌||◌, List, [], ◌∷◌, ◌++◌, Some, None, inl, inr, drop, filter}
 use Rattle.std.proofs.Common.{length, map, slice_get, refl, sym, ap, ◌∙◌, arith}
 use Rattle.std.specs.List.{AllByRecursion, IsDistinct, filter_map, list_any}
@@ -31,7 +31,7 @@ module _ (schema : Schema) (own : TableEdits) where
   abbrev es : List TableEdits
   es = own ∷ []
 
-  -- No row of a table is cascaded whose columns refer to other tables than the one of the edits.
+  -- Edits of one table cascade to no row of a table whose columns refer only to other tables.
   none_cascaded : (columns : List Column) → AllByRecursion (λ (r : ℕ × List ℕ). same_name own.table r.1 ≡ false) (references_of columns) → (row : Row)
       → is_cascaded schema es columns row ≡ false
   none_cascaded columns others row =
@@ -62,7 +62,7 @@ module _ (schema : Schema) (own : TableEdits) where
   skip t ts r rows none =
       ap (λ gone. with_cascades schema ts rows (also es (name_of t) (removals_of gone))) (none_left t.definition.columns r none)
 
-  -- The tables up to that of the edits add none.
+  -- The tables up to that of the edits add no deletions.
   pub up_to_own : (names : List (List ℕ)) → list_any (same_name own.table) names ≡ false → (n : ℕ) (ts : List Table) (rows : Instance) → RefersBack names ts
       → IsDistinct same_name (map name_of ts) → (t : Table) → slice_get ts n ≡ Some t → own.table ≡ name_of t
       → with_cascades schema ts rows es ≡ with_cascades schema (drop (n + 1) ts) (drop (n + 1) rows) es
@@ -91,7 +91,7 @@ module _ (schema : Schema) (own : TableEdits) where
       still : list_any (same_name own.table) (names ++ name_of x ∷ []) ≡ false
       still = list_any-append (same_name own.table) names (name_of x ∷ []) ∙ (λ i. lack i || (differs i || false))
 
--- ---- one table more
+-- ---- one more table
 
 drop_at : {X : Type 0} (xs : List X) (k : ℕ) (x : X) → slice_get xs k ≡ Some x → drop k xs ≡ x ∷ drop (k + 1) xs
 drop_at [] k x at = cc
@@ -118,7 +118,7 @@ all_done schema ts rows k es past = ap (λ us. with_cascades schema us (drop k r
     none (u ∷ us) zero past = absurd (omega (arith, past))
     none (u ∷ us) (suc n) past = none us n (omega (arith, past))
 
--- ---- removals of references
+-- ---- deletions of references
 
 rows_filtered : (now : Slots) (q : RowRef → Bool) (p : Row → Bool) (refs : List RowRef) → ((at : RowRef) → IsIn at refs → q at ≡ p (row_at now at))
     → map (row_at now) (filter q refs) ≡ filter p (map (row_at now) refs)
@@ -133,7 +133,7 @@ rows_filtered now q p (x ∷ xs) same =
     by true false e later = cc
     by false true e later = cc
 
--- The pairs of the removals of references that pass where their rows do.
+-- The pairs of the deletions of the references whose rows pass a test.
 pub pairs_filtered : (now : Slots) (q : RowRef → Bool) (p : Row → Bool) (refs : List RowRef) → ((at : RowRef) → IsIn at refs → q at ≡ p (row_at now at))
     → pairs_of now (map Delete (filter q refs)) ≡ removals_of (filter p (map (row_at now) refs))
 pairs_filtered now q p refs same = pairs-gone now (filter q refs) ∙ ap removals_of (rows_filtered now q p refs same)

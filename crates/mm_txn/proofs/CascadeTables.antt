@@ -91,7 +91,7 @@ module _ (schema : Schema) where
       by (Some m) first (inl same) later = ap (λ (q : ℕ × List ℕ). lacks_table q.1 schema) (sym same) ∙ first
       by (Some m) first (inr there) later = later there
 
-  -- The table that a column of one at a place refers to has a place.
+  -- The table that a column of the table at a place refers to has a place.
   pub target_placed : HasTargets schema → (place : ℕ) (t : Table) → slice_get schema.tables place ≡ Some t → (r : ℕ × List ℕ)
       → IsIn r (references_of t.definition.columns) → (k : ℕ) × (table_place r.1 schema ≡ Some k)
   target_placed targets place t at r here =
@@ -107,7 +107,7 @@ module _ (schema : Schema) where
       ap (λ o. option_map_or (λ (u : Table). key_place u.definition.columns) o 0) (table_at_place name schema k placed ∙ at)
       ∙ sym beside.of.key ∙ sym (ap (λ o. option_map_or (λ (s : StoredRows). s.key) o 0) beside.at)
 
--- ---- edits that are there
+-- ---- edits of existing tables
 
 pub fits_within : (store : Tables) (c : PlacedEdits) → FitsAt store c → c.0 < length store.tables
 fits_within store c fit = within_at store.tables c.0 fit.0 fit.1
@@ -131,7 +131,7 @@ find_fits store place (c ∷ cs) fit some = by (c.0 == place) refl some (find_fi
 
 -- ---- the columns by which rows are cascaded
 
--- A column refers to the table of its name, and to no other.
+-- A column refers to the table with its name, and to no other.
 pub record Refers (schema : Schema) (store : Tables) (place : ℕ) (column : ℕ × List ℕ) : Type 0 where
   pub to : ℕ
   pub placed : table_place column.1 schema ≡ Some to
@@ -176,7 +176,7 @@ module _ (schema : Schema) (store : Tables) (kept : AreKept schema store) (disti
   abbrev IsPlacedCascade : PlacedCascade → Type 0
   IsPlacedCascade a = IsCascade store place a.0 a.1
 
-  -- Rows are cascaded by the columns with edits exactly if they are by the columns of the catalog ..
+  -- Deletions cascade by the columns with edits exactly to the rows to which they cascade by the columns of the catalog, ..
   go_same : (n : ℕ) (columns : List Column) → ((r : ℕ × List ℕ) → IsIn r (cascading_from n columns) → Refers schema store place r) → (row : Row)
       → is_cascaded_by_some rs (cascades_from schema cs n columns) row ≡ list_any (by_column row) (cascading_from n columns)
   go_same n [] each row = refl
@@ -197,7 +197,7 @@ module _ (schema : Schema) (store : Tables) (kept : AreKept schema store) (disti
           ∙ (λ i. sym (goes_at_place schema distinct rs name r.to r.placed (key_of_place schema rs kept.relations name r.to r.placed) n cs there ascend row) i
           || rest i)
 
-  -- .. and these refer as they say.
+  -- .. and these columns refer to the tables of their names.
   are_cascades : (n : ℕ) (columns : List Column) → ((r : ℕ × List ℕ) → IsIn r (cascading_from n columns) → Refers schema store place r)
       → AllByRecursion IsPlacedCascade (cascades_from schema cs n columns)
   are_cascades n [] each = tt
@@ -227,7 +227,7 @@ module _ (schema : Schema) (store : Tables) (kept : AreKept schema store) (disti
           subst (λ k. AllByRecursion IsPlacedCascade (cons_option (unless_none n k (edits_at cs k)) (cascades_from schema cs (n + 1) columns))) (sym to)
           (one r.to r.link (edits_at cs r.to) refl (cascades_from schema cs (n + 1) columns) (later (λ q here. each q (inr here))))
 
--- The columns of a table at a place, with the edits of the tables that they refer to, ..
+-- The columns of a table at a place, with the edits of the tables that they refer to:
 module _ (schema : Schema) (store : Tables) (kept : AreKept schema store) (distinct : HasDistinctNames schema) (cs : List PlacedEdits) (are : AreEdits store cs)
     (place : ℕ) (t : Table) (at : slice_get schema.tables place ≡ Some t) where
   pub cascades_go : (row : Row) → is_cascaded_by_some store.tables (cascades_from schema cs 0 t.definition.columns) row
@@ -236,7 +236,7 @@ module _ (schema : Schema) (store : Tables) (kept : AreKept schema store) (disti
       t.definition.columns
       (refers_there schema store kept place t at) row
 
-  -- .. are as they say.
+  -- The columns refer to the tables of their edits.
   pub cascades_are : All (λ (a : PlacedCascade). IsCascade store place a.0 a.1) (cascades_from schema cs 0 t.definition.columns)
   cascades_are = All-from_recursion (λ (a : PlacedCascade). IsCascade store place a.0 a.1) (cascades_from schema cs 0 t.definition.columns)
       (are_cascades schema store kept distinct place cs (recursion_from_All (FitsAt store) cs are.fit) (ascends_from cs are.ascend) 0 t.definition.columns

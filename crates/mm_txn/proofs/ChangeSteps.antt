@@ -62,7 +62,7 @@ use Rattle.mm_txn.proofs.RowsBeside.{AreOf-formed, IsBeside, as_many_rows, besid
 use Rattle.mm_txn.proofs.RowsMade.{InTurn, after_edited, in_turn, instance_is, many_after, none_at, none_later, all_after}
 use Rattle.mm_txn.proofs.TypedEdits.{inserted_typed}
 
--- ---- what was bound
+-- ---- the bound change
 
 -- UPDATE computes the values of its new rows.
 pub update_values : (schema : Schema) (mutation : Mutation) (place : ℕ) (assignments : List (Assignment ℕ)) (tests : List (Atom FieldPlace)) (state : State)
@@ -71,21 +71,21 @@ update_values schema (written.Insert name tuples) place assignments tests state 
 update_values schema (written.Update name written_assignments written_tests) place assignments tests state binds = refl
 update_values schema (written.Delete name written_tests) place assignments tests state binds = absurd binds
 
--- All columns that its assignments name are there.
+-- All columns in the assignments of an UPDATE exist.
 pub update_within : (schema : Schema) (mutation : Mutation) (place : ℕ) (assignments : List (Assignment ℕ)) (tests : List (Atom FieldPlace))
     → Binds schema mutation (bound.Update place assignments tests) → AssignmentsWithin (length (columns_named (changed_table mutation) schema)) assignments
 update_within schema (written.Insert name tuples) place assignments tests binds = absurd binds
 update_within schema (written.Update name written_assignments written_tests) place assignments tests binds = binds.assignments_within
 update_within schema (written.Delete name written_tests) place assignments tests binds = absurd binds
 
--- ---- the edits of what was bound
+-- ---- the edits of the bound change
 
--- What stands at a place is one relation.
+-- There is one relation at a place.
 pub one_there : (rs : List StoredRows) (place : ℕ) (a b : StoredRows) → slice_get rs place ≡ Some a → slice_get rs place ≡ Some b → a ≡ b
 one_there rs place a b h k = cc
 
 module _ (schema : Schema) (rs : List StoredRows) (are : AreOf schema.tables rs) (mutation : Mutation) (place : ℕ) where
-  -- The tuples of an INSERT have the types of the relation there.
+  -- The tuples of an INSERT have the types of the relation at its table's place.
   pub insert_typed : (rows : List Row) → Binds schema mutation (bound.Insert place rows) → first_refusal (binding_conditions mutation schema) ≡ None
       → (stored : StoredRows) → slice_get rs place ≡ Some stored → All (HasTypes stored.places.types) rows
   insert_typed rows binds none stored there =
@@ -97,7 +97,7 @@ module _ (schema : Schema) (rs : List StoredRows) (are : AreOf schema.tables rs)
     place_within_rows = rows_there schema rs are (changed_table mutation) place placed
 
     module _ (stored : StoredRows) (there : slice_get rs place ≡ Some stored) where
-      -- The relation there has the types of the table's columns.
+      -- The relation at the table's place has the types of the table's columns.
       pub types_are : types_of (columns_named (changed_table mutation) schema) ≡ stored.places.types
       types_are =
           let at = beside schema.tables rs place stored are there in
@@ -123,7 +123,7 @@ module _ (schema : Schema) (rs : List StoredRows) (are : AreOf schema.tables rs)
           delete_pairs schema mutation place tests (state_of schema rs) refl binds
           ∙ ap (λ rows. removals_of (filter (meets tests) rows)) (rows_of_name schema rs are (changed_table mutation) place placed stored there)
 
-      -- What refuses an UPDATE before its rows are looked at is the range of its new values.
+      -- An UPDATE is refused before its rows are read exactly if a new value is past the range.
       pub update_due : (assignments : List (Assignment ℕ)) (tests : List (Atom FieldPlace)) → Binds schema mutation (bound.Update place assignments tests)
           → first_refusal (binding_conditions mutation schema) ≡ None
           → first_refusal (range_conditions (new_values (updates_of assignments (filter (meets tests) (rows_of stored)))))
@@ -133,7 +133,7 @@ module _ (schema : Schema) (rs : List StoredRows) (are : AreOf schema.tables rs)
           ∙ ap first_refusal (update_values schema mutation place assignments tests (state_of schema rs) binds)
           ∙ ap (λ pairs. first_refusal (range_conditions (new_values pairs))) (update_owns assignments tests binds))
 
--- Edits of the table that a change names are those of the change where their pairs are, over tables that have the rows.
+-- Edits of the table that a change names are those of the change if their pairs are, over tables with the same rows.
 pub stored_edits : (schema : Schema) (rs new : List StoredRows) (mutation : Mutation) (place : ℕ) → table_place (changed_table mutation) schema ≡ Some place
     → instance_of new ≡ instance_of rs → (edits : List Edit) (pairs : List Pair) → own_pairs mutation (state_of schema rs) ≡ pairs
     → ((stored : StoredRows) → slice_get new place ≡ Some stored → AreFit stored edits)
@@ -150,7 +150,7 @@ stored_edits schema rs new mutation place placed same edits pairs owns fit are_p
 
 -- ---- the edits of all tables
 
--- Edits that stand in front stay there.
+-- The first edits remain the first.
 first_still : (schema : Schema) (e : NamedEdits) (ts : List Table) (rows : Instance) (es : List NamedEdits)
     → (others : List NamedEdits) × (with_cascades schema ts rows (e ∷ es) ≡ e ∷ others)
 first_still schema e [] rows es = (es, refl)
@@ -163,7 +163,7 @@ first_still schema e (t ∷ ts) (r ∷ rs) es =
     by [] later = later es
     by (p ∷ ps) later = later (es ++ record { table = name_of t; pairs = p ∷ ps } ∷ [])
 
--- So those of the table that a change names come first.
+-- So the edits of the table that a change names are the first.
 own_in_front : (mutation : Mutation) (state : State) → (others : List NamedEdits) × (edits mutation state ≡ own_edits mutation state ∷ others)
 own_in_front (written.Insert table tuples) state = ([], refl)
 own_in_front (written.Update table assignments tests) state = ([], refl)
@@ -171,14 +171,14 @@ own_in_front (written.Delete table tests) state = first_still state.schema (own_
 
 -- ---- the step
 
--- What is due of a change by its names is due of it.
+-- A refusal that is due by the names of a change is due of the change.
 pub bound_due : (mutation : Mutation) (state : State) (refusal : Refusal)
     → AnswersDue {T = Unit {0}} (first_refusal (binding_conditions mutation state.schema)) (Err refusal)
     → AnswersDue {T = Unit {0}} (first_refusal (change_conditions mutation state)) (Err refusal)
 bound_due mutation state refusal due =
     ⊎_elim (λ h. inl (due_in_front (binding_conditions mutation state.schema) _ refusal h)) (λ m. inr m) due
 
--- What is due of a change before its rows are looked at is due of it, whatever the standing queries.
+-- A refusal that is due before the rows of a change are read is due of the change, whatever the standing queries.
 pub early_due : (mutation : Mutation) (schema : Schema) (rs : List StoredRows) (queries : List BoundQuery) (refusal : Refusal)
     → AnswersDue {T = Unit {0}} (first_refusal (binding_conditions mutation schema ++ value_conditions mutation (state_of schema rs))) (Err refusal)
     → AnswersDue {T = Unit {0}} (first_refusal (change_conditions mutation (watched_state schema rs queries))) (Err refusal)
@@ -197,7 +197,7 @@ module _ (schema : Schema) (store : Tables) (are : AreOf schema.tables store.tab
   turn : InTurn (length schema.tables) all_edits
   turn = subst (λ (n : ℕ). InTurn n all_edits) (as_many_rows schema.tables store.tables are) (in_turn store all_edits are_edits.are)
 
-  -- There are as many edits of the table that a change names as pairs.
+  -- The table that a change names has as many edits as pairs.
   pub edits_counted : length own.1 ≡ length (own_pairs mutation (state_of schema store.tables))
   edits_counted =
       let stored = own_there.0 in
@@ -219,7 +219,7 @@ module _ (schema : Schema) (store : Tables) (are : AreOf schema.tables store.tab
     after_is : all_after schema distinct store are all_edits turn ≡ (after_change mutation state).rows
     after_is = ap (λ (es : List NamedEdits). after_edits schema.tables es (instance_of store.tables)) edits_are
 
-    -- The rows with the edits made are those after the change.
+    -- The rows after the edits are those after the change.
     pub edited_after : rows_edited store all_edits ≡ rows_by_place (after_change mutation state).rows
     edited_after = sym (after_edited schema distinct store are all_edits turn) ∙ ap rows_by_place after_is
 
@@ -235,7 +235,7 @@ module _ (schema : Schema) (store : Tables) (are : AreOf schema.tables store.tab
         AreOf-formed schema.tables store.tables new.tables (have_formed (rows_edited store all_edits) store new have) are,
       )
 
-  -- Where all relations have the rows that they had, so has the state.
+  -- If all relations keep their rows, so does the state.
   pub change_refused : (new : Tables) → HaveRows (rows_by_place (instance_of store.tables)) store new
       → (instance_of new.tables ≡ instance_of store.tables) × AreOf schema.tables new.tables
   change_refused new have = (
@@ -243,7 +243,7 @@ module _ (schema : Schema) (store : Tables) (are : AreOf schema.tables store.tab
     AreOf-formed schema.tables store.tables new.tables (have_formed (rows_by_place (instance_of store.tables)) store new have) are,
   )
 
-  -- ---- what refuses it
+  -- ---- refusals of the change
 
   module _ (targets : AreToOthers schema) (back : RefersBack [] schema.tables) (links : store.links ≡ all_references schema) (queries : List BoundQuery)
       (stored : StoredRows) (there : IsAt store own.0 stored) where
@@ -276,7 +276,7 @@ module _ (schema : Schema) (store : Tables) (are : AreOf schema.tables store.tab
         ∙ (ap (λ (s : Option StoredRows). option_map_or (λ k. rows_after k (edits_at all_edits own.0)) s []) there
         ∙ ap (rows_after stored) own_made)))
 
-    -- Tables that stand before the one that a change names keep their rows.
+    -- Tables before the one that a change names keep their rows.
     older_kept : (k : ℕ) → k < own.0 → rows_edited store all_edits k ≡ rows_at store.tables k
     older_kept k below =
         let none : edits_at all_edits k ≡ [] = none_at k all_edits (none_later k all_edits (below, all_later cascaded turn.1)) in
@@ -316,7 +316,7 @@ module _ (schema : Schema) (store : Tables) (are : AreOf schema.tables store.tab
         all_both [] others older = tt
         all_both (r ∷ rs) others older = (to_kept r others.0 older.0, all_both rs others.1 older.1)
 
-    -- Rows that stay are left behind by edits of a table just where the state tells it of its name.
+    -- Edits of a table leave orphans exactly if the state finds some by its name.
     orphans_of : (c : PlacedEdits) → FitsAt store c
         → list_any (leaves_orphan store all_edits c) store.links ≡ is_referred_to after (named schema store.tables c)
     orphans_of c fit =
@@ -343,7 +343,7 @@ module _ (schema : Schema) (store : Tables) (are : AreOf schema.tables store.tab
         by [] fit = refl
         by (c ∷ cs) fit = λ i. orphans_of c fit.0 i || by cs fit.1 i
 
-    -- What the relations, the references and the lists refuse of the edits is what the state refuses of the change.
+    -- The relations, the references and the lists refuse the edits exactly as the state refuses the change.
     pub due_of_edits : (lists : List StandingQuery) → All (IsPlaced schema) lists → queries ≡ queries_of lists
         → first_refusal (binding_conditions mutation schema ++ value_conditions mutation (state_of schema store.tables)) ≡ None
         → first_refusal (edits_conditions store stored own cascaded ++ list_conditions (rows_edited store all_edits) lists)

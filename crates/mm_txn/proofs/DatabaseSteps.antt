@@ -1,4 +1,4 @@
--- The database's calls as steps of the machine, by the catalog and the rows beside its tables.
+-- The database's calls as steps of the machine, by the catalog and the rows of its tables.
 use Rattle.std.proofs.Common.{◌≡◌, ℕ, ◌<◌, ◌^◌, Bool, true, false, List, [], ◌∷◌, ◌++◌, Some, None, zero, suc, length, slice_get, refl, sym, ap, subst, ◌∙◌}
 use Rattle.std.proofs.Common.{arith}
 use Rattle.std.specs.Prelude.{nat_le, nat_lt}
@@ -23,7 +23,7 @@ use Rattle.mm_txn.specs.Kept.{state_of}
 use Rattle.mm_txn.proofs.RowsBeside.{AreOf-push, as_many_rows, beside, dropped_at_place, rows_at_place, types_of}
 
 module _ (schema : Schema) (rs : List StoredRows) (are : AreOf schema.tables rs) where
-  -- The rows of a new table are those beside it.
+  -- The rows of a new table are those of its relation.
   pub rows_added : (definition : TableDef) (stored : StoredRows) → stored.key ≡ key_place definition.columns
       → stored.places.types ≡ types_of definition.columns → stored.indexes ≡ [] → AreOf (with_table definition schema).tables (rs ++ stored ∷ [])
   rows_added definition stored key types none =
@@ -38,18 +38,18 @@ module _ (schema : Schema) (rs : List StoredRows) (are : AreOf schema.tables rs)
     pub place_found : place ≡ position_or_len (λ t. same_name name t.definition.name) schema.tables
     place_found = place_from_some _ schema.tables place placed
 
-    -- They are the rows that the state has for the name.
+    -- These rows are those that the state has for the name.
     pub rows_of_name : (stored : StoredRows) → slice_get rs place ≡ Some stored → rows_in (state_of schema rs) name ≡ rows_of stored
     rows_of_name stored there = rows_at_place name schema.tables rs stored are (subst (λ p. slice_get rs p ≡ Some stored) place_found there)
 
     module _ (stored : StoredRows) (there : slice_get rs place ≡ Some stored) where
-      -- The key and the columns of the relation there are those of the name.
+      -- The key and the columns of the relation at the place are those of the name.
       pub key_is : key_named name schema ≡ stored.key
       key_is =
           let at = beside schema.tables rs place stored are there in
           key_at_place name schema place at.table placed at.there ∙ sym at.is_of.key
 
-  -- A table that is dropped takes its relation with it, and no other.
+  -- Dropping a table drops its relation, and no other.
   pub table_dropped : (name : List ℕ) (place : ℕ) → table_place name schema ≡ Some place → HasDistinctNames schema
       → (state_of (without_table name schema) (remove rs place) ≡ after_definition (define.DropTable name) (state_of schema rs))
       × AreOf (without_table name schema).tables (remove rs place)
@@ -61,13 +61,13 @@ module _ (schema : Schema) (rs : List StoredRows) (are : AreOf schema.tables rs)
         subst (λ p. AreOf (without_table name schema).tables (remove rs p)) (sym found) both.1,
       )
 
--- Something stands at each place within a list.
+-- A list has an element at each place below its length.
 pub some_there : {X : Type 0} (xs : List X) (place : ℕ) → place < length xs → (x : X) × (slice_get xs place ≡ Some x)
 some_there [] place within = absurd (omega arith)
 some_there (x ∷ xs) zero within = (x, refl)
 some_there (x ∷ xs) (suc place) within = some_there xs place (omega arith)
 
--- A table that nothing refuses comes behind fewer than 64.
+-- A table that nothing refuses is preceded by fewer than 64.
 limits_kept : (lacks taken mismatches exceeds : Bool)
     → first_refusal (record { holds = lacks; refusal = NoSuchTable } ∷ record { holds = taken; refusal = NameTaken }
     ∷ record { holds = mismatches; refusal = TypeMismatch } ∷ record { holds = exceeds; refusal = TooMany } ∷ []) ≡ None

@@ -26,37 +26,37 @@ use Rattle.mm_txn.specs.PlacedEdits.{AreEdits, FitsAt, HaveRows, PlacedEdits, ed
 use Rattle.mm_txn.specs.declared.edits.RelationEdits.{RelationEdits}
 use Rattle.mm_txn.proofs.PlacedRows.{IsPartly, IsPartly-more, IsPartly-none, found_among, only_there, orphans_same, still_there, targets_same}
 
--- ---- what the store answers
+-- ---- results of the store
 
--- The refusal of a row that is referred.
+-- The refusal because a row is referenced.
 abbrev pub referred_due : Bool → Option Refusal
 referred_due some_is_referred = cond some_is_referred (Some RowIsReferenced) None
 
--- Nothing but a row that refers to one of the rows refuses their removal from a table.
+-- Only a row that refers to a deleted row refuses deletions from a table.
 abbrev pub AreRemovable : Tables → ℕ → Type 0
 AreRemovable store table = (stored : StoredRows) → IsAt store table stored → (edits : List Edit) → AreReady stored edits → BringNone edits
     → (some_is_referred : Bool)
     → first_refusal (table_rows_conditions stored.key (rows_after stored edits) (has_orphans store table (rows_after stored edits)) some_is_referred)
     ≡ referred_due some_is_referred
 
--- What is answered to edits of one table, ..
+-- The result of edits of one table, ..
 abbrev pub IsAnswered : Tables → PlacedEdits → Result Unit Refusal → Type 0
 IsAnswered store c result = (stored : StoredRows) → IsAt store c.0 stored → AnswersDue (first_refusal (conditions_of store c.0 stored c.1)) result
 
--- .. and what they make.
+-- .. and their effect.
 abbrev pub IsMade : Tables → PlacedEdits → Tables → Type 0
 IsMade store c new =
     (stored : StoredRows) → IsAt store c.0 stored
     → (next : StoredRows) × Turns store c.0 next new × HasRows stored (rows_after stored c.1) next
 
--- What edits of one table ask of the store.
+-- What edits of one table require of the store.
 pub record CanGo (store : Tables) (c : PlacedEdits) : Type 0 where
   pub there : c.0 < length store.tables
   pub ready : (stored : StoredRows) → IsAt store c.0 stored → AreReady stored c.1
 
 -- ---- the tables whose edits are made
 
--- The edits of the tables behind are made, and none of the rows that went there is one to which a row refers that stays.
+-- The edits of the later tables are made, and no remaining row refers to a row that was deleted there.
 pub record AreGone (old : Tables) (all done : List PlacedEdits) (new : Tables) : Type 0 where
   pub partly : IsPartly old done new
   pub clear : list_any (λ (c : PlacedEdits). list_any (leaves_orphan old all c) old.links) done ≡ false
@@ -87,7 +87,7 @@ module _ (old : Tables) (all front : List PlacedEdits) (c : PlacedEdits) (done :
   there : IsAt old c.0 stored
   there = fits.1
 
-  -- The table of the next edits is as it was.
+  -- The table of the next edits is unchanged.
   pub still_here : (own_stored : StoredRows) → IsAt old c.0 own_stored → IsAt mid c.0 own_stored
   still_here own_stored at = still_there old c done mid behind gone.partly own_stored at
 
@@ -113,7 +113,7 @@ module _ (old : Tables) (all front : List PlacedEdits) (c : PlacedEdits) (done :
       ≡ list_any (leaves_orphan old changes c) old.links) (sym split)
       (orphans_same old front c done mid before gone.partly stored there back)
 
-  -- What refuses them by the store refuses the first edits of all.
+  -- If the store refuses them, it refuses the first edits of all.
   pub conditions_same : front ≡ [] → (own_stored : StoredRows) → IsAt old c.0 own_stored
       → conditions_of mid c.0 own_stored c.1 ≡ edits_conditions old own_stored c done
   conditions_same none own_stored at =
@@ -130,7 +130,7 @@ module _ (old : Tables) (all front : List PlacedEdits) (c : PlacedEdits) (done :
       or_none true = refl
       or_none false = refl
 
-  -- Where rows only go, ..
+  -- If rows are only deleted, ..
   module _ (removable : AreRemovable mid c.0) (removals : BringNone c.1) where
     answered : (result : Result Unit Refusal) → IsAnswered mid c result → AnswersDue (referred_due leaves) result
     answered result due =
@@ -139,7 +139,7 @@ module _ (old : Tables) (all front : List PlacedEdits) (c : PlacedEdits) (done :
         ∙ ap referred_due makes_is)
         (due stored here)
 
-    -- .. what refuses that refuses all, ..
+    -- .. their refusal is that of all edits, ..
     pub refused_all : (refusal : Refusal) → IsAnswered mid c (Err refusal) → AnswersDue {T = Unit {0}} (referred_due (leaves_orphans old all)) (Err refusal)
     refused_all refusal due =
         more leaves (leaves_orphans old all)
@@ -153,7 +153,7 @@ module _ (old : Tables) (all front : List PlacedEdits) (c : PlacedEdits) (done :
         more false every so (inl none) = absurd (let b : ⊥ = cc in b)
         more false every so (inr memory) = inr memory
 
-    -- .. and where nothing does, no row is left that refers to one of them.
+    -- .. and if nothing refuses them, no remaining row refers to a deleted row.
     pub AreGone-more : (new : Tables) → IsAnswered mid c (Ok tt) → IsMade mid c new → new.links ≡ mid.links → AreGone old all (c ∷ done) new
     AreGone-more new due made links =
         let next = made stored here in
@@ -166,21 +166,21 @@ module _ (old : Tables) (all front : List PlacedEdits) (c : PlacedEdits) (done :
         none_holds true none = cc
         none_holds false none = refl
 
-  -- The edits of all tables are made with the first ones.
+  -- The edits of all tables are made once the first ones are.
   pub all_made : (new : Tables) → IsMade mid c new → new.links ≡ mid.links → HaveRows (rows_edited old (c ∷ done)) old new
   all_made new made links =
       let next = made stored here in (IsPartly-more old c done mid behind gone.partly stored there new next.0 next.1 next.2 links).have
 
 -- ---- lists of edits
 
--- The edits of tables in front, of one table, and of those behind.
+-- The edits of earlier tables, of one table, and of later ones.
 in_three : (own : RelationEdits) (cascaded front : List RelationEdits) (next : RelationEdits) (done : List RelationEdits) → cascaded ≡ front ++ next ∷ done
     → (placed own ∷ map placed cascaded) ≡ ((placed own ∷ map placed front) ++ placed next ∷ map placed done)
 in_three own cascaded front next done is =
     ap (λ (xs : List RelationEdits). placed own ∷ map placed xs) is
     ∙ ap (λ (xs : List PlacedEdits). placed own ∷ xs) (map-append placed front (next ∷ done))
 
--- The edits that are left, and those that are made.
+-- The edits that are left, and those that were made.
 pub record AreLeft (old : Tables) (own : RelationEdits) (cascaded left : List RelationEdits) (mid : Tables) : Type 0 where
   pub done : List RelationEdits
   pub is : cascaded ≡ left ++ done
@@ -191,7 +191,7 @@ module _ (old : Tables) (own : RelationEdits) (cascaded : List RelationEdits) (a
   abbrev all : List PlacedEdits
   all = placed own ∷ map placed cascaded
 
-  -- The table of the first edits is there, and they fit it.
+  -- The table of the first edits exists, and they fit it.
   pub own_can : CanGo old (placed own)
   own_can =
       let first = All-head (FitsAt old) (placed own) (map placed cascaded) are.fit in
@@ -200,7 +200,7 @@ module _ (old : Tables) (own : RelationEdits) (cascaded : List RelationEdits) (a
         ready = λ stored at. subst (λ (s : StoredRows). AreReady s own.edits) (one_relation first.0 stored (sym first.1 ∙ at)) first.2.ready;
       }
 
-  -- What is answered to all edits by the rows.
+  -- The result of all edits by the rows.
   abbrev pub IsDueOfAll : Result Unit Refusal → Type 0
   IsDueOfAll result = (stored : StoredRows) → IsAt old own.table stored
       → AnswersDue (first_refusal (edits_conditions old stored (placed own) (map placed cascaded))) result
@@ -267,9 +267,9 @@ module _ (old : Tables) (own : RelationEdits) (cascaded : List RelationEdits) (a
       last_have new (Ok tt) made links = all_made old all [] (placed own) (map placed cascaded) refl are back mid gone_behind new made links
       last_have new (Err refusal) made links = tt
 
--- ---- what is refused
+-- ---- refusals
 
--- What is due of the rows, and behind it of the lists, is due of both.
+-- A refusal that is due by the rows, or else by the lists, is due by both.
 pub both_due : (applied prepared : Result Unit Refusal) (cs ds : List Condition) → AnswersDue (first_refusal cs) applied
     → AnswersDue (first_refusal ds) prepared → AnswersDue (first_refusal (cs ++ ds)) (result_and applied prepared)
 both_due (Err refusal) prepared cs ds (inl first) later = inl (due_in_front cs ds refusal first)

@@ -1,4 +1,4 @@
--- What the edits of an INSERT, an UPDATE and a DELETE name and bring.
+-- The old and new rows of the edits of an INSERT, an UPDATE and a DELETE.
 use Rattle.std.proofs.Common.{◌≡◌, ◌≢◌, ℕ, ◌<◌, Bool, List, [], ◌∷◌, Some, None, length, get_or, map, refl, sym, ap, ◌∙◌, subst, arith}
 use Rattle.std.specs.List.{All, AllPairs, filter, filter_map}
 use Rattle.std.proofs.lemmas.List.{get_or-map, length-map}
@@ -42,7 +42,7 @@ pub pairs-gone : (now : Slots) (refs : List RowRef) → pairs_of now (map Delete
 pairs-gone now [] = refl
 pairs-gone now (x ∷ xs) = ap (λ (pairs : List Pair). (Some (row_at now x), None) ∷ pairs) (pairs-gone now xs)
 
--- of rows that pass a test
+-- for rows that pass a test
 pub fit-gone : (stored : StoredRows) → IsKept stored.places.types stored.key (slot_at stored.places) stored.refs stored.indexes → (p : RowRef → Bool)
     → AreFit stored (map Delete (filter p stored.refs))
 fit-gone stored kept p =
@@ -62,7 +62,7 @@ pairs-removed now p refs = pairs-gone now (filter (λ at. p (row_at now at)) ref
 
 -- ---- UPDATE
 
--- the rows that come
+-- the new rows
 pub updated_come : (assignments : List (Assignment ℕ)) (rows : List (List Value))
     → filter_map (λ (p : Pair). p.1) (updates_of assignments rows) ≡ map (updated_row assignments) rows
 updated_come assignments [] = refl

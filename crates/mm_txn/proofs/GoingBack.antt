@@ -1,4 +1,4 @@
--- What can be gone back to, through what changes rows, takes changes back, and makes savepoints.
+-- What can be rolled back, through changes of rows, their undo, and savepoints.
 use Rattle.std.proofs.Common.{◌≡◌, ℕ, zero, suc, ◌≤◌, List, [], ◌∷◌, ◌++◌, Some, drop, length, map, reverse, take, slice_get, refl, sym, ap, subst, ◌∙◌, arith}
 use Rattle.std.specs.List.{All, AllByRecursion}
 use Rattle.std.proofs.lemmas.List.{drop_all, length-take}
@@ -17,7 +17,7 @@ use Rattle.mm_txn.specs.declared.savepoints.Mark.{Mark}
 use Rattle.mm_txn.proofs.ListSteps.{saved_now, saved_through}
 use Rattle.mm_txn.proofs.LatestMarks.{Ascend-longer, Ascend-push, Ascend-take, each_within}
 
--- Nothing of the front of a list lies behind it.
+-- No element of a prefix of a list is after it.
 pub none_behind : {X : Type 0} (n : ℕ) (xs front : List X) → front ≡ take n xs → drop n front ≡ []
 none_behind n xs front is = ap (drop n) is ∙ drop_taken n xs
   where
@@ -31,13 +31,13 @@ pub empty_from_none : {X : Type 0} (xs : List X) → length xs ≡ 0 → xs ≡ 
 empty_from_none [] none = refl
 empty_from_none (x ∷ xs) none = absurd (omega (arith, none))
 
--- ---- where older rows stay
+-- ---- older rows are kept
 
--- A store that stays keeps its log.
+-- An unchanged store keeps its log.
 pub KeepsLog-refl : (store : Tables) → KeepsLog store store
 KeepsLog-refl store = record { log = refl; marks = KeepsMarks-same store }
 
--- All marks up to some lengths of the logs lead to the rows to which they led.
+-- All marks up to some lengths of the logs lead to the same rows.
 module _ (store newer : Tables) (commands : ℕ) (keeps : (mark : ℕ) → mark ≤ commands → KeepsMarks store newer mark) where
   same_each : (changes : ℕ) (marks : List Mark) → AllByRecursion (λ (m : Mark). (m.commands ≤ commands) × (m.changes ≤ changes)) marks
       → map (savepoint_at newer) marks ≡ map (savepoint_at store) marks
@@ -45,7 +45,7 @@ module _ (store newer : Tables) (commands : ℕ) (keeps : (mark : ℕ) → mark 
   same_each changes (m ∷ ms) within =
       λ i. record { name = m.name; rows = (keeps m.commands within.0.0).rows i } ∷ same_each changes ms within.1 i
 
-  -- So what is saved is what was.
+  -- So the saved rows are the same.
   pub saved_same : (changes : ℕ) (marks : List Mark) → Ascend 0 0 marks commands changes → saved_of newer marks ≡ saved_of store marks
   saved_same changes marks ascend = λ i. record {
     at_begin = (keeps 0 (omega arith)).rows i;
@@ -67,7 +67,7 @@ module _ (store newer : Tables) (commands : ℕ) (keeps : (mark : ℕ) → mark 
     each_through [] within saved = tt
     each_through (m ∷ ms) within saved = (goes_through m.commands m.changes within.0.0 within.0.1 saved.0, each_through ms within.1 saved.1)
 
-    -- And store and lists can go back to each.
+    -- And store and lists can be rolled back to each mark.
     pub back_through : (marks : List Mark) → GoesBack store lists 0 0 → All (IsSaved store lists) marks → Ascend 0 0 marks commands changes
         → commands ≤ mark_of newer → changes ≤ length new.log → CanGoBack newer new marks
     back_through marks saved each ascend more longer = record {
@@ -79,7 +79,7 @@ module _ (store newer : Tables) (commands : ℕ) (keeps : (mark : ℕ) → mark 
 
 -- ---- SAVEPOINT and ROLLBACK TO
 
--- What stands now can be gone back to.
+-- The current rows can be restored later.
 pub back_to_now : (store : Tables) (lists : Lists) (mark : ℕ) → mark ≡ mark_of store → IsMark store mark → rows_at_mark mark store ≡ instance_of store.tables
     → AreListed (instance_of store.tables) lists → GoesBack store lists (mark_of store) (length lists.log)
 back_to_now store lists mark now is rows listed =
@@ -89,7 +89,7 @@ back_to_now store lists mark now is rows listed =
           (saved_now (length lists.log) (instance_of store.tables) lists (drop_all (length lists.log) lists.log (omega arith)) listed);
     })
 
--- A transaction that makes a savepoint can go back to that too, beside all to which it could.
+-- After setting a savepoint, a transaction can be rolled back to it, and to all earlier states.
 pub back_marked : (store : Tables) (lists : Lists) (marks : List Mark) (mark : Mark) → IsSaved store lists mark → mark.commands ≡ mark_of store
     → mark.changes ≡ length lists.log → CanGoBack store lists marks → CanGoBack store lists (marks ++ mark ∷ [])
 back_marked store lists marks mark now commands changes back = record {
@@ -98,7 +98,7 @@ back_marked store lists marks mark now commands changes back = record {
   ascend = Ascend-push 0 0 marks (mark_of store) (length lists.log) mark commands changes back.ascend;
 }
 
--- What is gone back to a mark can go back to it still, and to those before it.
+-- After a rollback to a mark, the transaction can be rolled back to it again, and to earlier marks.
 pub back_to_mark : (store newer : Tables) (lists new : Lists) (marks : List Mark) (place : ℕ) (mark : Mark)
     → slice_get marks place ≡ Some mark → CanGoBack store lists marks → mark.changes ≤ length lists.log
     → mark_of newer ≡ mark.commands → new.log ≡ take mark.changes lists.log → new.queries ≡ lists.queries

@@ -1,4 +1,4 @@
--- Indexes made and dropped as steps of the machine.
+-- Creating and dropping indexes as steps of the machine.
 use Rattle.std.proofs.Common.{◌≡◌, ℕ, zero, suc, ◌+◌, ◌<◌, ◌≤◌, ◌||◌, Bool, true, false, cond, not, List, [], ◌∷◌, ◌++◌, Result, Ok, Err, Some, None, is_none}
 use Rattle.std.proofs.Common.{Option, length, get_or, map, slice_get, slice_index_or, slice_set, refl, sym, ap, subst, ◌∙◌, arith}
 use Rattle.std.specs.Prelude.{MatchResult, OnOk, find, position}
@@ -42,12 +42,12 @@ use Rattle.mm_txn.proofs.IndexesBeside.{AreOf-with_index, AreOf-without_index}
 use Rattle.mm_txn.proofs.RowsBeside.{as_many_rows, beside, instance_of-set, many_columns}
 use Rattle.mm_plan.proofs.Fields.{as_many}
 
--- what a look-up by a name that lies elsewhere finds
+-- the result of a look-up by a name in another list
 pub column_found : {at name : List ℕ} {found wanted : Option ℕ} (columns : List Column) → at ≡ name → found ≡ column_place at columns → found ≡ wanted
     → column_place name columns ≡ wanted
 column_found columns same is told = ap (λ n. column_place n columns) (sym same) ∙ sym is ∙ told
 
--- ---- what refuses an index
+-- ---- refusals of an index
 
 pub no_table_due : (index : IndexDef) (schema : Schema) → lacks_table index.table schema ≡ true
     → first_refusal (index_conditions index schema) ≡ Some NoSuchTable
@@ -62,7 +62,7 @@ no_column_due index schema place table placed at missing =
     passes_at_place index.table schema place table placed at (λ t. is_none (column_place index.column t.definition.columns)) ∙ ap is_none missing in
     rw (there, column) refl
 
--- ---- an index that is taken back
+-- ---- an index whose creation is undone
 
 found_not_none : (p : IndexDef → Bool) (xs : List IndexDef) → list_any p xs ≡ true → is_none (find p xs) ≡ false
 found_not_none p [] some = cc
@@ -119,7 +119,7 @@ none_found p (d ∷ ds) found = by (p d) found (none_found p ds)
     by true here later = cc
     by false here later = later here
 
--- ---- the index of a name
+-- ---- the index with a name
 
 pub slice_get_within : {X : Type 0} (xs : List X) (i : ℕ) (x : X) → slice_get xs i ≡ Some x → i < length xs
 slice_get_within [] i x here = cc
@@ -141,7 +141,7 @@ own_at t own i d here =
     let found : get_or t.indexes i d ≡ d = let read : Some (get_or t.indexes i d) ≡ Some d = sym (slice_get-get_or t.indexes i d below) ∙ here in cc in
     subst (λ (e : IndexDef). e.table ≡ name_of t) found (own i d below)
 
--- Where the first index of a name is held: in a table whose name it has, at the first place of that name.
+-- Where the first index with a name is: in a table that has the name, at its first place.
 record IsHeld (name : List ℕ) (ts : List Table) (d : IndexDef) : Type 0 where
   place : ℕ
   table : Table
@@ -172,7 +172,7 @@ held name (t ∷ ts) d found own =
         let rest = later here in
         record { place = suc rest.place; table = rest.table; there = rest.there; here = rest.here; own = rest.own }
 
--- A table stands at the place of its own name.
+-- A table is at the place of its own name.
 pub own_place : (ts : List Table) (place : ℕ) (t : Table) → slice_get ts place ≡ Some t → IsDistinct same_name (map name_of ts)
     → position_or_len (λ u. same_name (name_of t) (name_of u)) ts ≡ place
 own_place [] place t here distinct = cc
@@ -192,7 +192,7 @@ own_place (u ∷ us) (suc place) t here distinct =
     named_differs (w ∷ ws) zero v there all = let same : w ≡ v = cc in ap (λ (x : Table). same_name (name_of u) (name_of x)) (sym same) ∙ all.0
     named_differs (w ∷ ws) (suc k) v there all = named_differs ws k v there all.1
 
--- What stands at a place of the definitions stands there in the relation.
+-- The definition at a place is that of the index at this place of the relation.
 AreIndexes-at : (columns : List Column) (ds : List IndexDef) (xs : List Index) → AreIndexes columns ds xs → (i : ℕ) (d : IndexDef) → slice_get ds i ≡ Some d
     → (x : Index) × (slice_get xs i ≡ Some x) × IsIndex columns d x
 AreIndexes-at columns [] xs are i d here = cc
@@ -213,7 +213,7 @@ module _ (schema : Schema) (rs : List StoredRows) (are : AreOf schema.tables rs)
         let within : column < length table.definition.columns = within_from_some _ table.definition.columns column found in
         omega (arith, within, many_columns b.table stored b.is_of, ap (λ (t : Table). length t.definition.columns) same)
 
-    -- An index that comes and goes leaves the catalog as it was.
+    -- Creating and dropping an index leaves the catalog as before.
     pub taken_back : {T : Type 0} (name : List ℕ) (mid after : Schema) (result : Result T Refusal) → name ≡ index.name → mid ≡ with_index index schema
         → first_refusal (index_conditions index schema) ≡ None
         → MatchResult result (λ _. first_refusal (drop_index_conditions name mid) ≡ None)
@@ -229,7 +229,7 @@ module _ (schema : Schema) (rs : List StoredRows) (are : AreOf schema.tables rs)
         ∙ ap (λ (ts : List Table). record schema { tables = ts })
         (with_and_without name index schema.tables is (ap (λ n. is_taken n (indexes_of schema.tables)) is ∙ new_index_is_free index schema free))
 
-    -- An index that comes is one more of the relation there, and all rows stay.
+    -- A new index is one more of the relation at its table's place, and all rows stay.
     pub index_added : HasDistinctNames schema → (tables : List StoredRows)
         → ((stored : StoredRows) → slice_get rs place ≡ Some stored
         → (new : StoredRows) × (tables ≡ slice_set rs place new) × (new ≡ record stored { indexes = new.indexes })
@@ -256,7 +256,7 @@ module _ (schema : Schema) (rs : List StoredRows) (are : AreOf schema.tables rs)
               }))),
         )
 
-  -- ---- an index that goes
+  -- ---- a dropped index
 
   module _ (name : List ℕ) (place : ℕ) (placed : position (λ t. is_taken name t.indexes) schema.tables ≡ Some place) (table : Table)
       (at : slice_get schema.tables place ≡ Some table) where

@@ -1,4 +1,4 @@
--- The indexes of a catalog's tables, and those of the relations beside them.
+-- The indexes of a catalog's tables, and those of their relations.
 use Rattle.std.proofs.Common.{◌≡◌, ℕ, suc, ◌+◌, Bool, true, false, cond, not, List, [], ◌∷◌, ◌++◌, Some, map, slice_get, slice_set, refl, sym, ap, subst, ◌∙◌}
 use Rattle.std.proofs.Common.{arith}
 use Rattle.std.specs.List.{IsDistinct, filter, position_or_len, remove}
@@ -16,7 +16,7 @@ use Rattle.mm_schema.proofs.NameLemmas.{same_bytes}
 use Rattle.mm_schema.proofs.DuplicateIndexes.{all_kept, duplicates_behind, free_behind, is_taken, others_stay, stay_without, stays_without}
 use Rattle.mm_plan.specs.Kept.{AreIndexes, AreOf, IsIndex, IsOf}
 
--- ---- one index more
+-- ---- one more index
 
 AreIndexes-push : (columns : List Column) (ds : List IndexDef) (xs : List Index) (d : IndexDef) (x : Index) → IsIndex columns d x → AreIndexes columns ds xs
     → AreIndexes columns (ds ++ d ∷ []) (xs ++ x ∷ [])
@@ -51,7 +51,7 @@ module _ (index : IndexDef) (stored new : StoredRows) (x : Index) (is_new : new 
       let next : 1 + n ≡ suc n = omega arith in
       rw (next) (are.0, rest (rw (next) at here) (λ u there. is u (rw (next) there)))
 
-  -- The index of the table of its name is the one behind those of the relation there.
+  -- The index with the name of its table is the one after those of the relation.
   pub AreOf-with_index : (ts : List Table) (rs : List StoredRows) → AreOf ts rs → IsDistinct same_name (map name_of ts)
       → slice_get rs (position_or_len (λ t. same_name index.table (name_of t)) ts) ≡ Some stored
       → ((u : Table) → slice_get ts (position_or_len (λ t. same_name index.table (name_of t)) ts) ≡ Some u → IsIndex u.definition.columns index x)
@@ -126,7 +126,7 @@ module _ (name : List ℕ) where
           rest (rw (next) at here) (λ u there. place u (rw (next) there)),
         )
 
-    -- The index of a name goes from the relation of the table that has it.
+    -- The index with a name is dropped from the relation of the table that has it.
     pub AreOf-without_index : (ts : List Table) (rs : List StoredRows) → AreOf ts rs → has_duplicate_indexes (indexes_of ts) ≡ false
         → slice_get rs (position_or_len (λ t. is_taken name t.indexes) ts) ≡ Some stored
         → ((u : Table) → slice_get ts (position_or_len (λ t. is_taken name t.indexes) ts) ≡ Some u

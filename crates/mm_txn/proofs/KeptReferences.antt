@@ -34,7 +34,7 @@ use Rattle.mm_txn.proofs.ReferenceRows.{AreToOthers, IsToOther, place_apart, som
 
 -- ---- columns that refer to other tables
 
--- What holds of the name that a column refers to, if it refers to one.
+-- A property of the name that a column refers to, if it refers to one.
 abbrev OfTarget : (List ℕ → Type 0) → Option (List ℕ) → Type 0
 OfTarget P None = Unit {0}
 OfTarget P (Some name) = P name
@@ -66,7 +66,7 @@ columns_so schema name (c ∷ cs) there other =
     by None there other = tt
     by (Some n) there other = (there, other)
 
--- All columns that refer to a table refer to another one, which is there.
+-- All columns that refer to a table refer to another one, which exists.
 pub all_to_others : (schema : Schema) → HasTargets schema → RefersToOthers schema → AreToOthers schema
 all_to_others schema targets others = each schema.tables (recursion_from_All _ schema.tables targets) (recursion_from_All _ schema.tables others)
   where
@@ -79,7 +79,7 @@ all_to_others schema targets others = each schema.tables (recursion_from_All _ s
       each ts there.1 others.1,
     )
 
--- ---- a table that none refers to
+-- ---- a table to which no table refers
 
 module _ (schema : Schema) (name : List ℕ) (place : ℕ) (placed : table_place name schema ≡ Some place) (table : Table)
     (at : slice_get schema.tables place ≡ Some table) where
@@ -140,7 +140,7 @@ below_or_same n m within apart = elim (cases_Bool (n == m)) [
   | inr differs ↦ grind (arith, nat_tests)
 ]
 
--- The references of a table that is to come last.
+-- The references of a new table, which is the last.
 abbrev pub new_references : TableDef → Schema → List Reference
 new_references definition schema = map (reference_at schema (length schema.tables)) (references_of definition.columns)
 
@@ -169,7 +169,7 @@ module _ (definition : TableDef) (schema : Schema) (targets : HasTargets schema)
       (map (reference_at schema (length schema.tables)) rs) (fit_one r (within (reference_at schema (length schema.tables) r) (0, omega arith, refl)))
       (fit_all rs (λ x among. within x (suc among.0, let lt = among.1 in omega arith, among.2)))
 
-  -- They are from the table that comes last, to tables before it.
+  -- The references are from the last table, to tables before it.
   pub new_references_fit : All (IsFrom (length schema.tables) (length definition.columns)) (new_references definition schema)
   new_references_fit =
       fit_all (references_of definition.columns)
@@ -177,10 +177,10 @@ module _ (definition : TableDef) (schema : Schema) (targets : HasTargets schema)
       (subst (λ rs. Contains rs r) (sym (references_with_table definition schema targets due))
       (Contains-append_right (all_references schema) (new_references definition schema) r among)))
 
--- ---- references that come and go again
+-- ---- references that are added and removed
 
 module _ (n : ℕ) where
-  -- Between tables before a place, it moves none, ..
+  -- Dropping a table moves none of the references between tables before it, ..
   stay : (rs : List Reference) → AllByRecursion (λ r. (r.from < n) × (r.to < n)) rs → references_without n rs ≡ rs
   stay [] before = refl
   stay (r ∷ rs) before =
@@ -194,7 +194,7 @@ module _ (n : ℕ) where
       not_above : (k : ℕ) → k < n → above n k ≡ k
       not_above k h = grind (arith, nat_tests)
 
-  -- .. and of those of the table there none is left.
+  -- .. and removes all of its own.
   go : (rs : List Reference) → AllByRecursion (λ r. r.from ≡ n) rs → references_without n rs ≡ []
   go [] own = refl
   go (r ∷ rs) own =
@@ -209,7 +209,7 @@ module _ (n : ℕ) where
       ∙ map-append (moved_up n) (filter (λ x. not (x.from == n)) old) (filter (λ x. not (x.from == n)) new)
       ∙ (λ i. stay old before i ++ go new own i) ∙ append-nil old
 
--- ---- a table that comes and goes again
+-- ---- a table that is added and dropped
 
 module _ (schema : Schema) (targets : HasTargets schema) (others : RefersToOthers schema) where
   before_all : (rs : List Reference) → ((r : Reference) → Contains rs r → IsReferenceWithin schema r)
@@ -236,14 +236,14 @@ module _ (n width : ℕ) where
   new_aside [] are = tt
   new_aside (r ∷ rs) are = (λ same. let lt = are.0.to in absurd (omega (arith, same, lt)), new_aside rs are.1)
 
-  -- Neither they nor the references of a table that comes last are to that one, ..
+  -- Neither the references of the catalog nor those of the last table refer to the last table, ..
   pub none_to_last : (old new : List Reference) → AllByRecursion (λ r. (r.from < n) × (r.to < n)) old → All (IsFrom n width) new
       → All (λ r. r.to ≢ n) (old ++ new)
   none_to_last old new before are =
       All-append (λ r. r.to ≢ n) old new (All-from_recursion (λ r. r.to ≢ n) old (old_aside old before))
       (All-from_recursion (λ r. r.to ≢ n) new (new_aside new (recursion_from_All (IsFrom n width) new are)))
 
-  -- .. and when it goes they are as they were.
+  -- .. and dropping the last table restores the references of the catalog.
   pub back_to_old : (old new : List Reference) → AllByRecursion (λ r. (r.from < n) × (r.to < n)) old → All (IsFrom n width) new
       → references_without n (old ++ new) ≡ old
   back_to_old old new before are = come_and_go n old new before (own_from new (recursion_from_All (IsFrom n width) new are))
@@ -255,7 +255,7 @@ remove_last (y ∷ ys) x = ap (λ others. y ∷ others) (remove_last ys x)
 -- ---- what is kept
 
 module _ (schema : Schema) (old new : Tables) (kept : AreKept schema old) where
-  -- A change of rows keeps all, ..
+  -- A change of rows keeps everything, ..
   pub kept_by_rows : AreOf schema.tables new.tables → new.links ≡ old.links → AreKept schema new
   kept_by_rows are links = record {
     relations = are;
@@ -265,7 +265,7 @@ module _ (schema : Schema) (old new : Tables) (kept : AreKept schema old) where
     back = kept.back;
   }
 
-  -- .. so does an index that comes or goes, ..
+  -- .. so does creating or dropping an index, ..
   pub kept_by_index : (index : IndexDef) → AreOf (with_index index schema).tables new.tables → new.links ≡ old.links → AreKept (with_index index schema) new
   kept_by_index index are links = record {
     relations = are;
@@ -285,7 +285,7 @@ module _ (schema : Schema) (old new : Tables) (kept : AreKept schema old) where
     back = older_with_definitions (table_without_index name) (same_without name) [] schema.tables kept.back;
   }
 
-  -- .. a table that comes with its references, ..
+  -- .. adding a table with its references, ..
   pub kept_by_table : (definition : TableDef) → first_refusal (table_conditions definition schema) ≡ None
       → AreOf (with_table definition schema).tables new.tables
       → new.links ≡ old.links ++ map (reference_at schema (length schema.tables)) (references_of definition.columns)
@@ -299,7 +299,7 @@ module _ (schema : Schema) (old new : Tables) (kept : AreKept schema old) where
     back = older_with_table definition schema due kept.back;
   }
 
-  -- .. and one that goes with them.
+  -- .. and dropping one with its references.
   pub kept_by_no_table : (name : List ℕ) (place : ℕ) → table_place name schema ≡ Some place → HasDistinctNames schema
       → first_refusal (drop_table_conditions name schema) ≡ None → AreOf (without_table name schema).tables new.tables
       → new.links ≡ references_without place old.links → AreKept (without_table name schema) new

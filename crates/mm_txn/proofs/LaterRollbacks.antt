@@ -21,7 +21,7 @@ use Rattle.mm_txn.proofs.ReleaseLaws.{GoBackAlike, back_alike, has_some, release
 abbrev with_saved : State → Saved → State
 with_saved state saved = record state { saved = Some saved }
 
--- What the laws say of commands that are done alike, and of changes of the catalog in a transaction.
+-- The laws on commands that are done alike, and on changes of the catalog in a transaction.
 abbrev pub AreDoneAlike : Type 0
 AreDoneAlike = (commands : List Command) (state : State) (saved : Option Saved) → list_all is_done_alike commands ≡ true
     → after_all commands (record state { saved = saved }) ≡ record (after_all commands state) { saved = saved }
@@ -31,7 +31,7 @@ AreRefused = (definition : Definition) (state : State) → has_transaction state
     → step (Define definition) state ≡ record { reply = Some (Refused NotInTransaction); state = state }
 
 module _ (alike_law : AreDoneAlike) (refused_law : AreRefused) (earlier : List ℕ) where
-  -- Where a command leads, beside what is saved.
+  -- The state that a command leads to, without the saved rows.
   record LeadsTo (command : Command) (state : State) (saved : Saved) (to : State) : Type 0 where
     left : Saved
     leads : (step command (with_saved state saved)).state ≡ with_saved to left
@@ -126,7 +126,7 @@ module _ (alike_law : AreDoneAlike) (refused_law : AreRefused) (earlier : List �
     alike : GoBackAlike earlier one_left other_left
     there : has_some (back_to earlier other_left.savepoints) ≡ true
 
-  -- Transactions that go back alike do so after each such command too, ..
+  -- Transactions that roll back alike still do so after each such command, ..
   both_lead : (command : Command) (state : State) (one other : Saved) → leaves_savepoint earlier command ≡ true → GoBackAlike earlier one other
       → has_some (back_to earlier other.savepoints) ≡ true → Both command state one other
   both_lead command state one other leaves alike there =

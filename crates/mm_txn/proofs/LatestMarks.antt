@@ -1,4 +1,4 @@
--- The latest savepoint of a name, among the marks and among what is saved.
+-- The latest savepoint with a name, among the marks and among the saved rows.
 use Rattle.std.proofs.Common.{◌≡◌, ℕ, suc, zero, ◌<◌, ◌≤◌, Bool, true, false, ◌||◌, if◌then◌else◌, List, [], ◌∷◌, ◌++◌, Option, Some, IfSome, get_or}
 use Rattle.std.proofs.Common.{length, map, reverse, take, slice_get, refl, sym, ap, subst, ◌∙◌, arith}
 use mathlib.Core.List.{reverse-cons}
@@ -17,13 +17,13 @@ use Rattle.mm_txn.specs.declared.savepoints.Mark.{Mark}
 
 -- ---- marks
 
--- The mark at a place has the name, and none behind it has.
+-- The mark at a place has the name, and no later one has it.
 abbrev pub IsLatest : List ℕ → List Mark → ℕ → Type 0
 IsLatest name [] place = ⊥
 IsLatest name (mark ∷ marks) zero = (same_name name mark.name ≡ true) × AllByRecursion (λ (later : Mark). same_name name later.name ≡ false) marks
 IsLatest name (mark ∷ marks) (suc place) = IsLatest name marks place
 
--- That is what the search of it finds.
+-- The search finds the latest mark.
 pub latest_is : (name : List ℕ) (marks : List Mark) (place : ℕ) → place < length marks → ((d : Mark) → same_name name (get_or marks place d).name ≡ true)
     → ((k : ℕ) (d : Mark) → place < k → k < length marks → same_name name (get_or marks k d).name ≡ false) → IsLatest name marks place
 latest_is name [] place within named behind = absurd (omega (arith, within))
@@ -34,7 +34,7 @@ latest_is name (mark ∷ marks) zero within named behind = (
 latest_is name (mark ∷ marks) (suc place) within named behind =
     latest_is name marks place (omega (arith, within)) named (λ k d past lt. behind (suc k) d (omega (arith, past)) (omega (arith, lt)))
 
--- What is found among a copy of the marks is found among them.
+-- A place found in a copy of the marks is also found in the marks.
 pub found_latest : (name : List ℕ) (copied marks : List Mark) (found : Option ℕ) (place : ℕ) → copied ≡ marks → found ≡ Some place
     → IfSome found (λ k. k < length copied) → IfSome found (λ k. (d : Mark) → same_name name (get_or copied k d).name ≡ true)
     → IfSome found (λ p. (k : ℕ) (d : Mark) → p < k → k < length copied → same_name name (get_or copied k d).name ≡ false) → IsLatest name marks place
@@ -44,7 +44,7 @@ found_latest name copied marks found place same is within named behind =
     (subst (λ (r : Option ℕ). IfSome r (λ k. (d : Mark) → same_name name (get_or copied k d).name ≡ true)) is named)
     (subst (λ (r : Option ℕ). IfSome r (λ p. (k : ℕ) (d : Mark) → p < k → k < length copied → same_name name (get_or copied k d).name ≡ false)) is behind))
 
--- The latest mark of a name is there.
+-- The latest mark with a name exists.
 pub latest_within : (name : List ℕ) (marks : List Mark) (place : ℕ) → IsLatest name marks place → place < length marks
 latest_within name [] place latest = absurd latest
 latest_within name (mark ∷ marks) zero latest = omega arith
@@ -56,13 +56,13 @@ bounds c d [] C D ascend = ascend
 bounds c d (mark ∷ marks) C D ascend =
     let later = bounds mark.commands mark.changes marks C D ascend.2 in (omega (arith, ascend.0, later.0), omega (arith, ascend.1, later.1))
 
--- Each lies within the lengths at the end.
+-- Each mark is within the lengths at the end.
 pub each_within : (c d : ℕ) (marks : List Mark) (C D : ℕ) → Ascend c d marks C D
     → AllByRecursion (λ (mark : Mark). (mark.commands ≤ C) × (mark.changes ≤ D)) marks
 each_within c d [] C D ascend = tt
 each_within c d (mark ∷ marks) C D ascend = (bounds mark.commands mark.changes marks C D ascend.2, each_within mark.commands mark.changes marks C D ascend.2)
 
--- They do so also where the logs are longer, ..
+-- The marks also ascend to greater lengths of the logs, ..
 pub Ascend-longer : (c d : ℕ) (marks : List Mark) (C D E F : ℕ) → C ≤ E → D ≤ F → Ascend c d marks C D → Ascend c d marks E F
 Ascend-longer c d [] C D E F more longer ascend = (omega (arith, more, ascend.0), omega (arith, longer, ascend.1))
 Ascend-longer c d (mark ∷ marks) C D E F more longer ascend =
@@ -86,7 +86,7 @@ Ascend-take c d (m ∷ ms) C D zero mark there ascend =
 Ascend-take c d (m ∷ ms) C D (suc place) mark there ascend =
     (ascend.0, ascend.1, Ascend-take m.commands m.changes ms C D place mark there ascend.2)
 
--- It lies within those lengths too.
+-- One of the marks is within these lengths too.
 pub mark_within : (c d : ℕ) (marks : List Mark) (C D : ℕ) (place : ℕ) (mark : Mark) → slice_get marks place ≡ Some mark → Ascend c d marks C D
     → (mark.commands ≤ C) × (mark.changes ≤ D)
 mark_within c d [] C D place mark there ascend = cc
@@ -96,13 +96,13 @@ mark_within c d (m ∷ ms) C D zero mark there ascend =
     (omega (arith, later.0, ap (λ (n : Mark). n.commands) same), omega (arith, later.1, ap (λ (n : Mark). n.changes) same))
 mark_within c d (m ∷ ms) C D (suc place) mark there ascend = mark_within m.commands m.changes ms C D place mark there ascend.2
 
--- The last of these is that one.
+-- The last of the marks up to a place is the one at the place.
 pub take_last : (marks : List Mark) (place : ℕ) (mark : Mark) → slice_get marks place ≡ Some mark → take (suc place) marks ≡ take place marks ++ mark ∷ []
 take_last [] place mark there = cc
 take_last (m ∷ ms) zero mark there = let same : m ≡ mark = cc in ap (λ n. n ∷ []) same
 take_last (m ∷ ms) (suc place) mark there = ap (λ ns. m ∷ ns) (take_last ms place mark there)
 
--- ---- what is saved
+-- ---- saved rows
 
 or_true : (b : Bool) → (b || true) ≡ true
 or_true true = refl
@@ -150,7 +150,7 @@ module _ (name : List ℕ) where
         subst (AllByRecursion (λ (x : Savepoint). same_name name x.name ≡ false)) (sym (saved_cons mark marks))
         (none_last (saved marks) (savepoint_at store mark) (none_saved marks none.1) none.0)
 
-    -- Among what is saved there is a savepoint of the name where one of the marks has it, ..
+    -- There is a saved savepoint with the name if one of the marks has it, ..
     pub some_named : (marks : List Mark) (place : ℕ) → IsLatest name marks place → list_any is_named (saved marks) ≡ true
     some_named [] place latest = absurd latest
     some_named (mark ∷ marks) zero latest =
@@ -160,14 +160,14 @@ module _ (name : List ℕ) where
         ap (list_any is_named) (saved_cons mark marks) ∙ (list_any-append is_named (saved marks) (savepoint_at store mark ∷ [])
         ∙ ap (λ (b : Bool). b || (is_named (savepoint_at store mark) || false)) (some_named marks place latest))
 
-    -- .. and none where none has it.
+    -- .. and none if no mark has it.
     pub none_named : (marks : List Mark) → AllByRecursion (λ (m : Mark). same_name name m.name ≡ false) marks → list_any is_named (saved marks) ≡ false
     none_named [] none = refl
     none_named (mark ∷ marks) none =
         ap (list_any is_named) (saved_cons mark marks) ∙ (list_any-append is_named (saved marks) (savepoint_at store mark ∷ [])
         ∙ ((λ i. none_named marks none.1 i || (none.0 i || false))))
 
-    -- Going back to the latest of the name leaves those of the marks up to the latest.
+    -- A rollback to the latest savepoint with the name leaves the savepoints of the marks up to the latest.
     pub back_is : (marks : List Mark) (place : ℕ) → IsLatest name marks place → back_to name (saved marks) ≡ saved (take (suc place) marks)
     back_is [] place latest = absurd latest
     back_is (mark ∷ marks) zero latest =
@@ -181,7 +181,7 @@ module _ (name : List ℕ) where
         ∙ sym (saved_cons mark (take (suc place) marks))))
 
 module _ (store : Tables) where
-  -- A mark more is a savepoint more, in front.
+  -- One more mark is one more savepoint, at the front.
   pub saved_push : (marks : List Mark) (mark : Mark)
       → reverse (map (savepoint_at store) (marks ++ mark ∷ [])) ≡ savepoint_at store mark ∷ reverse (map (savepoint_at store) marks)
   saved_push [] mark = refl
@@ -190,14 +190,14 @@ module _ (store : Tables) where
       ∙ (ap (λ (xs : List Savepoint). xs ++ savepoint_at store m ∷ []) (saved_push ms mark)
       ∙ sym (ap (λ (xs : List Savepoint). savepoint_at store mark ∷ xs) (reverse-cons (savepoint_at store m) (map (savepoint_at store) ms))))
 
-  -- The rows of the latest of the marks up to one are those at that one.
+  -- The rows of the latest of the marks up to a place are those at the mark there.
   pub latest_rows : (marks : List Mark) (place : ℕ) (mark : Mark) (rows : Instance) → slice_get marks place ≡ Some mark
       → rows_at_latest (reverse (map (savepoint_at store) (take (suc place) marks))) rows ≡ rows_at_mark mark.commands store
   latest_rows marks place mark rows there =
       ap (λ (ms : List Mark). rows_at_latest (reverse (map (savepoint_at store) ms)) rows) (take_last marks place mark there)
       ∙ ap (λ (ss : List Savepoint). rows_at_latest ss rows) (saved_push (take place marks) mark)
 
-  -- As many are saved as there are marks.
+  -- There are as many savepoints as marks.
   pub length_saved : (marks : List Mark) → length (reverse (map (savepoint_at store) marks)) ≡ length marks
   length_saved [] = refl
   length_saved (m ∷ ms) =

@@ -32,7 +32,7 @@ use Rattle.mm_txn.proofs.PlacedRows.{edited_have}
 use Rattle.mm_txn.proofs.Selecting.{all_there}
 use Rattle.mm_delta.proofs.Placed.{fit_nothing}
 
--- ---- what refuses a change because of standing queries
+-- ---- refusals of a change because of standing queries
 
 module _ (state : State) where
   outgrown : (queries : List StandingQuery) → AllByRecursion (IsPlaced state.schema) queries
@@ -40,7 +40,7 @@ module _ (state : State) where
   outgrown [] placed = refl
   outgrown (q ∷ qs) placed = λ i. is_too_large (bag_by_place state q placed.0 i) || outgrown qs placed.1 i
 
-  -- So is what refuses a change because of the standing queries.
+  -- The refusals of a change because of standing queries are the same by places.
   pub growth_placed : (queries : List StandingQuery) → state.queries ≡ queries_of queries → All (IsPlaced state.schema) queries
       → growth_conditions state ≡ change_conditions (rows_by_place state.rows) queries
   growth_placed queries are placed =
@@ -48,7 +48,7 @@ module _ (state : State) where
       ap (list_any (outgrows state)) are ∙ outgrown queries (recursion_from_All (IsPlaced state.schema) queries placed) in
       λ i. record { holds = same i; refusal = StandingListTooLarge } ∷ []
 
--- The tables of standing queries that are placed are there.
+-- The tables of placed standing queries exist.
 pub served : (schema : Schema) (store : Tables) → AreOf schema.tables store.tables → (queries : List StandingQuery)
     → All (IsPlaced schema) queries → AreServed store queries
 served schema store are queries placed =
@@ -64,7 +64,7 @@ served schema store are queries placed =
 pub before_is : (store : Tables) → before_at store ≡ rows_by_place (instance_of store.tables)
 before_is store = λ i place. rows_at_place store.tables place i
 
--- The edits of a place are found alike.
+-- The edits at a place are found in the same way.
 same_edits : (changes : List TableChange) (place : ℕ) → placed_at changes place ≡ edits_at (map placed_change changes) place
 same_edits [] place = refl
 same_edits (c ∷ cs) place = by (c.table == place) (same_edits cs place)
@@ -75,7 +75,7 @@ same_edits (c ∷ cs) place = by (c.table == place) (same_edits cs place)
     by true rest = refl
     by false rest = rest
 
--- Those after it are those with the edits made.
+-- The rows after a change are those with the edits made.
 pub after_is : (store : Tables) (changes : List TableChange) → after_at store changes ≡ rows_edited store (map placed_change changes)
 after_is store changes =
     λ i place. option_map_or (λ (stored : StoredRows). rows_after stored (same_edits changes place i)) (slice_get store.tables place) []
@@ -95,7 +95,7 @@ fit_found store (c ∷ cs) fit place stored there =
         subst (λ (s : StoredRows). AreReady s c.1) same first.2.ready
     by false other rest = rest
 
--- Edits that fit their tables fit each.
+-- Edits that fit their tables fit each table.
 pub fit_each : (store : Tables) (changes : List TableChange) → All (FitsAt store) (map placed_change changes) → EachFit store changes
 fit_each store changes fit = λ place stored there.
     subst (AreReady stored) (sym (same_edits changes place)) (fit_found store (map placed_change changes) fit place stored there)
@@ -115,7 +115,7 @@ rows_same (o ∷ os) (n ∷ ns) count each =
     let rest : instance_of ns ≡ instance_of os = rows_same os ns (omega (arith, count)) (λ place stored there. each (suc place) stored there) in
     λ i. first i ∷ rest i
 
--- Where each relation keeps its rows, all rows are as before, ..
+-- If each relation keeps its rows, all rows are unchanged, ..
 pub rows_kept : (old new : Tables) → HaveRows (rows_by_place (instance_of old.tables)) old new → instance_of new.tables ≡ instance_of old.tables
 rows_kept old new have =
     rows_same old.tables new.tables have.count
@@ -126,7 +126,7 @@ rows_kept old new have =
       now.2.rows_are ∙ (sym (rows_at_place old.tables place) ∙ ap (λ (f : Option StoredRows). option_map_or rows_of f []) there),
     ))
 
--- .. and where each has the rows with the edits made, they are those with the edits made.
+-- .. and if each has its rows after the edits, all rows are those after the edits.
 pub rows_made : (old new : Tables) (changes : List PlacedEdits) → HaveRows (rows_edited old changes) old new
     → rows_edited old changes ≡ rows_by_place (instance_of new.tables)
 rows_made old new changes have = λ i place. (sym (edited_have old new changes have place) ∙ rows_at_place new.tables place) i

@@ -1,20 +1,20 @@
--- What refuses a new standing query by the catalog alone: of what refuses its query and what refuses its name the first.
+-- The refusals of a new standing query by the catalog alone: the first of those of its query and those of its name.
 use Rattle.std.proofs.Common.{◌≡◌, ◌||◌, Bool, true, false, cond, Option, Some, None, refl, sym, subst}
 use Rattle.mm_value.specs.declared.refusal.Refusal.{Refusal}
 use Rattle.mm_value.specs.declared.refusal.Refusal.TheVariants.{AliasTaken, NameTaken, NoSuchAlias, NoSuchColumn, NoSuchTable, TooMany, TypeMismatch}
 use Rattle.mm_txn.specs.Rest.{comes_before_name, earlier_refusal}
 
--- The refusal that is due of a query.
+-- The first refusal of a query.
 abbrev pub query_due : (a b c d e f : Bool) → Option Refusal
 query_due a b c d e f =
     cond a (Some NoSuchTable) (cond b (Some NoSuchColumn) (cond c (Some AliasTaken)
     (cond d (Some NoSuchAlias) (cond e (Some TypeMismatch) (cond f (Some TooMany) None)))))
 
--- The refusal that is due of a name.
+-- The first refusal of a name.
 abbrev pub name_due : (t m : Bool) → Option Refusal
 name_due t m = cond t (Some NameTaken) (cond m (Some TooMany) None)
 
--- The refusal that is due of both.
+-- The first refusal of both.
 abbrev pub naming_due : (a b c d e f t m : Bool) → Option Refusal
 naming_due a b c d e f t m =
     cond a (Some NoSuchTable) (cond b (Some NoSuchColumn)
@@ -61,13 +61,13 @@ taken_due false false false false false false m r h = cc
 
 -- ---- both
 
--- Where a query is refused, the earlier of its refusal and that of its name is due.
+-- If a query is refused, the earlier of its refusal and that of its name is due.
 pub refused_due : (a b c d e f t m : Bool) (r : Refusal) → query_due a b c d e f ≡ Some r
     → naming_due a b c d e f t m ≡ Some (earlier_refusal r (name_due t m))
 refused_due a b c d e f true m r h = taken_due a b c d e f m r h
 refused_due a b c d e f false m r h = subst (λ x. naming_due a b c d e f false m ≡ Some x) (sym (free_earlier m r)) (free_due a b c d e f m r h)
 
--- Where it is not, the refusal of its name is.
+-- If a query is not refused, the refusal of its name is due.
 pub granted_due : (a b c d e f t m : Bool) → query_due a b c d e f ≡ None → naming_due a b c d e f t m ≡ name_due t m
 granted_due true b c d e f t m h = cc
 granted_due false true c d e f t m h = cc

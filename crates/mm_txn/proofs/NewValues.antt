@@ -1,4 +1,4 @@
--- The values that an UPDATE computes, and what refuses them.
+-- The values that an UPDATE computes, and their refusal.
 use Rattle.std.proofs.Common.{◌≡◌, ℕ, Bool, true, false, cond, ◌||◌, List, [], ◌∷◌, ◌++◌, Some, None, map, refl, sym, ap, ◌∙◌, append-nil}
 use Rattle.std.specs.List.{filter, flat_map, list_any}
 use Rattle.std.proofs.lemmas.List.Concat.{flat_map-append}
@@ -48,11 +48,11 @@ module _ (now : Slots) (assignments : List (Assignment ℕ)) where
   or_true false true c e = refl
   or_true false false c e = cc
 
-  -- Nothing refuses them where none is past the range.
+  -- Nothing refuses the values if none is past the range.
   pub none_due : (refs : List RowRef) → list_any is_past_range (values_of refs) ≡ false → first_refusal (range_conditions (values_of refs)) ≡ None
   none_due refs none = ap (λ b. cond b (Some ArithmeticOutOfRange) None) none
 
-  -- What refuses one of the rows refuses them all.
+  -- If the values of one of the rows are refused, all are.
   pub one_due : (refs done rest : List RowRef) (at : RowRef) (row : List Value) (refusal : Refusal) → row_at now at ≡ row
       → refs ≡ done ++ at ∷ rest → first_refusal (range_conditions (updated_row assignments row)) ≡ Some refusal
       → first_refusal (range_conditions (values_of refs)) ≡ Some refusal
@@ -66,7 +66,7 @@ module _ (now : Slots) (assignments : List (Assignment ℕ)) where
       let any : list_any is_past_range (values_of refs) ≡ true = ap (λ rs. list_any is_past_range (values_of rs)) split ∙ parts in
       ap (λ b. cond b (Some ArithmeticOutOfRange) None) any ∙ sym (ap (λ b. cond b (Some ArithmeticOutOfRange) None) some) ∙ due
 
-  -- One row more leaves them in range where its own values are.
+  -- One more row leaves the values in range if its own values are.
   pub none_more : (done : List RowRef) (at : RowRef) (row : List Value) → row_at now at ≡ row → list_any is_past_range (values_of done) ≡ false
       → first_refusal (range_conditions (updated_row assignments row)) ≡ None → list_any is_past_range (values_of (done ++ at ∷ [])) ≡ false
   none_more done at row is none due =

@@ -1,4 +1,4 @@
--- What stays consistent where a transaction begins, is divided and ends, and where rows are changed.
+-- What remains consistent when a transaction begins, is divided and ends, and when rows are changed.
 use Rattle.std.proofs.Common.{◌≡◌, ℕ, zero, suc, ◌≤◌, Bool, true, false, cond, Result, List, [], ◌∷◌, ◌++◌, Option, Some, None, length, take, slice_get, refl}
 use Rattle.std.proofs.Common.{sym, ap, subst, ◌∙◌, ⊎_elim, arith}
 use Rattle.std.specs.List.{All}
@@ -26,12 +26,12 @@ use Rattle.mm_txn.specs.declared.savepoints.Mark.{Mark}
 use Rattle.mm_txn.proofs.GoingBack.{back_marked, back_through, back_to_mark, empty_from_none, saved_same}
 use Rattle.mm_txn.proofs.LatestMarks.{Ascend-take, IsLatest, back_is, latest_rows, mark_within, saved_push}
 
--- What holds of rows that are saved in a transaction and of none outside it.
+-- A property of the saved rows in a transaction, and of none outside it.
 saved_open : (P : Instance → Type 0) (is_open : Bool) (saved : Saved) → is_open ≡ true → IfSome (cond is_open (Some saved) None) (AreSavedRows P)
     → AreSavedRows P saved
 saved_open P is_open saved is held = subst (λ (b : Bool). IfSome (cond b (Some saved) None) (AreSavedRows P)) is held
 
--- Store and lists can go back to each of some marks.
+-- Store and lists can be rolled back to each of some marks.
 pub saved_at : (store : Tables) (lists : Lists) (marks : List Mark) (place : ℕ) (mark : Mark) → All (IsSaved store lists) marks
     → slice_get marks place ≡ Some mark → IsSaved store lists mark
 saved_at store lists [] place mark all at = cc
@@ -39,7 +39,7 @@ saved_at store lists (m ∷ ms) zero mark all at =
     let same : m ≡ mark = cc in subst (IsSaved store lists) same (All-head (IsSaved store lists) m ms all)
 saved_at store lists (m ∷ ms) (suc place) mark all at = saved_at store lists ms place mark (All-tail (IsSaved store lists) m ms all) at
 
--- Types of rows and of standing queries where the catalog stays.
+-- Types of rows and of standing queries if the catalog is unchanged.
 module _ (schema : Schema) (new : Holdings) (same : new.schema ≡ schema) where
   rows_typed : (rows : Instance) → AreTyped schema.tables rows → instance_of new.store.tables ≡ rows → AreTyped new.schema.tables (instance_of new.store.tables)
   rows_typed rows typed is =
@@ -61,9 +61,9 @@ module _ (held : Holdings) (marks : List Mark) where
   abbrev lists : Lists
   lists = held.lists
 
-  -- What stands can be gone back to.
+  -- The current rows can be restored later.
   module _ (now : GoesBack store lists (mark_of store) (length lists.log)) (rows : rows_at_mark (mark_of store) store ≡ instance_of store.tables) where
-    -- BEGIN saves the rows now, and no savepoint.
+    -- BEGIN saves the current rows, and no savepoint.
     begins : IsConsistent held false marks → saved_of store marks ≡ record { at_begin = instance_of store.tables; savepoints = [] }
     begins was =
         let settled = was.settled refl in
@@ -92,7 +92,7 @@ module _ (held : Holdings) (marks : List Mark) where
           settled = λ e. absurd (false≢true (sym e));
         }
 
-    -- A savepoint is one more to which the transaction can go back, and its rows have their types.
+    -- A savepoint is one more to which the transaction can be rolled back, and its rows have their types.
     module _ (was : IsConsistent held true marks) (mark : Mark) (commands : mark.commands ≡ mark_of store) (changes : mark.changes ≡ length lists.log) where
       pub marked_state : kept_state held true (marks ++ mark ∷ []) ≡ after_savepoint mark.name (kept_state held true marks)
       marked_state =
@@ -127,17 +127,17 @@ module _ (held : Holdings) (marks : List Mark) where
       settled = λ e. (settled, no_marks);
     }
 
-    -- Rows that are final stay.
+    -- Committed rows stay.
     pub settled_outside : instance_of new.store.tables ≡ instance_of store.tables → IsConsistent new false none
     settled_outside rows = ended (rows_typed schema new same (instance_of store.tables) was.typed.rows rows)
 
-    -- Rows that are taken back are those that were saved.
+    -- Rows after a rollback are those that were saved.
     pub taken_back : is_open ≡ true → instance_of new.store.tables ≡ rows_at_mark 0 store → IsConsistent new false none
     taken_back is rows =
         ended (rows_typed schema new same (rows_at_mark 0 store)
         (saved_open (AreTyped schema.tables) is_open (saved_of store marks) is was.typed.saved).at_begin rows)
 
-  -- Going back to the latest savepoint of a name.
+  -- A rollback to the latest savepoint with a name.
   module _ (was : IsConsistent held true marks) (new : Holdings) (same : new.schema ≡ schema) (queries : new.lists.queries ≡ lists.queries)
       (name : List ℕ) (place : ℕ) (latest : IsLatest name marks place) (mark : Mark) (there : slice_get marks place ≡ Some mark)
       (rows : instance_of new.store.tables ≡ rows_at_mark mark.commands store) (reached : mark_of new.store ≡ mark.commands)
@@ -155,7 +155,7 @@ module _ (held : Holdings) (marks : List Mark) where
         saved_same store new.store mark.commands keeps mark.changes kept_marks
         (Ascend-take 0 0 marks (mark_of store) (length lists.log) place mark there (was.back refl).ascend)
 
-    -- The rows are those at the savepoint, which stays, and those before it.
+    -- The rows are those at the savepoint, which remains, and so do earlier ones.
     pub back_at_mark : kept_state new true kept_marks ≡ after_rollback_to name state
     back_at_mark =
         let older : back_ss ≡ (saved_of store kept_marks).savepoints = back_is name store marks place latest in
@@ -189,7 +189,7 @@ module _ (held : Holdings) (marks : List Mark) where
 
   module _ (is_open : Bool) (was : IsConsistent held is_open marks) (new : Holdings) (same : new.schema ≡ schema)
       (rows : RowsByPlace) (result : Result Unit Refusal) (made : Makes rows store new.store lists new.lists result) where
-    -- What is saved stays, ..
+    -- The saved rows stay the same, ..
     pub saved_through_change : saved_rows is_open new.store marks ≡ saved_rows is_open store marks
     saved_through_change =
         ⊎_elim
@@ -201,14 +201,14 @@ module _ (held : Holdings) (marks : List Mark) where
         ∙ sym (ap (λ (b : Bool). cond b (Some (saved_of store marks)) None) closed))
         (cases_Bool is_open)
 
-    -- .. and can be gone back to.
+    -- .. and can be restored.
     back_changed : is_open ≡ true → CanGoBack new.store new.lists marks
     back_changed is =
         let back = was.back is in
         back_through store new.store (mark_of store) made.marks lists new.lists made.queries (length lists.log) made.undone marks back.saved back.each
         back.ascend made.longer made.log_longer
 
-    -- The queries and the rows that are saved have their types still.
+    -- The queries and the saved rows keep their types.
     typed_beside : (last : Holdings) → last.schema ≡ schema → (now : Instance) → AreTyped schema.tables now
         → instance_of last.store.tables ≡ now → last.lists.queries ≡ lists.queries
         → saved_rows is_open last.store marks ≡ saved_rows is_open store marks → IsTyped (kept_state last is_open marks)
@@ -219,7 +219,7 @@ module _ (held : Holdings) (marks : List Mark) where
       queries = queries_typed schema last schema_is lists.queries was.typed.queries queries;
     }
 
-    -- After a change that is refused all is as before.
+    -- After a refused change everything is as before.
     pub refused : instance_of new.store.tables ≡ instance_of store.tables → mark_of new.store ≡ mark_of store → new.lists.log ≡ lists.log
         → IsConsistent new is_open marks
     refused stay kept log = record {
@@ -231,7 +231,7 @@ module _ (held : Holdings) (marks : List Mark) where
     }
 
     module _ (last : Holdings) (stays : is_open ≡ true → last ≡ new) where
-      -- What is saved is the same once a change outside a transaction is final.
+      -- The saved rows are the same once a change outside a transaction is committed.
       pub saved_to_the_end : saved_rows is_open last.store marks ≡ saved_rows is_open store marks
       saved_to_the_end =
           ⊎_elim
@@ -241,7 +241,7 @@ module _ (held : Holdings) (marks : List Mark) where
           ∙ sym (ap (λ (b : Bool). cond b (Some (saved_of store marks)) None) closed))
           (cases_Bool is_open)
 
-      -- A change that is made can be taken back in a transaction, and is final outside one.
+      -- A change can be undone in a transaction, and is final outside one.
       pub changed : AreTyped schema.tables (instance_of new.store.tables) → last.schema ≡ new.schema
           → instance_of last.store.tables ≡ instance_of new.store.tables → last.lists.queries ≡ new.lists.queries
           → (is_open ≡ false → IsSettled last.store last.lists) → IsConsistent last is_open marks

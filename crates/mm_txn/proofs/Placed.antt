@@ -34,7 +34,7 @@ first name tables = position_or_len (has name) tables
 abbrev pub lacks : List ℕ → List Table → Bool
 lacks name tables = is_none (find (has name) tables)
 
--- A table at a place is there by its name.
+-- A table at a place is found by its name.
 pub there_at : (ts : List Table) (k : ℕ) (t d : Table) → k < length ts → t ≡ slice_index_or ts k d → lacks (name_of t) ts ≡ false
 there_at [] k t d inside at = absurd (omega arith)
 there_at (x ∷ xs) zero t d inside at =
@@ -46,7 +46,7 @@ there_at (x ∷ xs) (suc k) t d inside at = by (has (name_of t) x) (there_at xs 
     by true later = refl
     by false later = later
 
--- A name that is there has the place of its first table.
+-- An existing name has the place of its first table.
 pub place_is : (name : List ℕ) (schema : Schema) → lacks_table name schema ≡ false → unwrap_or (table_place name schema) 0 ≡ first name schema.tables
 place_is name schema there = placed _ _ (within name schema.tables there)
 
@@ -63,7 +63,7 @@ rows_at_first name (t ∷ ts) (r ∷ rs) there = by (has name t) there (rows_at_
         let next : suc (first name ts) ≡ 1 + first name ts = omega arith in
         later there ∙ ap (rows_by_place (r ∷ rs)) next
 
--- The places of tables that are there are within the catalog.
+-- The places of existing tables are within the catalog.
 pub places_within : (schema : Schema) (from : List FromItem) → list_any (λ (item : FromItem). lacks_table item.table schema) from ≡ false
     → All (λ t. t < length schema.tables) (places_in schema from)
 places_within schema [] there = All-nil (λ t. t < length schema.tables)
@@ -73,12 +73,12 @@ places_within schema (item ∷ items) there =
     (subst (λ t. t < length schema.tables) (sym (place_is item.table schema parts.0)) (within item.table schema.tables parts.0))
     (places_within schema items parts.1)
 
--- The rows of a name that is there are those at its place.
+-- The rows of an existing name are those at its place.
 pub rows_by_name : (name : List ℕ) (schema : Schema) (rows : Instance) → lacks_table name schema ≡ false
     → rows_named name schema.tables rows ≡ rows_by_place rows (unwrap_or (table_place name schema) 0)
 rows_by_name name schema rows there = rows_at_first name schema.tables rows there ∙ ap (rows_by_place rows) (sym (place_is name schema there))
 
--- The rows of tables that are there, ..
+-- The rows of existing tables, ..
 pub lists_by_place : (schema : Schema) (rows : Instance) (from : List FromItem) → list_any (λ (item : FromItem). lacks_table item.table schema) from ≡ false
     → map (λ (item : FromItem). rows_named item.table schema.tables rows) from ≡ map (rows_by_place rows) (places_in schema from)
 lists_by_place schema rows [] there = refl
@@ -86,7 +86,7 @@ lists_by_place schema rows (item ∷ items) there =
     let parts = or_parts (lacks_table item.table schema) (list_any (λ (i : FromItem). lacks_table i.table schema) items) there in
     λ i. rows_by_name item.table schema rows parts.0 i ∷ lists_by_place schema rows items parts.1 i
 
--- .. and so the bag of a standing query.
+-- .. and so the bag of a standing query, are those at the places.
 pub bag_by_place : (state : State) (standing : StandingQuery) → IsPlaced state.schema standing
     → bag standing.query (rows_in state) ≡ bag_over (rows_by_place state.rows) standing
 bag_by_place state standing is =

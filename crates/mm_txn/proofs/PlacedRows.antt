@@ -1,5 +1,5 @@
--- Edits of several tables that are made one after the other, the last table first: the rows in between, and those that refer to a
--- row that goes.
+-- Edits of several tables that are made one after another, the last table first: the rows in between, and the rows that refer to a deleted
+-- row.
 use Rattle.std.proofs.Common.{◌≡◌, ◌≢◌, ℕ, ◌<◌, ◌≤◌, Bool, true, false, cond, ◌&&◌, ◌||◌, List, [], ◌∷◌, ◌++◌, Option, Some, None, length, refl, sym, ap}
 use Rattle.std.proofs.Common.{subst, ◌∙◌, ⊎_elim, inl, inr, arith}
 use Rattle.std.specs.Prelude.{find, slice_get, slice_set}
@@ -34,7 +34,7 @@ module _ (place : ℕ) where
   pub edits_own : (c : PlacedEdits) (cs : List PlacedEdits) → c.0 ≡ place → edits_at (c ∷ cs) place ≡ c.1
   edits_own c cs same = ap (λ b. edits_of (cond b (Some c) (find (λ (d : PlacedEdits). d.0 == place) cs))) (eq-eqb c.0 place same)
 
-  -- .. behind those of other places, ..
+  -- .. after those of other places, ..
   pub edits_other : (c : PlacedEdits) (cs : List PlacedEdits) → c.0 ≢ place → edits_at (c ∷ cs) place ≡ edits_at cs place
   edits_other c cs apart =
       elim (cases_Bool (c.0 == place)) [
@@ -58,7 +58,7 @@ past_all tables place gone =
     (λ (past : length tables ≤ place). past)
     (cases_lt place (length tables))
 
--- Where relations have rows by their places, each place has its rows.
+-- If relations have rows by their places, each place has its rows.
 pub rows_have : (rows : RowsByPlace) (old new : Tables) → HaveRows rows old new → (place : ℕ) → (slice_get old.tables place ≡ None → rows place ≡ [])
     → rows_at new.tables place ≡ rows place
 rows_have rows old new have place none = by (slice_get old.tables place) refl
@@ -71,7 +71,7 @@ rows_have rows old new have place none = by (slice_get old.tables place) refl
         let now = have.each place stored there in
         ap (λ (f : Option StoredRows). option_map_or rows_of f []) now.1 ∙ now.2.rows_are
 
--- With the edits made each place has the edited rows.
+-- After the edits each place has the edited rows.
 pub edited_have : (old new : Tables) (changes : List PlacedEdits) → HaveRows (rows_edited old changes) old new → (place : ℕ)
     → rows_at new.tables place ≡ rows_edited old changes place
 edited_have old new changes have place =
@@ -80,7 +80,7 @@ edited_have old new changes have place =
 
 -- ---- tables whose edits are made
 
--- The edits of some tables are made; those of no table in front of them, and no others.
+-- The edits of some tables are made, none of them before the others, and no others.
 pub record IsPartly (old : Tables) (done : List PlacedEdits) (new : Tables) : Type 0 where
   pub have : HaveRows (rows_edited old done) old new
   pub others : (place : ℕ) → All (λ (c : PlacedEdits). place < c.0) done → slice_get new.tables place ≡ slice_get old.tables place
@@ -107,7 +107,7 @@ IsPartly-none old = record {
 
 module _ (old : Tables) (c : PlacedEdits) (done : List PlacedEdits) (mid : Tables) (behind : All (λ (d : PlacedEdits). c.0 < d.0) done)
     (partly : IsPartly old done mid) (stored : StoredRows) (there : IsAt old c.0 stored) where
-  -- The relation of a table in front of these is as it was.
+  -- The relation of an earlier table is unchanged.
   pub still_there : IsAt mid c.0 stored
   still_there = partly.others c.0 behind ∙ there
 
@@ -164,7 +164,7 @@ module _ (old : Tables) (c : PlacedEdits) (done : List PlacedEdits) (mid : Table
       links = links ∙ partly.links;
     }
 
--- ---- rows that refer to one that goes, or to none
+-- ---- rows that refer to a deleted row, or to none
 
 same_behind : (b x y : Bool) → (b ≡ true → x ≡ y) → (b && x) ≡ (b && y)
 same_behind true x y same = same refl
@@ -186,7 +186,7 @@ module _ (old : Tables) (front : List PlacedEdits) (c : PlacedEdits) (done : Lis
   abbrev pairs : List Pair
   pairs = pairs_of (slot_at stored.places) c.1
 
-  -- Tables behind have their rows after all edits.
+  -- Later tables have their rows after all edits.
   rows_behind : (from : ℕ) → c.0 < from → rows_at mid.tables from ≡ rows_edited old all from
   rows_behind from past =
       edited_have old mid done partly.have from
@@ -206,7 +206,7 @@ module _ (old : Tables) (front : List PlacedEdits) (c : PlacedEdits) (done : Lis
       sym (ap (λ (f : Option StoredRows). option_map_or (λ (s : StoredRows). pairs_of (slot_at s.places) c.1) f []) there) in
       λ i. lose_targets r.column (key i) (rows i) (gone i))
 
-  -- What the store finds once the edits of the tables behind are made is what all edits leave.
+  -- The store finds, once the edits of the later tables are made, the orphans that all edits leave.
   pub orphans_same : All (λ (r : Reference). r.to < r.from) old.links
       → makes_orphans mid c.0 stored.key pairs ≡ list_any (leaves_orphan old all c) old.links
   orphans_same back =
@@ -224,13 +224,13 @@ module _ (old : Tables) (front : List PlacedEdits) (c : PlacedEdits) (done : Lis
         done behind) in
         λ i. list_any (lacks_target_row r.column (option_map_or (λ (s : StoredRows). s.key) (there i) 0) (option_map_or rows_of (there i) [])) rows)
 
-    -- Rows of a table lack a target then just where they lack one before: it is in a table in front.
+    -- Rows of a table lack a target then exactly if they lack one before: the target is in an earlier table.
     pub targets_same : All (λ (r : Reference). r.to < r.from) old.links → has_orphans mid c.0 rows ≡ has_orphans old c.0 rows
     targets_same back =
         ap (list_any (finds_orphan mid.tables c.0 rows)) partly.links
         ∙ same_of_all (finds_orphan mid.tables c.0 rows) (finds_orphan old.tables c.0 rows) same_target old.links back
 
--- One that is found among some is found among all, ..
+-- An element found in a part of a list is found in the list, ..
 pub found_among : {X : Type 0} (p : X → Bool) (front : List X) (x : X) (back : List X) → p x ≡ true → list_any p (front ++ x ∷ back) ≡ true
 found_among p [] x back found = ap (λ b. b || list_any p back) found
 found_among p (y ∷ ys) x back found = ap (λ b. p y || b) (found_among p ys x back found) ∙ or_true (p y)

@@ -1,4 +1,4 @@
--- How many rows a query reads, by its plan.
+-- The number of rows that a query reads, by its plan.
 use Rattle.std.proofs.Common.{◌≡◌, ℕ, ◌+◌, ◌*◌, ◌≤◌, List, Option, length, map, sym, ap, ◌∙◌, subst, arith}
 use Rattle.std.proofs.lemmas.List.{length-map}
 use Rattle.std.proofs.lemmas.List.Sorted.{length_permutation}
@@ -22,7 +22,7 @@ use Rattle.mm_txn.specs.Bound.{IsBoundQuery}
 use Rattle.mm_txn.specs.Reads.{ReadsByPlan, bound_rows, bound_steps, select_reads, shown_reads}
 use Rattle.mm_txn.proofs.Selecting.{lists_are}
 
--- The rows of all combinations of a list are those of the combinations that fit.
+-- The rows of all combinations of a list are those of the matching combinations.
 pub few_shown : (store : Tables) (atoms : List (Atom FieldPlace)) (list : Combos) (tables : List ℕ) → list.tables ≡ tables → AreFitting store atoms list
     → length list.combos * length list.tables ≡ shown_reads atoms (map (rows_at store.tables) tables)
 few_shown store atoms list tables joined fits =
@@ -32,11 +32,11 @@ few_shown store atoms list tables joined fits =
     (λ i. many i * sym (length-map list.tables (rows_at store.tables)) i)
     ∙ ap (λ ts. shown_reads atoms (rows ts)) joined
 
--- To find the combinations may take less than all.
+-- Finding the combinations may read fewer rows than the bound.
 pub reads_found : (new old finding showing : ℕ) → new ≤ old + finding → new ≤ old + (finding + showing)
 reads_found new old finding showing within = omega (arith, within)
 
--- What is read to find them, and then to show them.
+-- The rows read to find the combinations, and then to show them.
 pub reads_shown : (new found old finding showing : ℕ) → found ≤ old + finding → new ≤ found + showing → new ≤ old + (finding + showing)
 reads_shown new found old finding showing first then = omega (arith, first, then)
 
@@ -44,7 +44,7 @@ reads_shown new found old finding showing first then = omega (arith, first, then
 pub reads_from_none : (new old bound : ℕ) → old ≡ 0 → new ≤ old + bound → new ≤ bound
 reads_from_none new old bound none within = omega (arith, none, within)
 
--- A bound query keeps to the plan of its query, where the store keeps the tables of the catalog.
+-- A bound query's reads are within the plan of its query, if the store has the tables of the catalog.
 pub reads_by_plan : (schema : Schema) (store : Tables) (queries : List BoundQuery) (saved : Option Saved) (query : Query) (bound : Bound)
     → AreKept schema store → HaveOneKey schema.tables → IsBoundQuery schema query bound
     → (reads : ℕ) → reads ≤ select_reads bound.query.atoms (bound_steps store bound) (bound_rows store bound)

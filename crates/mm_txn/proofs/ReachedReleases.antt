@@ -1,4 +1,4 @@
--- Commands and releases lead to no other states than commands alone: what follows a SAVEPOINT that is released can be done without it.
+-- Commands and releases lead to no other states than commands alone: the commands after a released SAVEPOINT can be executed without it.
 use Rattle.std.proofs.Common.{◌≡◌, ◌||◌, ℕ, Bool, true, false, cond, if◌then◌else◌, not, List, [], ◌∷◌, ◌++◌, Option, Some, None, drop}
 use Rattle.std.proofs.Common.{is_none, refl, sym, ap, subst, ◌∙◌}
 use Rattle.std.specs.List.{list_any}
@@ -80,7 +80,7 @@ module _ (schema : Schema) (queries : List BoundQuery) (begin : Instance) where
         by true behind = reached.1
         by false behind = behind
 
-    -- ROLLBACK TO restores the rows of a savepoint that is there.
+    -- ROLLBACK TO restores the rows of an existing savepoint.
     abbrev is_there : List Savepoint → Bool
     is_there savepoints = list_any (λ (s : Savepoint). same_name name s.name) savepoints
 
@@ -105,7 +105,7 @@ module _ (schema : Schema) (queries : List BoundQuery) (begin : Instance) where
 
 -- ---- changes of rows
 
--- A change does not look at what is saved.
+-- A change does not depend on the saved rows.
 due_beside : (mutation : Mutation) (state : State) (saved : Option Saved)
     → first_refusal (change_conditions mutation (record state { saved = saved })) ≡ first_refusal (change_conditions mutation state)
 due_beside (Insert table tuples) state saved = refl
@@ -133,7 +133,7 @@ module _ (mutation : Mutation) (state : State) (due : first_refusal (change_cond
 
 -- ---- changes of the catalog
 
--- A change of an index does not look at rows.
+-- A change of an index does not depend on rows.
 module _ (definition : Definition) (state : State) (begin : Instance) (of_index : is_of_index definition ≡ true)
     (due : first_refusal (definition_conditions definition state) ≡ None) where
   abbrev old : Instance → List Savepoint → State
@@ -174,7 +174,7 @@ module _ (definition : Definition) (state : State) (begin : Instance) (of_index 
   reached_by_index rows [] is = reached_defined rows [] is
   reached_by_index rows (s ∷ ss) is = (reached_defined rows (s ∷ ss) is.0, reached_by_index rows ss is.1, reached_by_index s.rows ss is.2)
 
--- Outside a transaction a change of the catalog is any, and nothing is saved after it.
+-- Outside a transaction any change of the catalog is allowed, and nothing is saved after it.
 rows_by_definition : (definition : Definition) (state : State) → is_of_index definition ≡ true → (after_definition definition state).rows ≡ state.rows
 rows_by_definition (define.Table definition) state is = absurd (false≢true is)
 rows_by_definition (define.DropTable name) state is = absurd (false≢true is)

@@ -41,7 +41,7 @@ any-none : {X : Type 0} (p : X → Bool) → ((x : X) → p x ≡ false) → (xs
 any-none p none [] = refl
 any-none p none (x ∷ xs) = λ i. none x i || any-none p none xs i
 
--- What is found passes.
+-- A found element passes the test.
 pub found_passes : {X : Type 0} (p : X → Bool) (xs : List X) (x : X) → find p xs ≡ Some x → p x ≡ true
 found_passes p [] x e = cc
 found_passes p (y ∷ ys) x e =
@@ -101,15 +101,15 @@ module _ (schema : Schema) (rs : List StoredRows) (place : ℕ) (rows : List Row
       || list_any (finds_orphan rs place rows) (references_behind schema (i + 1) ts))
       ∙ own_alone n (i + 1) ts table there (omega (arith, sums))
 
--- The columns' targets are there, and none is the table itself.
+-- The columns' targets exist, and none is the table itself.
 abbrev pub IsToOther : Schema → List ℕ → ℕ × List ℕ → Type 0
 IsToOther schema name r = (lacks_table r.1 schema ≡ false) × (same_name name r.1 ≡ false)
 
--- Each column that refers to a table refers to one that is there and is another.
+-- Each column that refers to a table refers to an existing table other than its own.
 abbrev pub AreToOthers : Schema → Type 0
 AreToOthers schema = AllByRecursion (λ (t : Table). AllByRecursion (IsToOther schema (name_of t)) (references_of t.definition.columns)) schema.tables
 
--- So do the columns of the table at the place of a name, ..
+-- The columns of the table at the place of a name refer to other existing tables, ..
 pub others_at : (schema : Schema) (name : List ℕ) (place : ℕ) → table_place name schema ≡ Some place → (table : Table)
     → slice_get schema.tables place ≡ Some table → AreToOthers schema → AllByRecursion (IsToOther schema name) (references_of table.definition.columns)
 others_at schema name place placed table there others =
@@ -126,7 +126,7 @@ others_at schema name place placed table there others =
         subst (λ (u : Table). AllByRecursion (IsToOther schema (name_of u)) (references_of u.definition.columns)) same all.0
     at_place (t ∷ ts) (suc k) all e = at_place ts k all.1 e
 
--- .. and all tables that columns refer to are there.
+-- .. and all tables that columns refer to exist.
 pub all_there : (schema : Schema) → AreToOthers schema
     → AllByRecursion (λ (t : Table). AllByRecursion (λ (r : ℕ × List ℕ). lacks_table r.1 schema ≡ false) (references_of t.definition.columns)) schema.tables
 all_there schema others = each_table schema.tables others
@@ -141,7 +141,7 @@ all_there schema others = each_table schema.tables others
     each_table [] all = tt
     each_table (t ∷ ts) all = (each_column (name_of t) (references_of t.definition.columns) all.0, each_table ts all.1)
 
--- A name that is there has a place.
+-- An existing name has a place.
 pub some_place : (schema : Schema) (name : List ℕ) → lacks_table name schema ≡ false → (k : ℕ) × (table_place name schema ≡ Some k)
 some_place schema name there =
     elim (table_place name schema) as (λ p. (table_place name schema ≡ p) → (k : ℕ) × (table_place name schema ≡ Some k)) [
@@ -151,7 +151,7 @@ some_place schema name there =
 
 module _ (schema : Schema) (rs : List StoredRows) (are : AreOf schema.tables rs) (name : List ℕ) (place : ℕ)
     (placed : table_place name schema ≡ Some place) (after : Instance) (rows : List Row) where
-  -- The table that a column refers to is there, and has the rows that it had.
+  -- The table that a column refers to exists, and keeps its rows.
   abbrev pub IsToKept : ℕ × List ℕ → Type 0
   IsToKept r = (lacks_table r.1 schema ≡ false) × (rows_named r.1 schema.tables after ≡ rows_in (state_of schema rs) r.1)
 
@@ -167,7 +167,7 @@ module _ (schema : Schema) (rs : List StoredRows) (are : AreOf schema.tables rs)
       (eq-eqb place place refl)
       ∙ λ i. list_any (lacks_target_row r.0 (key i) (targets i)) rows
 
-  -- Rows of the table lack a target by the catalog's references just where they do in the state.
+  -- Rows of the table lack a target by the catalog's references exactly if they do in the state.
   pub lacks_are : (table : Table) → slice_get schema.tables place ≡ Some table → AllByRecursion IsToKept (references_of table.definition.columns)
       → list_any (finds_orphan rs place rows) (all_references schema)
       ≡ list_any (λ (r : ℕ × List ℕ). list_any (lacks_target_row r.0 (key_named r.1 schema) (rows_named r.1 schema.tables after)) rows)
@@ -181,7 +181,7 @@ module _ (schema : Schema) (rs : List StoredRows) (are : AreOf schema.tables rs)
       ∙ λ i. list_any (λ (r : ℕ × List ℕ). list_any (lacks_target_row r.0 (key_named r.1 schema) (rows_named r.1 schema.tables after)) rows)
       (references_of (sym columns i))
 
--- ---- keys that others refer to
+-- ---- keys to which other rows refer
 
 -- A table has its own place.
 pub placed_itself : (schema : Schema) → HasDistinctNames schema → (i : ℕ) (t : Table) → slice_get schema.tables i ≡ Some t
@@ -222,7 +222,7 @@ module _ (schema : Schema) (name : List ℕ) (place : ℕ) (placed : table_place
   module _ (rows : ℕ → List Row) (after : Instance)
       (same : (i : ℕ) (t : Table) → slice_get schema.tables i ≡ Some t → rows i ≡ rows_named (name_of t) schema.tables after)
       (key : ℕ) (pairs : List Pair) where
-    -- The reference is to the table, and the pairs take away a row, or its key, to which one of the rows refers.
+    -- The reference is to the table, and the pairs delete a row to which one of the rows refers, or change its key.
     abbrev pub loses_by : Reference → Bool
     loses_by r = (r.to == place) && lose_targets r.column key (rows r.from) pairs
 
@@ -237,7 +237,7 @@ module _ (schema : Schema) (name : List ℕ) (place : ℕ) (placed : table_place
         ∙ any-same (λ (r : ℕ × List ℕ). lacks_table r.1 schema ≡ false) _ _
         (λ r is k. to_is r.1 is k && lose_targets r.0 key (same i t here k) pairs) (references_of t.definition.columns) targets
 
-    -- Keys are referred to by the catalog's references just where they are in the state.
+    -- Rows refer to keys by the catalog's references exactly if they do in the state.
     loses_from : (i : ℕ) (ts : List Table) → ((k : ℕ) (t : Table) → slice_get ts k ≡ Some t → slice_get schema.tables (i + k) ≡ Some t)
         → AllByRecursion (λ (t : Table). AllByRecursion (λ (r : ℕ × List ℕ). lacks_table r.1 schema ≡ false) (references_of t.definition.columns)) ts
         → list_any loses_by (references_behind schema i ts)

@@ -1,4 +1,4 @@
--- Rows that have in a column the key of a row that goes.
+-- Rows that have the key of a deleted row in a column.
 use Rattle.std.proofs.Common.{◌≡◌, ◌≢◌, ℕ, Bool, true, false, cond, ◌||◌, List, [], ◌∷◌, ◌++◌, Option, Some, None, inl, inr, ⊎_elim, refl, sym, ap, ◌∙◌, subst}
 use Rattle.std.specs.Prelude.{slice_get}
 use Rattle.std.specs.List.{All, AllByRecursion, filter, filter_map, list_any}
@@ -35,7 +35,7 @@ use Rattle.mm_value.specs.declared.values.Value.{Value}
 use Rattle.mm_delta.specs.Steps.{takes}
 use Rattle.mm_txn.specs.Cascades.{AddsReferrers}
 
--- ---- what a filter leaves
+-- ---- the result of a filter
 
 module _ {X : Type 0} (p : X → Bool) where
   pub passes_in_filter : (xs : List X) (x : X) → IsIn x xs → p x ≡ true → IsIn x (filter p xs)
@@ -66,7 +66,7 @@ is_in at refs some =
 pub in_any : (at : RowRef) (refs : List RowRef) → IsIn at refs → list_any (same_ref at) refs ≡ true
 in_any at refs here = some_by_one (same_ref at) refs at here (test_from_same at at refl)
 
--- The rows of a value are found by it.
+-- The rows with a value are found by it.
 matched : (column : ℕ) (now : Slots) (value : Value) (refs found : List RowRef) → AreMatches column now value refs found → (at : RowRef) → IsIn at refs
     → list_any (same_ref at) found ≡ has_value column now value at
 matched column now value refs found are at here =
@@ -78,7 +78,7 @@ matched column now value refs found are at here =
     (IsIn-from_Contains found at (Contains-permutation chosen found at (IsPermutation-sym found chosen are)
     (Contains-from_IsIn chosen at (passes_in_filter (has_value column now value) refs at here yes)))))
 
--- ---- rows that edits take away
+-- ---- rows that edits delete
 
 abbrev pub rows_taken : Slots → List Edit → List Row
 rows_taken now edits = filter_map (λ (p : Pair). p.0) (pairs_of now edits)
@@ -165,7 +165,7 @@ module _ (stored : StoredRows) where
 
 -- ---- added by a pass over all rows
 
--- The rows that pass were added.
+-- The rows that pass were appended.
 pub passing_added : (stored : StoredRows) → All (IsLive stored.places) stored.refs → (test : Row → Bool)
     → (old new : List RowRef) → new ≡ old ++ filter (λ at. test (row_at (slot_at stored.places) at)) stored.refs → AddsReferrers stored test old new
 passing_added stored rows test old new is = record {
@@ -209,7 +209,7 @@ module _ (column : ℕ) (target : StoredRows) (apart : AreApart target.key (slot
   goes_as_told (Move x other ∷ edits) fits = λ i. same_key x fits.0.0 i || goes_as_told edits fits.1 i
   goes_as_told (Delete x ∷ edits) fits = λ i. same_key x fits.0 i || goes_as_told edits fits.1 i
 
-  -- The row that a row refers to goes just where this has the key of one that does.
+  -- The row that a row refers to is deleted exactly if the row has the key of a deleted row.
   pub target_goes : (edits : List Edit) → All (Fits target.key then) edits → list_any (takes to) edits ≡ tests column target.key (rows_taken then edits) row
   target_goes edits fits = goes_as_told edits (recursion_from_All (Fits target.key then) edits fits)
 

@@ -1,4 +1,4 @@
--- What a release leaves of the savepoints before it, and that ROLLBACK TO one of these does what it does without the release.
+-- A release keeps the savepoints before it, and ROLLBACK TO one of these does the same as without the release.
 use Rattle.std.proofs.Common.{◌≡◌, ◌⊎◌, ◌||◌, ◌<◌, ◌≤◌, ℕ, Bool, true, false, cond, if◌then◌else◌, not, List, [], ◌∷◌, ◌++◌, Option, Some, None, inl, inr}
 use Rattle.std.proofs.Common.{drop, length, suc, refl, sym, ap, ◌∙◌, arith}
 use Rattle.std.specs.List.{list_all, list_any}
@@ -22,7 +22,7 @@ use Rattle.mm_txn.specs.Releasing.{IsSetBefore, after_release}
 use Rattle.mm_laws.proofs.StillFound.{not_false}
 use Rattle.mm_laws.proofs.Transactions.{after_both, open_saved}
 
--- What ROLLBACK TO leaves saved, what a release leaves, and what SAVEPOINT adds.
+-- The savepoints after ROLLBACK TO, after a release, and after SAVEPOINT.
 abbrev pub kept_back : List ℕ → Option Saved → Option Saved
 kept_back name saved = option_map (λ (saved : Saved). record saved { savepoints = back_to name saved.savepoints }) saved
 
@@ -35,7 +35,7 @@ less_one saved = option_map (λ (saved : Saved). record saved { savepoints = dro
 abbrev pub saved_further : Savepoint → Option Saved → Option Saved
 saved_further savepoint saved = option_map (λ (saved : Saved). record saved { savepoints = savepoint ∷ saved.savepoints }) saved
 
--- ---- a savepoint that is released leaves no trace
+-- ---- a released savepoint leaves no trace
 
 released_is : (name : List ℕ) (saved : Option Saved) → released name saved ≡ less_one (kept_back name saved)
 released_is name None = refl
@@ -114,7 +114,7 @@ length_back name (s ∷ ss) = by (same_name name s.name) (length_back name ss)
     by true behind = omega arith
     by false behind = omega (arith, behind)
 
--- Where a savepoint was set before another one, a release of the other one leaves it, and those before it.
+-- If a savepoint was set before another one, a release of the other one keeps it, and those before it.
 pub earlier_stay : (earlier name : List ℕ) (savepoints : List Savepoint) → length (back_to earlier savepoints) < length (back_to name savepoints)
     → back_to earlier (drop 1 (back_to name savepoints)) ≡ back_to earlier savepoints
 earlier_stay earlier name [] before = absurd (omega (arith, before))
@@ -130,7 +130,7 @@ earlier_stay earlier name (s ∷ ss) before =
     by false true is before behind = refl
     by false false is before behind = behind before
 
--- Each savepoint of another name was set before one that is set now.
+-- Each existing savepoint with another name was set before one that is set now.
 pub before_new : (earlier name : List ℕ) (state : State) (saved : Option Saved) → lacks_savepoint earlier (record state { saved = saved }) ≡ false
     → same_name earlier name ≡ false → IsSetBefore earlier name (after_savepoint name (record state { saved = saved }))
 before_new earlier name state None there apart = absurd (false≢true (sym there))
@@ -142,7 +142,7 @@ before_new earlier name state (Some saved) there apart =
     ap (λ (b : Bool). if b then new ∷ saved.savepoints else back_to name saved.savepoints) (same_name_refl name) in
     omega (arith, ap length others, ap length own, length_back earlier saved.savepoints)
 
--- Some savepoint has a name where going back to the name leaves one.
+-- Some savepoint has a name if a rollback to the name leaves one.
 abbrev pub has_some : List Savepoint → Bool
 has_some [] = false
 has_some (s ∷ ss) = true
@@ -156,7 +156,7 @@ any_named name (s ∷ ss) = by (same_name name s.name) (any_named name ss)
     by true behind = refl
     by false behind = behind
 
--- Two transactions go back to one name alike.
+-- Two transactions roll back alike to one name.
 pub record GoBackAlike (name : List ℕ) (one : Saved) (other : Saved) : Type 0 where
   pub at_begin : one.at_begin ≡ other.at_begin
   pub back : back_to name one.savepoints ≡ back_to name other.savepoints
@@ -165,7 +165,7 @@ module _ (name : List ℕ) (state : State) where
   abbrev with_saved : Saved → State
   with_saved saved = record state { saved = Some saved }
 
-  -- It is there where nothing refuses ROLLBACK TO, ..
+  -- The savepoint exists if nothing refuses ROLLBACK TO, ..
   pub there_where_granted : (saved : Saved) → first_refusal (conditions (RollbackTo name) (with_saved saved)) ≡ None
       → has_some (back_to name saved.savepoints) ≡ true
   there_where_granted saved due =
@@ -173,7 +173,7 @@ module _ (name : List ℕ) (state : State) where
       ∙ not_false (list_any (λ (s : Savepoint). same_name name s.name) saved.savepoints)
       (first_none (not (list_any (λ (s : Savepoint). same_name name s.name) saved.savepoints)) NoSuchSavepoint None due)
 
-  -- .. and the other way round.
+  -- .. and conversely.
   granted_where_there : (saved : Saved) → has_some (back_to name saved.savepoints) ≡ true
       → first_refusal (conditions (RollbackTo name) (with_saved saved)) ≡ None
   granted_where_there saved there = ap (λ (b : Bool). cond (not b) (Some NoSuchSavepoint) None) (any_named name saved.savepoints ∙ there)
@@ -213,7 +213,7 @@ module _ (name earlier : List ℕ) where
       back_alike earlier state (record saved { savepoints = drop 1 (back_to name saved.savepoints) }) saved (release_alike saved before)
       (there_where_granted earlier state saved due)
 
--- ---- one name given twice
+-- ---- one name used twice
 
 back_to_kept : (name : List ℕ) (state : State) (saved : Option Saved) (at : Saved) (savepoint : Savepoint) (earlier : List Savepoint)
     → at.savepoints ≡ savepoint ∷ earlier → kept_back name saved ≡ Some at
@@ -226,7 +226,7 @@ back_to_kept name state (Some saved) at savepoint earlier latest is =
     step-done (RollbackTo name) (record state { saved = Some saved }) (granted_where_there name state saved (ap has_some back))
     ∙ (λ i. record { reply = Some Done; state = record state { rows = rows_at_latest (back i) state.rows; saved = is i } })
 
--- Where the later of two savepoints of a name is released, ROLLBACK TO the name goes back to the earlier one.
+-- After the release of the later of two savepoints with one name, ROLLBACK TO the name restores the earlier one.
 pub earlier_again : (law : (name : List ℕ) (commands : List Command) (state : State) → first_refusal (conditions (SetSavepoint name) state) ≡ None
     → list_all (leaves_savepoint name) commands ≡ true → after_all (SetSavepoint name ∷ commands ++ RollbackTo name ∷ []) state
     ≡ record (after_all (SetSavepoint name ∷ commands) state) { rows = state.rows; saved = (step (SetSavepoint name) state).state.saved })

@@ -1,4 +1,4 @@
--- A release of a savepoint as a step of the machine: the marks before the latest one of a name stay.
+-- The release of a savepoint as a step of the machine: the marks before the latest one with a name remain.
 use Rattle.std.proofs.Common.{◌≡◌, ℕ, suc, zero, true, List, [], ◌∷◌, Option, Some, None, drop, length, map, reverse, take}
 use Rattle.std.proofs.Common.{refl, sym, ap, subst, ◌∙◌}
 use mathlib.Core.List.{reverse-cons}
@@ -25,9 +25,9 @@ use Rattle.mm_txn.proofs.DatabaseSteps.{some_there}
 use Rattle.mm_txn.proofs.LatestMarks.{IsLatest, back_is, bounds, latest_within, saved_push, take_last}
 use Rattle.mm_txn.proofs.ReleaseLaws.{released}
 
--- ---- rows that are saved
+-- ---- saved rows
 
--- What holds of all rows that are saved still does after a release.
+-- A property of all saved rows still holds after a release.
 pub held_by_release : (P : Instance → Type 0) (name : List ℕ) (saved : Option Saved) → IfSome saved (AreSavedRows P)
     → IfSome (released name saved) (AreSavedRows P)
 held_by_release P name None held = tt
@@ -71,7 +71,7 @@ module _ (held : Holdings) (marks : List Mark) where
   abbrev store : Tables
   store = held.store
 
-  -- With fewer marks the database is consistent still.
+  -- With fewer marks the database is still consistent.
   pub fewer_consistent : (n : ℕ) → IsConsistent held true marks → IsConsistent held true (take n marks)
   fewer_consistent n was = record {
     typed = record {
@@ -93,7 +93,7 @@ module _ (held : Holdings) (marks : List Mark) where
   }
 
   module _ (name : List ℕ) (place : ℕ) (latest : IsLatest name marks place) where
-    -- The savepoints before the latest one of a name are those of the marks before its mark.
+    -- The savepoints before the latest one with a name are those of the marks before its mark.
     earlier_marks : drop 1 (back_to name (saved_of store marks).savepoints) ≡ (saved_of store (take place marks)).savepoints
     earlier_marks =
         let own = some_there marks place (latest_within name marks place latest) in

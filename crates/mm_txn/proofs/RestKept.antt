@@ -1,4 +1,4 @@
--- What fits each other still does through changes of rows, and where they are taken back or final.
+-- Catalog, store and lists still agree after changes of rows, commits and rollbacks.
 use Rattle.std.proofs.Common.{◌≡◌, ℕ, Result, Ok, Err, OnOk, OnErr, List, [], drop, refl, sym, subst}
 use Rattle.mm_indexed.specs.Index.{EachTurns}
 use Rattle.mm_schema.specs.Instance.{Instance}
@@ -29,20 +29,20 @@ module _ (schema : Schema) (store newer : Tables) (lists new : Lists) (rest : Ar
     listed = listed;
   }
 
-  -- Rows that are final stay, ..
+  -- Committed rows stay, ..
   pub rest_settled : EachTurns SameForm store.tables newer.tables → instance_of newer.tables ≡ instance_of store.tables
       → ((list : ℕ) (row : List Value) → count_now new list row ≡ count_now lists list row) → new.prepared ≡ [] → AreAtRest schema newer new
   rest_settled form rows counts ready =
       at_rest form (subst (λ (r : Instance). AreListed r new) (sym rows) (listed_still (instance_of store.tables) lists new queries rest.listed counts ready))
 
-  -- .. and those that are taken back have the lists that fitted them.
+  -- .. and rows that are restored have the lists that agreed with them.
   pub rest_back : EachTurns SameForm store.tables newer.tables → (mark : ℕ) (rows : Instance) → instance_of newer.tables ≡ rows → AreSaved mark rows lists
       → ((list : ℕ) (row : List Value) → count_at mark list row new ≡ count_at mark list row lists) → drop mark new.log ≡ [] → new.prepared ≡ []
       → AreAtRest schema newer new
   rest_back form mark rows is saved counts log ready =
       at_rest form (subst (λ (r : Instance). AreListed r new) (sym is) (listed_back rows lists new queries mark saved counts log ready))
 
--- What fits still does where the rows in use stay.
+-- Catalog, store and lists still agree if the rows in use stay.
 pub rest_same : (schema : Schema) (store newer : Tables) (lists : Lists) → AreAtRest schema store lists → newer.links ≡ store.links
     → EachTurns SameForm store.tables newer.tables → instance_of newer.tables ≡ instance_of store.tables → AreAtRest schema newer lists
 rest_same schema store newer lists rest links form rows =
@@ -52,7 +52,7 @@ pub rest_staged : (schema : Schema) (store newer : Tables) (lists : Lists) → A
     → AreAtRest schema newer lists
 rest_staged schema store newer lists rest kept = rest_same schema store newer lists rest kept.links kept.form kept.rows
 
--- What edits make fits.
+-- Catalog, store and lists agree after edits.
 pub rest_made : (schema : Schema) (rows : RowsByPlace) (store newer : Tables) (lists new : Lists) (result : Result Unit Refusal)
     → AreAtRest schema store lists → Makes rows store newer lists new result → AreAtRest schema newer new
 rest_made schema rows store newer lists new result rest made =

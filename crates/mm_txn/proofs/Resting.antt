@@ -50,9 +50,9 @@ use Rattle.mm_txn.specs.Listed.{AreListed, ArePlaced, IsPlaced, queries_of, rows
 use Rattle.mm_txn.proofs.Placed.{bag_by_place, first, has, place_is}
 use Rattle.mm_schema.proofs.AllReferences.{first_behind, above_next, above_first, next_above_first}
 
--- ---- what a change of the catalog leaves bound
+-- ---- bound queries after a change of the catalog
 
--- Each standing query of the new catalog has its query beside it, which is bound there.
+-- Each standing query of the new catalog has its query, which is bound there.
 pub watched_after : (definition : Definition) (schema : Schema) (rows : Instance) (queries : List BoundQuery)
     → first_refusal (definition_conditions definition (record { schema = schema; rows = rows; queries = queries; saved = None })) ≡ None
     → AreBeside schema.standing queries → All (IsQueryWithin schema) queries
@@ -63,19 +63,19 @@ watched_after definition schema rows queries due beside bound =
     subst (λ (o : Outcome). HasQueries o.state × AreBound o.state) (step-done (Define definition) state due)
     (watched_by_step (Define definition) state beside bound)
 
--- What is placed is bound.
+-- A placed query is bound.
 pub bound_all : (schema : Schema) (standing : List StandingQuery) → All (IsPlaced schema) standing → All (IsQueryWithin schema) (queries_of standing)
 bound_all schema standing placed =
     All-map (IsQueryWithin schema) (λ (s : StandingQuery). s.query) standing
     (All-weaker (IsPlaced schema) (λ s. IsQueryWithin schema s.query) (λ s is. is.within) standing placed)
 
--- ---- where no table moves
+-- ---- changes that move no table
 
--- Each table that is there keeps its place.
+-- Each existing table keeps its place.
 abbrev pub KeepsPlaces : Schema → Schema → Type 0
 KeepsPlaces old new = (name : List ℕ) → lacks_table name old ≡ false → unwrap_or (table_place name new) 0 ≡ unwrap_or (table_place name old) 0
 
--- The fields of a query whose tables stay have the types that they had.
+-- The fields of a query whose tables stay keep their types.
 types_stay : (old new : Schema) (out : List ℕ → Bool) → Stays old new out → (query : BoundQuery) → IsQueryWithin old query
     → list_any out (tables_read query) ≡ false → map (type_at new query.from) query.fields ≡ map (type_at old query.from) query.fields
 types_stay old new out stays query within unread =
@@ -147,7 +147,7 @@ keeps_changed change same schema name there =
     place_is name (record schema { tables = map change schema.tables }) (as_there change same name schema.tables ∙ there)
     ∙ place_changed change same name schema.tables ∙ sym (place_is name schema there)
 
--- ---- the lists stand still
+-- ---- changes that keep the lists
 
 -- A new table moves no other, and has no rows.
 module _ (schema : Schema) (store : Tables) (lists : Lists) (rest : AreAtRest schema store lists) where
@@ -197,7 +197,7 @@ module _ (schema : Schema) (store : Tables) (lists : Lists) (rest : AreAtRest sc
         (watched_after (define.DropIndex name) schema (instance_of store.tables) (queries_of lists.queries) due rest.placed.beside bound)
         (ap (λ (s : State). s.schema) becomes) (ap (λ (s : State). s.rows) becomes)
 
-    -- .. and a change that is refused leaves all.
+    -- .. and a refused change leaves everything unchanged.
     pub rest_refused : state_of schema' store'.tables ≡ state_of schema store.tables → AreAtRest schema' store' lists
     rest_refused becomes = record {
       kept = kept;
@@ -205,20 +205,20 @@ module _ (schema : Schema) (store : Tables) (lists : Lists) (rest : AreAtRest sc
       listed = subst (λ (s : State). AreListed s.rows lists) (sym becomes) rest.listed;
     }
 
-    -- So they stand still whatever is answered.
+    -- So the lists still agree with the rows, whatever the result.
     pub rest_still : {T : Type 0} (r : Result T Refusal) (due : Option Refusal) (B : Type 0) → AnswersDue due r
         → (due ≡ None → B → AreAtRest schema' store' lists)
         → OnOk r B → OnErr r (state_of schema' store'.tables ≡ state_of schema store.tables) → AreAtRest schema' store' lists
     rest_still (Ok value) due B none done ok err = done none ok
     rest_still (Err refusal) due B answers done ok err = rest_refused err
 
--- ---- a table less
+-- ---- a dropped table
 
--- A standing query once the table at a place is gone that it does not read.
+-- A standing query after the table at a place was dropped, which it does not read.
 abbrev pub moved : ℕ → StandingQuery → StandingQuery
 moved place standing = record standing { tables = map (above place) standing.tables }
 
--- Its query stays.
+-- The query is unchanged.
 pub queries_of-moved : (place : ℕ) (standing : List StandingQuery) → queries_of (map (moved place) standing) ≡ queries_of standing
 queries_of-moved place [] = refl
 queries_of-moved place (s ∷ ss) = ap (λ qs. s.query ∷ qs) (queries_of-moved place ss)
@@ -231,7 +231,7 @@ module _ (gone : List ℕ) where
   all_stay [] lack = refl
   all_stay (t ∷ ts) lack = λ i. cond (not (lack.0 i)) (t ∷ all_stay ts lack.1 i) (all_stay ts lack.1 i)
 
-  -- Another name moves up where it stood behind, ..
+  -- Another name moves forward if it was after the dropped one, ..
   first_without : (name : List ℕ) → same_name gone name ≡ false → (tables : List Table) → IsDistinct same_name (map name_of tables)
       → first name (filter stays tables) ≡ above (first gone tables) (first name tables)
   first_without name other [] distinct = refl
@@ -269,7 +269,7 @@ module _ (gone : List ℕ) where
       by false differs true went later = later
       by false differs false here later = ap (λ b. cond b r (rows_named name (filter stays ts) (without_rows gone ts rs))) differs ∙ later
 
-  -- None of the queries beside standing queries that don't read a table reads it.
+  -- The queries of standing queries that do not read a table do not read it.
   unread_beside : (standing : List StandingDef) (queries : List BoundQuery) → AreBeside standing queries → list_any (reads_table gone) standing ≡ false
       → AllByRecursion (λ query. list_any (same_name gone) (tables_read query) ≡ false) queries
   unread_beside [] [] beside unread = tt
@@ -322,7 +322,7 @@ module _ (gone : List ℕ) where
           let q = or_parts (same_name gone item.table) (list_any (same_name gone) (map (λ (x : FromItem). x.table) items)) unread in
           λ i. rows_left item.table q.0 schema.tables rows i ∷ same_lists items q.1 i
 
-      -- .. and have the combinations that they had.
+      -- .. and keep their combinations.
       same_bag : (standing : StandingQuery) → list_any (same_name gone) (tables_read standing.query) ≡ false → IsQueryWithin without standing.query
           → IsPlaced schema standing
           → bag_over (rows_by_place (without_rows gone schema.tables rows)) (moved place standing) ≡ bag_over (rows_by_place rows) standing
@@ -338,13 +338,13 @@ module _ (gone : List ℕ) where
       each_same [] unread within placed = tt
       each_same (s ∷ ss) unread within placed = (same_bag s unread.0 within.0 placed.0, each_same ss unread.1 within.1 placed.1)
 
--- What holds of all elements holds of the one at a place.
+-- A property of all elements holds of the one at a place.
 pub at_place : {X : Type 0} (P : X → Type 0) (xs : List X) (k : ℕ) (x : X) → AllByRecursion P xs → slice_get xs k ≡ Some x → P x
 at_place P (y ∷ ys) zero x all at = let same : y ≡ x = cc in subst P same all.0
 at_place P (y ∷ ys) (suc k) x all at = at_place P ys k x all.1 at
 at_place P [] k x all at = cc
 
--- Lists whose queries turn into others of the same bags fit still.
+-- Lists whose queries turn into others with the same bags still agree with the rows.
 module _ (rows rows' : RowsByPlace) (f : StandingQuery → StandingQuery) where
   bag_at : (standing : List StandingQuery) → AllByRecursion (λ s. bag_over rows' (f s) ≡ bag_over rows s) standing → (list : ℕ) (s : StandingQuery)
       → slice_get (map f standing) list ≡ Some s → (old : StandingQuery) × (slice_get standing list ≡ Some old) × (bag_over rows' s ≡ bag_over rows old)
@@ -365,7 +365,7 @@ listed_turned rows rows' f lists same are = record {
 module _ (schema : Schema) (store store' : Tables) (lists : Lists) (rest : AreAtRest schema store lists) (name : List ℕ) (place : ℕ)
     (found : table_place name schema ≡ Some place) (distinct : HasDistinctNames schema)
     (due : first_refusal (drop_table_conditions name schema) ≡ None) where
-  -- A table that no standing query reads takes none of their rows with it.
+  -- Dropping a table that no standing query reads changes none of their rows.
   pub rest_by_no_table : AreKept (without_table name schema) store' → instance_of store'.tables ≡ without_rows name schema.tables (instance_of store.tables)
       → AreAtRest (without_table name schema) store' (record lists { queries = map (moved place) lists.queries })
   rest_by_no_table kept rows =

@@ -33,11 +33,11 @@ module _ (name : List ℕ) (held : Holdings) (is_open : Bool) (marks : List Mark
       (saved_where_open is_open (saved_of store marks) ∙ is)
       ∙ ap (λ (b : Bool). cond b (Some NoSuchSavepoint) None) is_lacking
 
-  -- It is where no mark has the name, ..
+  -- ROLLBACK TO is refused if no mark has the name, ..
   pub refused_due : AllByRecursion (λ (mark : Mark). same_name name mark.name ≡ false) marks → first_refusal (conditions (RollbackTo name) state)
       ≡ Some NoSuchSavepoint
   refused_due none = by_parts true (lacks_is ∙ ap not (none_named name store marks none))
 
-  -- .. and not where one has it.
+  -- .. and not if one has it.
   pub granted_due : (place : ℕ) → IsLatest name marks place → first_refusal (conditions (RollbackTo name) state) ≡ None
   granted_due place latest = by_parts false (lacks_is ∙ ap not (some_named name store marks place latest))

@@ -1,4 +1,4 @@
--- A catalog's tables, and the relations beside them.
+-- A catalog's tables, and their relations.
 use Rattle.std.proofs.Common.{◌≡◌, ℕ, zero, suc, ◌+◌, ◌<◌, Bool, true, false, cond, not, List, [], ◌∷◌, ◌++◌, Some, length, map, slice_get, slice_set, refl}
 use Rattle.std.proofs.Common.{sym, ap, subst, ◌∙◌, arith}
 use Rattle.std.specs.List.{IsDistinct, filter, position_or_len, remove}
@@ -19,7 +19,7 @@ use Rattle.mm_indexed.specs.RowLists.{rows_of}
 use Rattle.mm_store.specs.Tables.{SameForm}
 use Rattle.mm_value.specs.declared.col_type.ColType.{ColType}
 
--- There are as many rows as tables.
+-- There are as many relations as tables.
 pub as_many_rows : (ts : List Table) (rs : List StoredRows) → AreOf ts rs → length rs ≡ length ts
 as_many_rows [] [] are = refl
 as_many_rows (t ∷ ts) (r ∷ rs) are = ap (λ n. suc n) (as_many_rows ts rs are.1)
@@ -45,7 +45,7 @@ many_columns t stored is_of =
 
 -- ---- at a place
 
--- The rows at a place are those of a table there, whose key is theirs.
+-- The relation at a place is that of the table there, and has its key.
 pub record IsBeside (ts : List Table) (place : ℕ) (stored : StoredRows) : Type 0 where
   pub table : Table
   pub is_of : IsOf table stored
@@ -80,7 +80,7 @@ rows_at_place name (t ∷ ts) [] stored are here = cc
 
 -- ---- other rows at a place
 
--- Indexes that turned into others of their columns and kinds are those of the same definitions.
+-- Indexes that keep their columns and kinds are those of the same definitions.
 pub AreIndexes-turned : (columns : List Column) (ds : List IndexDef) (xs ys : List Index) → EachTurns SameIndex xs ys → AreIndexes columns ds xs
     → AreIndexes columns ds ys
 AreIndexes-turned columns [] [] [] turned are = tt
@@ -96,7 +96,7 @@ AreIndexes-turned columns (d ∷ ds) (x ∷ xs) (y ∷ ys) turned are =
       AreIndexes-turned columns ds xs ys later are.1,
     )
 
--- Relations that have the columns, the keys and the indexes that they had are those of the same tables.
+-- Relations that keep their columns, keys and indexes are those of the same tables.
 pub AreOf-formed : (ts : List Table) (rs new : List StoredRows) → EachTurns SameForm rs new → AreOf ts rs → AreOf ts new
 AreOf-formed [] [] [] formed are = tt
 AreOf-formed [] [] (n ∷ ns) formed are = absurd (let size = formed.size in omega arith)
@@ -115,7 +115,7 @@ AreOf-formed (t ∷ ts) (r ∷ rs) (n ∷ ns) formed are =
       AreOf-formed ts rs ns later are.1,
     )
 
--- Where they are the same rows, all rows are.
+-- If one relation keeps its rows, all rows are the same.
 pub instance_of-set : (rs : List StoredRows) (place : ℕ) (old new : StoredRows) → slice_get rs place ≡ Some old → rows_of new ≡ rows_of old
     → instance_of (slice_set rs place new) ≡ instance_of rs
 instance_of-set [] place old new h same = cc
@@ -126,7 +126,7 @@ instance_of-set (r ∷ rs) (suc place) old new h same = ap (λ others. rows_of r
 
 -- ---- one more table
 
--- A new table's rows come last.
+-- A new table's rows are the last.
 pub AreOf-push : (ts : List Table) (rs : List StoredRows) (table : Table) (stored : StoredRows) → IsOf table stored → AreOf ts rs
     → AreOf (ts ++ table ∷ []) (rs ++ stored ∷ [])
 AreOf-push [] [] table stored is_of are = (is_of, tt)
@@ -134,10 +134,10 @@ AreOf-push (t ∷ ts) (r ∷ rs) table stored is_of are = (are.0, AreOf-push ts 
 AreOf-push [] (r ∷ rs) table stored is_of are = absurd are
 AreOf-push (t ∷ ts) [] table stored is_of are = absurd are
 
--- ---- one table less
+-- ---- a dropped table
 
 module _ (name : List ℕ) where
-  -- Tables of other names stay with their rows, ..
+  -- Tables with other names keep their rows, ..
   others_stay : (ts : List Table) (rs : List StoredRows) → AreOf ts rs → LackName name ts
       → (without_rows name ts (instance_of rs) ≡ instance_of rs) × AreOf (filter (λ t. not (same_name name (name_of t))) ts) rs
   others_stay [] [] are lack = (refl, tt)
@@ -161,7 +161,7 @@ module _ (name : List ℕ) where
       let next : 1 + n ≡ suc n = omega arith in
       rw (next) (ap (λ others. rows_of r ∷ others) later.0, (are.0, later.1))
 
-  -- .. and the table of the name goes with its own.
+  -- .. and the table with the name is dropped with its own.
   pub dropped_at_place : (ts : List Table) (rs : List StoredRows) → AreOf ts rs → IsDistinct same_name (map name_of ts)
       → position_or_len (λ t. same_name name (name_of t)) ts < length rs
       → (without_rows name ts (instance_of rs) ≡ instance_of (remove rs (position_or_len (λ t. same_name name (name_of t)) ts)))

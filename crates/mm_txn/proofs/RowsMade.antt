@@ -1,4 +1,4 @@
--- The rows of all tables once the edits of several tables are made, place by place.
+-- The rows of all tables after the edits of several tables, place by place.
 use Rattle.std.proofs.Common.{◌≡◌, ℕ, zero, suc, ◌<◌, ◌≤◌, ◌==◌, Bool, true, false, cond, List, [], ◌∷◌, Option, Some, None, find, length, map, slice_get}
 use Rattle.std.proofs.Common.{refl, sym, ap, subst, ◌∙◌, inl, inr, arith}
 use Rattle.std.specs.List.{All, AllByRecursion, AllPairs, position_or_len}
@@ -56,7 +56,7 @@ changed_at (u ∷ us) es (r ∷ rs) beside (suc k) t there = changed_at us es rs
 
 -- ---- all steps
 
--- Places ascend, and lie within so many tables.
+-- Places ascend, and are below this number of tables.
 abbrev pub InTurn : ℕ → List PlacedEdits → Type 0
 InTurn many [] = Unit {0}
 InTurn many (c ∷ cs) = (c.0 < many) × AllByRecursion (λ (d : PlacedEdits). c.0 < d.0) cs × InTurn many cs
@@ -87,7 +87,7 @@ past_end (r ∷ rs) zero past = absurd (omega arith)
 past_end (r ∷ rs) (suc k) past = past_end rs k (omega arith)
 
 module _ (schema : Schema) (distinct : HasDistinctNames schema) where
-  -- Tables have one name just where they stand at one place.
+  -- Tables have one name exactly if they are at one place.
   same_places : (i k : ℕ) (u t : Table) → slice_get schema.tables i ≡ Some u → slice_get schema.tables k ≡ Some t → (i == k) ≡ false
       → same_name (name_of u) (name_of t) ≡ false
   same_places i k u t at there differs = elim (cases_Bool (same_name (name_of u) (name_of t))) [
@@ -149,7 +149,7 @@ module _ (schema : Schema) (distinct : HasDistinctNames schema) where
   -- ---- the rows of a store
 
   module _ (store : Tables) (are : AreOf schema.tables store.tables) (changes : List PlacedEdits) (turn : InTurn (length schema.tables) changes) where
-    -- The rows of all tables once the edits are made.
+    -- The rows of all tables after the edits.
     abbrev pub all_after : Instance
     all_after = after_edits schema.tables (map (named schema store.tables) changes) (instance_of store.tables)
 
@@ -160,7 +160,7 @@ module _ (schema : Schema) (distinct : HasDistinctNames schema) where
     pub many_after : length all_after ≡ length store.tables
     many_after = as_many schema.tables all_after beside_rows_after ∙ sym (as_many_rows schema.tables store.tables are)
 
-    -- At each place they are those with its edits made.
+    -- At each place the rows are those after its edits.
     pub after_edited : rows_by_place all_after ≡ rows_edited store changes
     after_edited = λ i k. by k (slice_get store.tables k) refl i
       where
@@ -186,7 +186,7 @@ module _ (rows : RowsByPlace) (old new : Tables) (have : HaveRows rows old new) 
       let now = have.each k stored.0 stored.1 in
       sym (rows_at_place new.tables k) ∙ (ap (λ (s : Option StoredRows). option_map_or rows_of s []) now.1 ∙ now.2.rows_are)
 
-  -- They have all rows that are the same place by place.
+  -- The relations have all rows of a state that has the same rows place by place.
   pub instance_is : (all : Instance) → length all ≡ length old.tables → rows_by_place all ≡ rows → instance_of new.tables ≡ all
   instance_is all many same =
       same_by_place (instance_of new.tables) all (length-map new.tables rows_of ∙ (have.count ∙ sym many))

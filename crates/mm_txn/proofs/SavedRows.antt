@@ -1,4 +1,4 @@
--- What changes rows does not look at the rows that are saved, and keeps them.
+-- Changes of rows do not depend on the saved rows, and keep them.
 use Rattle.std.proofs.Common.{◌≡◌, Result, List, Option, refl, ap, subst, ◌∙◌}
 use Rattle.mm_query.specs.Edits.{edits, own_pairs, value_conditions}
 use Rattle.mm_query.specs.Machine.{after_change, change_conditions}
@@ -12,12 +12,12 @@ use Rattle.mm_schema.specs.Schema.{Schema}
 use Rattle.mm_value.specs.declared.refusal.Refusal.{Refusal}
 use Rattle.mm_txn.specs.Kept.{state_of, watched_state}
 
--- The state with these rows saved.
+-- The state with these saved rows.
 abbrev pub state_with : Schema → List StoredRows → List BoundQuery → Option Saved → State
 state_with schema rs queries saved = record (watched_state schema rs queries) { saved = saved }
 
 module _ (schema : Schema) (rs : List StoredRows) (queries : List BoundQuery) where
-  -- What a change asks for does not depend on the standing queries.
+  -- The edits of a change do not depend on the standing queries.
   pub edits_watched : (mutation : Mutation) → edits mutation (state_of schema rs) ≡ edits mutation (watched_state schema rs queries)
   edits_watched (Insert table tuples) = refl
   edits_watched (Update table assignments tests) = refl
@@ -47,14 +47,14 @@ module _ (schema : Schema) (rs : List StoredRows) (queries : List BoundQuery) (s
   after_beside (Delete table tests) = refl
 
   module _ (mutation : Mutation) (state : State) (is : state_with schema rs queries saved ≡ state) where
-    -- What is due of a change outside a transaction is due of it with saved rows, ..
+    -- The refusal of a change outside a transaction is also due with saved rows, ..
     pub due_beside : {T : Type 0} (result : Result T Refusal) → AnswersDue (first_refusal (change_conditions mutation (watched_state schema rs queries))) result
         → AnswersDue (first_refusal (change_conditions mutation state)) result
     due_beside {T} result due =
         subst (λ (s : State). AnswersDue {T = T} (first_refusal (change_conditions mutation s)) result) is
         (subst (λ (cs : List Condition). AnswersDue {T = T} (first_refusal cs) result) (conditions_beside mutation) due)
 
-    -- .. and so is what it makes of the rows.
+    -- .. and the rows after the change are the same.
     pub done_beside : (new : List StoredRows) (left : List BoundQuery) (later : Option Saved) → left ≡ queries
         → watched_state schema new queries ≡ after_change mutation (watched_state schema rs queries)
         → later ≡ saved → state_with schema new left later ≡ after_change mutation state

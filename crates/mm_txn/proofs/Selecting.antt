@@ -44,7 +44,7 @@ module _ (schema : Schema) (store : Tables) (are : AreOf schema.tables store.tab
   abbrev state : State
   state = state_of schema store.tables
 
-  -- The relation at the place of a table's name is there, and has its rows.
+  -- The relation at the place of a table's name exists, and has its rows.
   record IsFound (name : List ℕ) : Type 0 where
     inside : unwrap_or (table_place name schema) 0 < length store.tables
     rows : rows_at store.tables (unwrap_or (table_place name schema) 0) ≡ rows_in state name
@@ -88,12 +88,12 @@ module _ (schema : Schema) (store : Tables) (are : AreOf schema.tables store.tab
       bag_is : bag_of (placed_query schema query) lists ≡ bag_in state query
       bag_is = ap (bag_of (placed_query schema query)) (lists_are query.from there)
 
-      -- What the catalog does not refuse is refused by the number of its combinations alone.
+      -- A query that the catalog does not refuse is refused only because of the number of its combinations.
       pub due_is_size : first_refusal (select_conditions query state) ≡ first_refusal (size_conditions (bag_of (placed_query schema query) lists))
       due_is_size = due_behind (query_conditions query schema) (size_conditions (bag_in state query)) none
           ∙ ap (λ b. first_refusal (size_conditions b)) (sym bag_is)
 
-      -- The rows that a list of its combinations shows are its rows.
+      -- The rows shown of a list of its combinations are its rows.
       pub shows_selected : (list : Combos) → list.tables ≡ places_in schema query.from → list.fields ≡ (placed_query schema query).fields
           → AreFitting store (placed_query schema query).atoms list
           → result_rows store list (placed_query schema query).distinct (placed_query schema query).order ≡ selected query state
@@ -112,7 +112,7 @@ module _ (schema : Schema) (store : Tables) (are : AreOf schema.tables store.tab
           by true order a b moved = shown_once_of_permutation order a b moved
           by false order a b moved = shown_of_permutation order a b moved
 
-      -- So it is of the same query with the same tables, however they are written.
+      -- So the bound form is of the same query with the same tables, however they are written.
       module _ (bound : BoundQuery) (bound_is : bound ≡ placed_query schema query) (tables : List ℕ) (tables_are : tables ≡ places_in schema query.from) where
         pub due_of : first_refusal (select_conditions query state) ≡ first_refusal (size_conditions (bag_of bound (map (rows_at store.tables) tables)))
         due_of = due_is_size ∙ (λ i. first_refusal (size_conditions (bag_of (sym bound_is i) (map (rows_at store.tables) (sym tables_are i)))))

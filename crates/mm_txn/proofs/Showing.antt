@@ -1,4 +1,4 @@
--- What standing queries show, by their places.
+-- The rows of standing queries, by their places.
 use Rattle.std.proofs.Common.{◌≡◌, ℕ, zero, suc, ◌+◌, ◌<◌, ◌≤◌, Bool, true, false, cond, not, List, [], ◌∷◌, ◌++◌, Option, None, Some}
 use Rattle.std.proofs.Common.{length, map, pos, slice_get, take, refl, sym, ap, subst, ◌∙◌, arith}
 use Rattle.std.specs.List.{IsDistinct, position_or_len}
@@ -36,7 +36,7 @@ module _ (name : List ℕ) where
   abbrev named : StandingDef → Bool
   named query = same_name name query.name
 
-  -- The query of a name is the one at its place.
+  -- The query with a name is the one at its place.
   pub query_at : (ss : List StandingDef) (qs : List BoundQuery) → AreBeside ss qs → position_or_len named ss < length ss → (q : BoundQuery)
       → slice_get qs (position_or_len named ss) ≡ Some q → query_named name ss qs ≡ Some q
   query_at (s ∷ ss) (x ∷ qs) beside within q at = by (named s) within at (query_at ss qs beside.1)
@@ -52,7 +52,7 @@ module _ (name : List ℕ) where
   query_at [] qs beside within q at = absurd (omega arith)
   query_at (s ∷ ss) [] beside within q at = absurd beside
 
-  -- Where no standing query has a name, no query goes by it.
+  -- If no standing query has a name, no query is found by it.
   pub query_nowhere : (ss : List StandingDef) (qs : List BoundQuery) → find named ss ≡ None → query_named name ss qs ≡ None
   query_nowhere [] qs nowhere = refl
   query_nowhere (s ∷ ss) [] nowhere = refl
@@ -76,7 +76,7 @@ some_get [] k within = absurd (omega arith)
 some_get (x ∷ xs) zero within = (x, refl)
 some_get (x ∷ xs) (suc k) within = some_get xs k (omega arith)
 
--- What is told of the elements so far, and of the next.
+-- A function of the elements so far, and of the next.
 pub next_told : {X Y : Type 0} (f : X → Y) (xs : List X) (k : ℕ) (x : X) → slice_get xs k ≡ Some x → map f (take k xs) ++ f x ∷ [] ≡ map f (take (k + 1) xs)
 next_told f xs k x at = by f xs k x at ∙ ap (λ n. map f (take n xs)) (one_more k)
   where
@@ -97,7 +97,7 @@ take_whole (x ∷ xs) (suc k) all = ap (λ l. x ∷ l) (take_whole xs k (omega a
 same_count : (n m : ℕ) → pos n ≡ pos m → n ≡ m
 same_count n m e = cc
 
--- Among distinct names the first of a name is its own.
+-- If names are distinct, the first element with a name is the one that has it.
 own_first : (ss : List StandingDef) (k : ℕ) (d : StandingDef) → slice_get ss k ≡ Some d → IsDistinct same_name (names_of ss)
     → position_or_len (named d.name) ss ≡ k
 own_first [] k d at distinct = cc
@@ -138,7 +138,7 @@ module _ (schema : Schema) (lists : Lists) (placed : ArePlaced schema lists.quer
       abbrev told : State
       told = record { schema = schema; rows = rows; queries = queries_of lists.queries; saved = saved }
 
-      -- What is told of the bag of each standing query over any rows is told of the rows that the machine shows.
+      -- What holds of the bag of each standing query over any rows holds of the rows that the machine shows.
       pub shown_at : (name : List ℕ) (place : ℕ) → position_or_len (named name) schema.standing ≡ place → place < length schema.standing
           → {X : Type 0} (tell : List (List Value) → X) (x : X)
           → ((s : StandingQuery) → slice_get lists.queries place ≡ Some s → (bag : List (List Value)) → IsBagOf (entries_at lists.bags place) bag
@@ -158,7 +158,7 @@ module _ (schema : Schema) (lists : Lists) (placed : ArePlaced schema lists.quer
           ∙ ap (λ b. tell (shown_of s.query b)) (sym (bag_by_place told s its))
           ∙ ap tell (sym (ap (λ (q : Option BoundQuery). option_map_or (answer_in told) q []) of_name))
 
-      -- So it is by the place of a name, ..
+      -- It holds by the place of a name, ..
       pub shown_by_name : (name : List ℕ) (place : ℕ) → standing_place name schema ≡ Some place → (shown : List (List Value))
           → ((s : StandingQuery) → slice_get lists.queries place ≡ Some s → (bag : List (List Value)) → IsBagOf (entries_at lists.bags place) bag
           → shown ≡ shown_of s.query bag)

@@ -1,4 +1,4 @@
--- What edits make of tables whose rows were staged before, seen from the tables as they were.
+-- The effect of edits of tables whose rows were staged before, compared with the tables before the staging.
 use Rattle.std.proofs.Common.{◌≡◌, ℕ, ◌<◌, ◌≤◌, Ok, Err, None, List, [], ◌++◌, get_or, length, refl, sym, ap, subst, ◌∙◌, arith}
 use Rattle.std.specs.List.{All}
 use Rattle.std.proofs.lemmas.Option.{get_or_from_slice_get, slice_get-get_or, slice_get_within}
@@ -31,7 +31,7 @@ use Rattle.mm_txn.proofs.ListedRows.{have_formed, rows_formed, rows_kept}
 use Rattle.mm_txn.proofs.RestKept.{rest_staged}
 use Rattle.mm_txn.proofs.StagedRows.{KeepsState-both, KeepsState-undone}
 
--- The rows that they have are those of the same relations.
+-- The relations with these rows are those of the tables before.
 have_before : (rows : RowsByPlace) (old mid new : Tables) → KeepsState old mid → HaveRows rows mid new → HaveRows rows old new
 have_before rows old mid new kept have = record {
   count = have.count ∙ kept.form.size;
@@ -54,7 +54,7 @@ have_before rows old mid new kept have = record {
       );
 }
 
--- So edits that are made make it of the tables before.
+-- So edits that are made have the same effect on the tables before.
 pub Makes-before : (rows : RowsByPlace) (old mid new : Tables) (lists followed : Lists) (u : Unit {0}) → KeepsState old mid
     → Makes rows mid new lists followed (Ok u) → Makes rows old new lists followed (Ok u)
 Makes-before rows old mid new lists followed u kept made = record {
@@ -71,7 +71,7 @@ Makes-before rows old mid new lists followed u kept made = record {
   undone = made.undone;
 }
 
--- Where all is as before, a refused change is that.
+-- If everything is as before, this is a refused change.
 pub Makes-nothing : (rows : RowsByPlace) (old new : Tables) (lists followed : Lists) (refusal : Refusal) → KeepsState old new → mark_of new ≡ mark_of old
     → AreListed (instance_of new.tables) followed → followed.queries ≡ lists.queries → followed.log ≡ lists.log
     → ((mark : ℕ) → mark ≤ length lists.log → (list : ℕ) (row : List Value) → count_at mark list row followed ≡ count_at mark list row lists)
@@ -90,7 +90,7 @@ Makes-nothing rows old new lists followed refusal kept mark listed queries log u
   undone = undone;
 }
 
--- A refused change leaves the rows that were staged for it.
+-- A refused change keeps the rows that were staged for it.
 pub Makes-refused : (rows : RowsByPlace) (old new : Tables) (lists followed : Lists) (refusal : Refusal) → Makes rows old new lists followed (Err refusal)
     → KeepsState old new
 Makes-refused rows old new lists followed refusal made = record {
@@ -125,12 +125,12 @@ module _ (held staged : Holdings) (schema : staged.schema ≡ held.schema) (kept
   pub bound_still : (mutation : Mutation) (change : BoundChange) → IsBoundChange held.schema mutation change → IsBoundChange staged.schema mutation change
   bound_still mutation change = subst (λ (s : Schema). IsBoundChange s mutation change) (sym schema)
 
-  -- It is the same state, ..
+  -- The state is the same, ..
   pub state_still : watched_state staged.schema staged.store.tables (queries_of staged.lists.queries)
       ≡ watched_state held.schema held.store.tables (queries_of held.lists.queries)
   state_still = λ i. record { schema = schema i; rows = kept.rows i; queries = queries_of (lists i).queries; saved = None }
 
-  -- .. so what is due of it is due still.
+  -- .. so the same refusals are due of it.
   pub none_due_still : (mutation : Mutation)
       → first_refusal (binding_conditions mutation held.schema ++ value_conditions mutation (state_of held.schema held.store.tables)) ≡ None
       → first_refusal (binding_conditions mutation staged.schema ++ value_conditions mutation (state_of staged.schema staged.store.tables)) ≡ None
@@ -139,7 +139,7 @@ module _ (held staged : Holdings) (schema : staged.schema ≡ held.schema) (kept
       ++ value_conditions mutation (record { schema = schema i; rows = kept.rows i; queries = []; saved = None })))
       ∙ none
 
-  -- Where the log is as long as before, all is as before.
+  -- If the log is as long as before, everything is as before.
   pub unchanged_made : (refusal : Refusal) → IsAtRest held → mark_of staged.store ≡ mark_of held.store
       → Makes (λ place. []) held.store staged.store held.lists staged.lists (Err refusal)
   unchanged_made refusal rest mark =

@@ -1,4 +1,4 @@
--- Rows that are staged one after the other, and the edits that bring them.
+-- Rows that are staged one after another, and the edits that bring them into use.
 use Rattle.std.proofs.Common.{◌≡◌, ◌≢◌, ℕ, zero, suc, ◌+◌, ◌*◌, ◌<◌, ◌≤◌, true, List, [], ◌∷◌, ◌++◌, Option, Some, None, drop, length, get_or, map, slice_get}
 use Rattle.std.proofs.Common.{take, refl, sym, ap}
 use Rattle.std.proofs.Common.{ap₂, ◌∙◌, subst, arith}
@@ -42,7 +42,7 @@ use Rattle.mm_txn.specs.RowEdits.{Brings, Stages}
 
 -- ---- one table
 
--- What suffices for some rows does for fewer.
+-- Capacity for some rows is also capacity for fewer.
 pub CanStage-fewer : (n k table : ℕ) (store : Tables) → k ≤ n → CanStage n table store → CanStage k table store
 CanStage-fewer n k table store fewer can = record {
   capacity = λ d.
@@ -53,14 +53,14 @@ CanStage-fewer n k table store fewer can = record {
       record { as_source = λ is. omega (arith, had.as_source is, fewer); as_target = λ is. omega (arith, had.as_target is, fewer) };
 }
 
--- The table as it is keeps the slots of the one that it was.
+-- The new table keeps the slots of the old one.
 pub one_from : (table : ℕ) (old new : Tables) (staged : HasStaged table old new) (stored : StoredRows) → IsAt old table stored → (now : StoredRows)
     → IsAt new table now → KeepsSlots stored now
 one_from table old new staged stored was now at =
     let is = staged.kept stored was in
     subst (KeepsSlots stored) (one_relation is.0 now (sym (staged_at table old new staged stored was) ∙ at)) is.2
 
--- The table as it is was another one before.
+-- Each new table was a table before.
 pub staged_from : (table : ℕ) (old new : Tables) → HasStaged table old new → table < length old.tables → (now : StoredRows) → IsAt new table now
     → (stored : StoredRows) × IsAt old table stored × KeepsSlots stored now
 staged_from table old new staged within now at =
@@ -71,7 +71,7 @@ staged_within table old new staged within =
     let was = some_at old.tables table within in
     slice_get_within new.tables table (staged.kept was.0 was.1).0 (staged_at table old new staged was.0 was.1)
 
--- A row in use stays where it is.
+-- A row in use stays in its slot.
 pub row_kept : (old new : StoredRows) → KeepsSlots old new → (at : RowRef) → IsLive old.places at → slot_at new.places at ≡ slot_at old.places at
 row_kept old new kept at live = kept.taken at (ap holds_row live.1)
 
@@ -88,7 +88,7 @@ staged_fresh at row old new staged other is = let same : at ≡ other = cc in su
 
 -- ---- edits
 
--- A row that was staged is added.
+-- A staged row is inserted.
 pub brings_insert : (at : RowRef) (row : List Value) (old new : StoredRows) → IsStaged at row old new → Brings old new None row (Insert at)
 brings_insert at row old new staged =
     let hidden = staged_hidden at row old new staged in
@@ -99,7 +99,7 @@ brings_insert at row old new staged =
       pair = ap {B = Pair} (λ (c : Content). (None, Some (row_in c))) hidden;
     }
 
--- It takes the place of a row in use, ..
+-- A staged row replaces a row in use, ..
 module _ (at other : RowRef) (row : List Value) (old new : StoredRows) (kept : KeepsSlots old new) (live : IsLive old.places at)
     (staged : IsStaged other row old new) where
   pair_swapped : ◌≡◌ {A = Pair} (Some (row_at (slot_at new.places) at), Some (row_at (slot_at new.places) other))
@@ -115,7 +115,7 @@ module _ (at other : RowRef) (row : List Value) (old new : StoredRows) (kept : K
     pair = pair_swapped;
   }
 
-  -- .. and where it has its key, the entry of the key stays.
+  -- .. and if it has the same key, the entry of the key stays.
   pub brings_update : same_in_column new.key (row_at (slot_at new.places) at) (row_at (slot_at new.places) other) ≡ true
       → Brings old new (Some at) row (Update at other)
   brings_update same = record {
@@ -180,7 +180,7 @@ module _ (table : ℕ) (start old new : Tables) (edits : List Edit) (pairs : Lis
               (subst (λ (ps : List Pair). All IsTyped (filter_map (λ (p : Pair). p.1) ps)) (sym pairs_more) come_typed);
         }
 
-  -- One row more is staged, and there is one edit more.
+  -- One more row is staged, and there is one more edit.
   pub Stages-more : Stages table start new (edits ++ edit ∷ []) more_pairs
   Stages-more = record {
     kept = HasStaged-both table start old new made.kept staged;
@@ -188,7 +188,7 @@ module _ (table : ℕ) (start old new : Tables) (edits : List Edit) (pairs : Lis
     pairs_are = λ now here. let from = staged_from table old new staged within now here in pairs_more from.0 now from.1 here from.2;
   }
 
--- A row more is added, ..
+-- One more row is inserted, ..
 pub Stages-added : (table : ℕ) (start old new : Tables) (edits : List Edit) (done : List (List Value)) → Stages table start old edits (additions done)
     → HasStaged table old new → table < length old.tables → (row : List Value) (edit : Edit)
     → ((stored now : StoredRows) → IsAt old table stored → IsAt new table now → Brings stored now None row edit)
@@ -199,7 +199,7 @@ Stages-added table start old new edits done made staged within row edit brings t
     (Stages-more table start old new edits (additions done) made staged within None row edit brings typed
     (λ r is. absurd (let no : ⊥ = cc in no)) (λ r is. absurd (let no : ⊥ = cc in no)) None (λ stored at. refl))
 
--- .. or takes the place of the row of a further reference.
+-- .. or replaces the row of one more reference.
 pub Stages-swapped : (table : ℕ) (start old new : Tables) (edits : List Edit) (pairs : List Pair) → Stages table start old edits pairs
     → HasStaged table old new → table < length old.tables → (at : RowRef) (row : List Value) (edit : Edit)
     → ((stored now : StoredRows) → IsAt old table stored → IsAt new table now → Brings stored now (Some at) row edit)
@@ -213,7 +213,7 @@ Stages-swapped table start old new edits pairs made staged within at row edit br
     (λ r is. let same : at ≡ r = cc in subst (NamesNone edits) same out) (Some before)
     (λ stored there. ap (λ (values : List Value). Some values) (was stored there))
 
--- Edits that take the rows of references take no other row.
+-- Edits of the rows of references name no other row.
 pub names_none : (edits : List Edit) (refs : List RowRef) (r : RowRef) → map old_slot edits ≡ map Some refs → All (λ a. a ≢ r) refs → NamesNone edits r
 names_none [] refs r names apart = All-nil (λ (e : Edit). (at : RowRef) → old_slot e ≡ Some at → at ≢ r)
 names_none (e ∷ es) [] r names apart = absurd (let no : ⊥ = cc in no)
@@ -224,7 +224,7 @@ names_none (e ∷ es) (a ∷ refs) r names apart =
     (λ at is same. All-head (λ (b : RowRef). b ≢ r) a refs apart (let one : a ≡ at = let both : Some a ≡ Some at = sym first ∙ is in cc in one ∙ same))
     (names_none es refs r rest (All-tail (λ (b : RowRef). b ≢ r) a refs apart))
 
--- Of references of which no two are one, none is another in front of it.
+-- Each of distinct references differs from those before it.
 pub apart_in_front : (refs : List RowRef) (i : ℕ) (none : RowRef) → AllPairs (λ a b. a ≢ b) refs → i < length refs
     → All (λ a. a ≢ get_or refs i none) (take i refs)
 apart_in_front refs i none apart within k d below =
@@ -270,7 +270,7 @@ KeepsState-both a b c first second = record {
   marks = marks_then a b c first.longer first.marks second.marks;
 }
 
--- What was done since is undone.
+-- The changes since then are undone.
 pub KeepsState-undone : (old mid new : Tables) → KeepsState old mid → (mark : ℕ) → mark ≡ mark_of old → rows_at_mark mark old ≡ instance_of old.tables
     → instance_of new.tables ≡ rows_at_mark mark mid → mark_of new ≡ mark → ((earlier : ℕ) → earlier ≤ mark → KeepsMarks mid new earlier)
     → new.links ≡ mid.links → EachTurns SameForm mid.tables new.tables → KeepsState old new

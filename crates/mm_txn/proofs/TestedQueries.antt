@@ -1,4 +1,4 @@
--- Standing queries add numbers only to numbers of the rows before a change and of those after it.
+-- Standing queries add numbers only to numbers, in the rows before a change and in those after it.
 use Rattle.std.proofs.Common.{◌≡◌, ℕ, zero, suc, false, List, [], ◌∷◌, Option, Some, None, get_or, length, map, slice_get, refl, sym, ap, subst, ◌<◌, ◌∙◌}
 use Rattle.std.proofs.Common.{arith}
 use Rattle.std.specs.List.{All, list_any}
@@ -33,7 +33,7 @@ use Rattle.mm_txn.proofs.TypedBags.{gives_typed}
 
 -- ---- for the lists
 
--- What is tested of the rows by their places is tested of a store and the edits of its tables.
+-- A test of the rows by their places is a test of a store and the edits of its tables.
 pub type_tested : (store : Tables) (changes : List TableChange) (queries : List StandingQuery)
     → All (IsTested (rows_by_place (instance_of store.tables)) (rows_edited store (map placed_change changes))) queries
     → AreTypeTested store changes queries
@@ -47,7 +47,7 @@ type_tested store changes queries tested = λ k d within. record {
 
 module _ (store : Tables) (changes : List TableChange) (queries : List StandingQuery)
     (tested : All (IsTested (rows_by_place (instance_of store.tables)) (rows_edited store (map placed_change changes))) queries) where
-  -- So are the types of the rows that they give before a change, ..
+  -- The rows of the queries have their types before a change, ..
   pub typed_before : All (GivesTyped (before_at store)) queries
   typed_before = λ k d within.
       subst (λ (r : RowsByPlace). GivesTyped r (get_or queries k d)) (sym (before_is store)) (tested k d within).typed_before
@@ -73,7 +73,7 @@ module _ (schema : Schema) (rows : Instance) where
   place_rows (x ∷ xs) (suc j) item there at =
       place_rows xs j item (or_parts (lacks_table x.table schema) (list_any (λ (i : FromItem). lacks_table i.table schema) xs) there).1 at
 
-  -- A field that has a type stands in FROM.
+  -- The table of a field that has a type is in FROM.
   from_there : (from : List FromItem) (field : FieldPlace) → type_at schema from field ≡ Some type.Int
       → (item : FromItem) × (slice_get from field.place ≡ Some item)
   from_there from field typed = by (slice_get from field.place) refl typed

@@ -1,4 +1,4 @@
--- Over rows that have the types of their columns, a standing query gives rows of the types of its fields.
+-- Over rows that have the types of their columns, the rows of a standing query have the types of its fields.
 use Rattle.std.proofs.Common.{◌≡◌, ℕ, zero, suc, pos, List, [], ◌∷◌, Option, Some, None, filter, get_or, map, slice_get, refl, sym, subst, ◌∙◌}
 use Rattle.std.specs.List.{All, flat_map}
 use Rattle.std.specs.Option.{option_and_then, option_map, unwrap_or}
@@ -23,7 +23,7 @@ use Rattle.mm_standing.specs.Queries.{GivesTyped, StandingQuery}
 use Rattle.mm_txn.specs.Listed.{IsPlaced, rows_by_place}
 use Rattle.mm_txn.proofs.Placed.{bag_by_place}
 
--- Equal lists begin with the same, and go on with the same.
+-- Equal lists have equal first elements and equal rests.
 parts : {X : Type 0} (x y : X) (xs ys : List X) → x ∷ xs ≡ y ∷ ys → (x ≡ y) × (xs ≡ ys)
 parts x y xs ys same = (cc, cc)
 
@@ -81,7 +81,7 @@ module _ (schema : Schema) (rows : Instance) (typed : AreTyped schema.tables row
           (λ others are. (All-head (HasTypesOf columns) row rs has, are)) _ later))
           (each later rs (All-tail (HasTypesOf columns) row rs has))
 
-  -- Its rows have the types of its fields.
+  -- The rows of a standing query have the types of its fields.
   pub gives_typed : (standing : StandingQuery) → IsPlaced schema standing → GivesTyped (rows_by_place rows) standing
   gives_typed standing placed =
       let state : State = record { schema = schema; rows = rows; queries = []; saved = None } in

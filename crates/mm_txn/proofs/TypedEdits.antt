@@ -1,4 +1,4 @@
--- The rows that a change brings have the types of the columns of its table.
+-- The new rows of a change have the types of the columns of its table.
 use Rattle.std.proofs.Common.{◌≡◌, ℕ, suc, not, List, [], ◌∷◌, Some, None, filter, get_or, map, slice_get, refl, sym, ap, subst, ◌∙◌}
 use Rattle.std.specs.List.{All, list_any}
 use Rattle.std.proofs.lemmas.List.Elements.{All-map, All-nil, All-weaker, Contains-get_or}
@@ -41,21 +41,21 @@ use Rattle.mm_txn.proofs.RowsBeside.{are_beside, types_of}
 
 -- ---- rows by columns, and by their types
 
--- A row that has the types of columns has them also without the columns' names and roles, ..
+-- A row that has the types of columns also has them without the columns' names and roles, ..
 pub by_types : (columns : List Column) (row : Row) → OfColumns columns row → HasTypes (types_of columns) row
 by_types [] [] typed = refl
 by_types (c ∷ cs) (v ∷ vs) typed = λ i. typed.0 i ∷ by_types cs vs typed.1 i
 by_types [] (v ∷ vs) typed = absurd typed
 by_types (c ∷ cs) [] typed = absurd typed
 
--- .. and the other way round.
+-- .. and conversely.
 by_columns : (columns : List Column) (row : Row) → HasTypes (types_of columns) row → OfColumns columns row
 by_columns [] [] typed = tt
 by_columns (c ∷ cs) (v ∷ vs) typed = (cc, by_columns cs vs cc)
 by_columns [] (v ∷ vs) typed = cc
 by_columns (c ∷ cs) [] typed = cc
 
--- ---- the rows that are there
+-- ---- the existing rows
 
 -- All rows of a relation have the types of its columns.
 rows_typed : (stored : StoredRows) → IsKept stored.places.types stored.key (slot_at stored.places) stored.refs stored.indexes
@@ -66,7 +66,7 @@ rows_typed stored kept =
     let live = (kept.held (get_or stored.refs k d)).0 (Contains-get_or stored.refs k d within) in
     subst (HasTypes stored.places.types) (sym (ap row_in live.1)) (kept.typed (get_or stored.refs k d) live.0 live.1))
 
--- So all rows beside the tables of a catalog have the types of their columns.
+-- So all rows of the tables of a catalog have the types of their columns.
 instance_typed : (tables : List Table) (rs : List StoredRows) → AreOf tables rs
     → ((place : ℕ) (stored : StoredRows) → slice_get rs place ≡ Some stored
     → IsKept stored.places.types stored.key (slot_at stored.places) stored.refs stored.indexes)
@@ -80,9 +80,9 @@ instance_typed (t ∷ ts) (r ∷ rs) are kept = (
 instance_typed [] (r ∷ rs) are kept = absurd are
 instance_typed (t ∷ ts) [] are kept = absurd are
 
--- ---- the rows that come
+-- ---- the new rows
 
--- What holds of all rows after a change holds of those that came.
+-- A property of all rows after a change holds of the new rows.
 held_by_coming : (P : Row → Type 0) (key : ℕ) (pairs : List Pair) (rows : List Row) → All P (changed key pairs rows) → All P (coming pairs)
 held_by_coming P key [] rows all = All-nil P
 held_by_coming P key (p ∷ ps) rows all =
@@ -109,7 +109,7 @@ module _ (schema : Schema) (rs : List StoredRows) (are : AreOf schema.tables rs)
     (kept : (place : ℕ) (stored : StoredRows) → slice_get rs place ≡ Some stored
     → IsKept stored.places.types stored.key (slot_at stored.places) stored.refs stored.indexes)
     (distinct : HasDistinctNames schema) where
-  -- .. and so have the rows that an UPDATE makes of rows that have them.
+  -- .. and so have the rows that an UPDATE computes from rows that have them.
   updated_typed : (mutation : Mutation) (place : ℕ) (assignments : List (Assignment ℕ)) (tests : List (Atom FieldPlace))
       → Binds schema mutation (bound.Update place assignments tests) → first_refusal (binding_conditions mutation schema) ≡ None
       → All (OfColumns (columns_named (changed_table mutation) schema)) (coming (own_pairs mutation (state_of schema rs)))
@@ -125,7 +125,7 @@ module _ (schema : Schema) (rs : List StoredRows) (are : AreOf schema.tables rs)
       (typed_by_change (state_of schema rs) (instance_typed schema.tables rs are kept) mutation distinct none)))
   updated_typed (written.Delete name named_tests) place assignments tests binds none = absurd binds
 
-  -- So have those that it makes of the rows that meet its tests.
+  -- So have the rows that an UPDATE computes from the rows that satisfy its tests.
   pub rows_updated_typed : (mutation : Mutation) (place : ℕ) (assignments : List (Assignment ℕ)) (tests : List (Atom FieldPlace))
       → Binds schema mutation (bound.Update place assignments tests) → first_refusal (binding_conditions mutation schema) ≡ None
       → (rows : List Row) → own_pairs mutation (state_of schema rs) ≡ updates_of assignments rows

@@ -25,7 +25,7 @@ use Rattle.mm_txn.proofs.Resting.{bound_all}
 use Rattle.mm_laws.proofs.TypedSteps.{none_in_front}
 use Rattle.ttree.proofs.Between.{and_false}
 
--- Rows that a change makes have their types, where neither the catalog nor the new values refuse it.
+-- The new rows of a change have their types, if neither the catalog nor the new values refuse it.
 pub rows_typed_after : (mutation : Mutation) (state : State) (values : List Condition) → HasDistinctNames state.schema
     → first_refusal (binding_conditions mutation state.schema ++ values) ≡ None → AreTyped state.schema.tables state.rows
     → AreTyped state.schema.tables (after_change mutation state).rows
@@ -34,7 +34,7 @@ rows_typed_after mutation state values distinct none typed =
 
 -- ---- changes of the catalog
 
--- What refuses one and what it makes does not depend on the rows that are saved.
+-- Neither the refusals nor the effect of a change of the catalog depend on the saved rows.
 conditions_beside : (definition : Definition) (state : State) (saved : Option Saved)
     → definition_conditions definition (record state { saved = saved }) ≡ definition_conditions definition state
 conditions_beside (define.Table definition) state saved = refl
@@ -53,7 +53,7 @@ after_beside (define.DropIndex name) state saved = refl
 after_beside (define.Watch watched) state saved = refl
 after_beside (define.Unwatch name) state saved = refl
 
--- A change that is not of an index is made where no transaction is open.
+-- A change that does not only concern an index requires that no transaction is open.
 index_or_closed : (is_open of_index : Bool) → (is_open && not of_index) ≡ false → (is_open ≡ false) ⊎ (of_index ≡ true)
 index_or_closed true true may = inr refl
 index_or_closed true false may = cc
@@ -75,7 +75,7 @@ closed_where_none true true may none = cc
 closed_where_none true false may none = cc
 closed_where_none false of_index may none = refl
 
--- A transaction is open where rows are saved.
+-- A transaction is open if rows are saved.
 pub saved_where_open : (is_open : Bool) (saved : Saved) → is_some (cond is_open (Some saved) None) ≡ is_open
 saved_where_open true saved = refl
 saved_where_open false saved = refl
@@ -102,12 +102,12 @@ module _ (held : Holdings) (is_open : Bool) (marks : List Mark) (was : IsConsist
   abbrev saved : Option Saved
   saved = saved_rows is_open store marks
 
-  -- Nothing can be taken back where a change concerns more than an index.
+  -- The logs are empty at a change that concerns more than an index.
   pub settled_before : is_of_index definition ≡ false → IsSettled store lists
   settled_before none = (was.settled (closed_where_none is_open (is_of_index definition) may none)).0
 
   module _ (new : Holdings) (keeps : is_of_index definition ≡ true → KeepsLog store new.store) where
-    -- What is saved stays.
+    -- The saved rows stay the same.
     pub saved_defined : saved_rows is_open new.store marks ≡ saved
     saved_defined =
         ⊎_elim
@@ -127,7 +127,7 @@ module _ (held : Holdings) (is_open : Bool) (marks : List Mark) (was : IsConsist
     left same = λ i. record (same i) { saved = saved_defined i }
 
     module _ {T : Type 0} (result : Result T Refusal) where
-      -- The state is that after the change, or as it was.
+      -- The state is that after the change, or unchanged.
       pub definition_done : OnOk result (state_held new ≡ after_definition definition (state_held held))
           → OnOk result (kept_state new is_open marks ≡ after_definition definition state)
       definition_done ok = on_ok result made ok
@@ -149,7 +149,7 @@ module _ (held : Holdings) (is_open : Bool) (marks : List Mark) (was : IsConsist
         (bound_all held.schema lists.queries rest.placed.placed) was.typed)
     typed_after rest (Err refusal) due ok err = subst IsTyped (sym (left err)) was.typed
 
-    -- After a change of the catalog all is consistent.
+    -- After a change of the catalog everything is consistent.
     pub defined : IsAtRest held → {T : Type 0} (result : Result T Refusal)
         → AnswersDue (first_refusal (definition_conditions definition (state_held held))) result
         → OnOk result (state_held new ≡ after_definition definition (state_held held)) → OnErr result (state_held new ≡ state_held held)

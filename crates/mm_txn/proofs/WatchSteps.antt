@@ -1,4 +1,4 @@
--- A standing query that comes, and one that goes.
+-- Creating and dropping a standing query.
 use Rattle.std.proofs.Common.{◌≡◌, ◌⊎◌, ℕ, zero, suc, ◌+◌, ◌<◌, ◌≤◌, Bool, true, false, cond, not, Result, Ok, Err, OnOk, MatchResult, List, [], ◌∷◌, ◌++◌}
 use Rattle.std.proofs.Common.{Option, Some, None, inl, inr, filter, find, is_none, is_some, length, map, nat_le, nat_lt, pos, slice_get, refl, sym, ap, subst}
 use Rattle.std.proofs.Common.{◌∙◌, ⊎_elim, arith}
@@ -51,7 +51,7 @@ use Rattle.mm_txn.proofs.TypedBags.{gives_typed}
 not_more : (n m : ℕ) → nat_lt m n ≡ false → n ≤ m
 not_more n m h = grind (arith, nat_tests)
 
--- ---- what nothing refuses by the catalog
+-- ---- a query that the catalog does not refuse
 
 module _ (name : List ℕ) (query : Query) (schema : Schema) (none : first_refusal (naming_conditions name query schema) ≡ None) where
   hold : AllByRecursion (λ (c : Condition). c.holds ≡ false) (naming_conditions name query schema)
@@ -60,7 +60,7 @@ module _ (name : List ℕ) (query : Query) (schema : Schema) (none : first_refus
   limits : (exceeds_query_limits query ≡ false) × (nat_le 32 (length schema.standing) ≡ false)
   limits = or_parts (exceeds_query_limits query) (nat_le 32 (length schema.standing)) hold.1.1.1.1.1.1.0
 
-  -- Its tables are there, ..
+  -- Its tables exist, ..
   pub tables_there : list_any (λ (item : FromItem). lacks_table item.table schema) query.from ≡ false
   tables_there = hold.0
 
@@ -82,7 +82,7 @@ as_many_lists schema queries placed = by schema.standing (queries_of queries) pl
     by [] (q ∷ qs) beside = absurd beside
     by (s ∷ ss) [] beside = absurd beside
 
--- ---- the last of some
+-- ---- the last element
 
 at_or_last : {X : Type 0} (xs : List X) (x y : X) (k : ℕ) → slice_get (xs ++ x ∷ []) k ≡ Some y
     → ((k < length xs) × (slice_get xs k ≡ Some y)) ⊎ ((k ≡ length xs) × (x ≡ y))
@@ -101,7 +101,7 @@ entries_last : (bags : List Counts) (bag : Counts) → entries_at (bags ++ bag �
 entries_last [] bag = refl
 entries_last (b ∷ bs) bag = entries_last bs bag
 
--- One more list that fits, behind lists that do.
+-- One more list that fits, after lists that do.
 fit_behind : (rows : RowsByPlace) (queries : List StandingQuery) (bags : List Counts) (new : StandingQuery) (bag : Counts)
     → length queries ≡ length bags
     → ((list : ℕ) (s : StandingQuery) → slice_get queries list ≡ Some s → (row : List Value)
@@ -125,7 +125,7 @@ module _ (schema : Schema) (standing : List StandingDef) where
   abbrev beside_these : Schema
   beside_these = record schema { standing = standing }
 
-  -- They leave the tables as they are.
+  -- Other standing queries leave the tables unchanged.
   pub kept_beside : (store : Tables) → AreKept schema store → AreKept beside_these store
   kept_beside store kept = record {
     relations = kept.relations;
@@ -135,13 +135,13 @@ module _ (schema : Schema) (standing : List StandingDef) where
     back = kept.back;
   }
 
--- ---- a standing query that comes
+-- ---- a new standing query
 
 module _ (schema : Schema) (store : Tables) (lists : Lists) (rest : AreAtRest schema store lists) (name : List ℕ) (query : Query) where
   abbrev state : State
   state = state_at_rest schema store lists
 
-  -- What refuses it by the catalog refuses it.
+  -- A refusal by the catalog is a refusal of the query.
   pub watch_refused : (r : Refusal) → first_refusal (naming_conditions name query schema) ≡ Some r → first_refusal (watch_conditions name query state) ≡ Some r
   watch_refused r due = due_in_front (naming_conditions name query schema)
       (record { holds = outgrows state (placed_query schema query); refusal = StandingListTooLarge } ∷ []) r due
@@ -152,7 +152,7 @@ module _ (schema : Schema) (store : Tables) (lists : Lists) (rest : AreAtRest sc
     there =
         ap (λ (b : BoundQuery). list_any (λ (item : FromItem). lacks_table item.table schema) b.from) bound_is ∙ tables_there name query schema none
 
-    -- Its tables are there.
+    -- Its tables exist.
     pub watch_served : All (λ t. t < length store.tables) tables
     watch_served =
         subst (λ ts. All (λ t. t < length store.tables) ts) (sym tables_are)
@@ -184,7 +184,7 @@ module _ (schema : Schema) (store : Tables) (lists : Lists) (rest : AreAtRest sc
         ap (bag_of bound) (lists_are ∙ ap (map (rows_by_place state.rows)) tables_are ∙ sym (lists_by_place schema state.rows bound.from there))
         ∙ ap (λ b. bag b (rows_in state)) bound_is
 
-    -- What the catalog does not refuse is refused by the number of its rows alone.
+    -- A query that the catalog does not refuse is refused only because of the number of its rows.
     pub watch_due : first_refusal (list_conditions (bag_of bound (map (rows_at store.tables) tables))) ≡ first_refusal (watch_conditions name query state)
     watch_due =
         ap (λ (b : List (List Value)). first_refusal (list_conditions b)) bag_is
@@ -242,7 +242,7 @@ module _ (schema : Schema) (store : Tables) (lists : Lists) (rest : AreAtRest sc
           }
 
       module _ (schema' : Schema) (schema_is : schema' ≡ later_schema) (lists' : Lists) (lists_is : lists' ≡ later_lists) where
-        -- It is the last of the state's standing queries, ..
+        -- The query is the last of the state's standing queries, ..
         pub state_by_watch : state_at_rest schema' store lists' ≡ after_watch name query state
         state_by_watch = (λ i. state_at_rest (schema_is i) store (lists_is i)) ∙ later_state
 
@@ -252,7 +252,7 @@ module _ (schema : Schema) (store : Tables) (lists : Lists) (rest : AreAtRest sc
         rest_by_watch many due within =
             subst (λ s. AreAtRest s store lists') (sym schema_is) (subst (λ l. AreAtRest later_schema store l) (sym lists_is) (later_rest many due within))
 
--- Where it is refused after all, the catalog is as it was once its name is dropped.
+-- If the query is refused later, the catalog is as before once its name is dropped.
 module _ (name : List ℕ) (schema : Schema) (free : is_some (standing_named name schema) ≡ false) where
   others_kept : (ss : List StandingDef) → is_some (find (λ (q : StandingDef). same_name name q.name) ss) ≡ false → (last : StandingDef) → last.name ≡ name
       → (filter (λ (q : StandingDef). not (same_name name q.name)) (ss ++ last ∷ []) ≡ ss)
@@ -289,9 +289,9 @@ module _ (name : List ℕ) (schema : Schema) (free : is_some (standing_named nam
       by (Err refusal) due ok there =
           let none : None ≡ Some refusal = sym (ap (λ b. cond b (Some NoSuchStandingQuery) None) there) ∙ due in cc
 
--- ---- a standing query that goes
+-- ---- a dropped standing query
 
--- A place in a list, once the element at another place is gone, counted in the list as it was.
+-- A place in a list after the element at another place was removed, as a place in the old list.
 skip : ℕ → ℕ → ℕ
 skip zero k = suc k
 skip (suc p) zero = zero
@@ -328,7 +328,7 @@ each_removed P (x ∷ xs) (suc p) all = (all.0, each_removed P xs p all.1)
 all_removed : {X : Type 0} (P : X → Type 0) (xs : List X) (p : ℕ) → All P xs → All P (remove xs p)
 all_removed P xs p all = All-from_recursion P (remove xs p) (each_removed P xs p (recursion_from_All P xs all))
 
--- The other lists fit still.
+-- The other lists still fit.
 pub listed_left : (rows : Instance) (lists : Lists) (place : ℕ) → AreListed rows lists
     → AreListed rows (record lists { queries = remove lists.queries place; bags = remove lists.bags place })
 listed_left rows lists place are = record {
@@ -350,7 +350,7 @@ module _ (name : List ℕ) where
   none_without [] (q ∷ qs) beside apart = absurd beside
   none_without (s ∷ ss) [] beside apart = absurd beside
 
-  -- The query of a name is the one at its place.
+  -- The query with a name is the one at its place.
   without_at : (ss : List StandingDef) (qs : List BoundQuery) → AreBeside ss qs → IsDistinct same_name (names_of ss)
       → position_or_len named ss < length ss → without_query name ss qs ≡ remove qs (position_or_len named ss)
   without_at (s ∷ ss) (q ∷ qs) beside distinct within =
@@ -383,7 +383,7 @@ module _ (name : List ℕ) where
         as_many [] (q ∷ qs) beside = absurd beside
         as_many (s ∷ ss) [] beside = absurd beside
 
-    -- The query at its place goes, ..
+    -- The query at its place is dropped, ..
     pub queries_left : HasDistinctStanding schema → queries_of (remove lists.queries place) ≡ without_query name schema.standing (queries_of lists.queries)
     queries_left distinct =
         let at = place_from_some named schema.standing place found in
@@ -392,7 +392,7 @@ module _ (name : List ℕ) where
         ∙ sym (without_at schema.standing (queries_of lists.queries) placed.beside distinct
         (subst (λ p. p < length schema.standing) at (within_from_some named schema.standing place found)))
 
-    -- .. and each other query stands beside its name.
+    -- .. and each other query keeps its name.
     pub placed_left : HasDistinctStanding schema → first_refusal (drop_standing_conditions name schema) ≡ None
         → ArePlaced (without_standing name schema) (remove lists.queries place)
     placed_left distinct due =
@@ -416,14 +416,14 @@ standing_found name schema place found =
     some_get (s ∷ ss) zero within = (s, refl)
     some_get (s ∷ ss) (suc k) within = some_get ss k (omega arith)
 
--- One that has none is that of no standing query.
+-- A name without a place is that of no standing query.
 pub standing_missing : (name : List ℕ) (schema : Schema) → standing_place name schema ≡ None
     → first_refusal (drop_standing_conditions name schema) ≡ Some NoSuchStandingQuery
 standing_missing name schema nowhere =
     ap (λ (q : Option StandingDef). cond (is_none q) (Some NoSuchStandingQuery) None)
     (find_nowhere (λ (q : StandingDef). same_name name q.name) schema.standing nowhere)
 
--- All is at rest without it.
+-- The database is at rest without the query.
 pub rest_left : (name : List ℕ) (schema : Schema) (store : Tables) (lists : Lists) → AreAtRest schema store lists → (place : ℕ)
     → standing_place name schema ≡ Some place → HasDistinctStanding schema → first_refusal (drop_standing_conditions name schema) ≡ None
     → AreAtRest (without_standing name schema) store (record lists { queries = remove lists.queries place; bags = remove lists.bags place })

@@ -1,4 +1,4 @@
--- Of which query or which change of rows something is the bound form, by a catalog.
+-- Which queries and changes of rows a bound form belongs to, by a catalog.
 use Rattle.std.specs.Prelude.{◌≡◌, None}
 use Rattle.mm_schema.specs.Refused.{first_refusal}
 use Rattle.mm_schema.specs.Schema.{HasDistinctNames, Schema}
@@ -12,13 +12,13 @@ use Rattle.mm_query.specs.declared.query.Query.{Query}
 use Rattle.mm_txn.specs.declared.bound.ChangeToRun.{ChangeToRun}
 use Rattle.mm_txn.specs.declared.bound.ChangeToRun.TheVariants as run
 
--- The catalog refuses nothing of the query, and this is the query with places in place of its names.
+-- The catalog refuses nothing of the query, and this is the query with places instead of names.
 pub record IsBoundQuery (schema : Schema) (query : Query) (bound : Bound) : Type 0 where
   pub placed : bound.query ≡ placed_query schema query
   pub tables : bound.tables ≡ places_in schema query.from
   pub due : first_refusal (query_conditions query schema) ≡ None
 
--- The catalog, where no two tables have one name, refuses nothing of the change, and this is the change with places in place of its names.
+-- The catalog, in which no two tables have one name, refuses nothing of the change, and this is the change with places instead of names.
 pub record IsBoundChange (schema : Schema) (mutation : Mutation) (bound : BoundChange) : Type 0 where
   pub binds : Binds schema mutation bound
   pub due : first_refusal (binding_conditions mutation schema) ≡ None

@@ -1,4 +1,4 @@
--- What a database holds at rest, and what edits make of it.
+-- The contents of a database between commands, and their changes by edits.
 use Rattle.std.specs.Prelude.{◌≡◌, ℕ, ◌<◌, ◌≤◌, List, ◌∷◌, ◌++◌, Result, All, OnErr, OnOk, length}
 use Rattle.mm_indexed.specs.Kept.{StoredRows}
 use Rattle.mm_query.specs.State.{State}
@@ -22,18 +22,18 @@ pub record Holdings : Type 0 where
   pub store : Tables
   pub lists : Lists
 
--- They fit each other, and no change of the lists is ready.
+-- Catalog, store and lists agree, and no change of the lists is prepared.
 abbrev pub IsAtRest : Holdings → Type 0
 IsAtRest held = AreAtRest held.schema held.store held.lists
 
--- The state that they are, where no transaction is open.
+-- The state outside a transaction.
 abbrev pub state_held : Holdings → State
 state_held held = state_at_rest held.schema held.store held.lists
 
--- ---- what edits make
+-- ---- changes by edits
 
--- Edits may be made: their tables are there, and each refers to older ones; the lists fit the rows; and no standing query adds a number
--- to a text, neither before the edits nor after them.
+-- Edits may be made. Their tables exist, and each table refers to older ones. The lists fit the rows. No standing query adds a number to a
+-- text, neither before the edits nor after them.
 pub record MayMake (store : Tables) (lists : Lists) (changes : List PlacedEdits) : Type 0 where
   pub are : AreEdits store changes
   pub back : All (λ (reference : Reference). reference.to < reference.from) store.links
@@ -41,13 +41,13 @@ pub record MayMake (store : Tables) (lists : Lists) (changes : List PlacedEdits)
   pub listed : AreListed (instance_of store.tables) lists
   pub typed : All (IsTested (rows_by_place (instance_of store.tables)) (rows_edited store changes)) lists.queries
 
--- What refuses edits, of which the first are those of the table that a change names: first the rows, then the lists.
+-- The first refusal of edits, by the rows and then by the lists. The first edits are those of the table that a change names.
 abbrev pub IsDue : Tables → Lists → PlacedEdits → List PlacedEdits → Result Unit Refusal → Type 0
 IsDue store lists own cascaded result = (stored : StoredRows) → IsAt store own.0 stored
     → AnswersDue (first_refusal (edits_conditions store stored own cascaded ++ list_conditions (rows_edited store (own ∷ cascaded)) lists.queries)) result
 
--- Each relation has these rows, or all have theirs still, as the result says; the log and the lists follow; and going back to an older
--- mark gives the rows and each list as it gave them.
+-- If the result is a success, each relation has these rows; otherwise all relations have their old rows. The log and the lists follow. Each
+-- older mark still leads to the same rows and lists.
 pub record Makes (rows : RowsByPlace) (old new : Tables) (lists followed : Lists) (result : Result Unit Refusal) : Type 0 where
   pub ok : OnOk result (HaveRows rows old new)
   pub err : OnErr result (HaveRows (rows_by_place (instance_of old.tables)) old new)

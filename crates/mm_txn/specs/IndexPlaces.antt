@@ -1,4 +1,4 @@
--- Where an index stands.
+-- Positions of indexes.
 use Rattle.std.specs.Prelude.{◌<◌, length}
 use Rattle.mm_indexed.specs.Kept.{StoredRows}
 use Rattle.mm_indexed.specs.Reads.{HasIndex}

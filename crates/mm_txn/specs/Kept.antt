@@ -1,4 +1,4 @@
--- How the database keeps the machine's state: a catalog, and beside each of its tables a relation.
+-- How the database represents the machine's state: a catalog, and a relation for each of its tables.
 use Rattle.std.specs.Prelude.{◌≡◌, ℕ, ◌≤◌, List, [], None}
 use Rattle.mm_plan.specs.Kept.{instance_of}
 use Rattle.mm_query.specs.State.{State}
@@ -9,16 +9,16 @@ use Rattle.mm_schema.specs.Schema.{Schema}
 use Rattle.mm_store.specs.Marks.{KeepsMarks, mark_of}
 use Rattle.mm_store.specs.Tables.{SameForm, Tables}
 
--- The state of a catalog, of the rows beside its tables and of the queries beside its standing queries, where no transaction is open.
+-- The state outside a transaction, of a catalog, the rows of its tables and the queries of its standing queries.
 abbrev pub watched_state : Schema → List StoredRows → List BoundQuery → State
 watched_state schema stored queries = record { schema = schema; rows = instance_of stored; queries = queries; saved = None }
 
--- The same with no standing query.
+-- The state outside a transaction, with no standing query.
 abbrev pub state_of : Schema → List StoredRows → State
 state_of schema stored = watched_state schema stored []
 
--- Each table has the rows, the types of columns, the key and the indexes that it had, and going back to an older mark gives the rows as it
--- gave them: at most rows were staged.
+-- Each table keeps its rows, the types of its columns, its key and its indexes, and each older mark still leads to the same rows: at most,
+-- rows were staged.
 pub record KeepsState (old new : Tables) : Type 0 where
   pub rows : instance_of new.tables ≡ instance_of old.tables
   pub form : EachTurns SameForm old.tables new.tables

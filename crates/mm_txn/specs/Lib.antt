@@ -7,9 +7,9 @@ pub mod Kept
 pub mod Listed
 pub mod Marks
 pub mod PlacedEdits
+pub mod Questions
 pub mod Reads
 pub mod Releasing
-pub mod Requests
 pub mod Rest
 pub mod RowEdits
 pub mod Saved

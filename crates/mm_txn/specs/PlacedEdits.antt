@@ -1,4 +1,4 @@
--- The edits of a change of rows, and the relations that they are for.
+-- The edits of a change of rows, with the places of their tables.
 use Rattle.std.specs.Prelude.{◌≡◌, ◌==◌, ◌&&◌, ℕ, ◌<◌, Bool, List, [], ◌∷◌, All, AllPairs, Some, find, length, map, slice_get}
 use Rattle.std.specs.List.{list_any}
 use Rattle.std.specs.Option.{option_map_or}
@@ -29,11 +29,11 @@ PlacedEdits = ℕ × List Edit
 abbrev pub placed : RelationEdits → PlacedEdits
 placed edits = (edits.table, edits.edits)
 
--- The same of a change that the lists take.
+-- The edits of a change that the lists read, with the place of the table.
 abbrev pub placed_change : TableChange → PlacedEdits
 placed_change change = (change.table, change.edits.now)
 
--- The edits of the table at a place, and none where it has none.
+-- The edits of the table at a place, and none if it has none.
 abbrev pub edits_at : List PlacedEdits → ℕ → List Edit
 edits_at changes place = option_map_or (λ (c : PlacedEdits). c.1) (find (λ (c : PlacedEdits). c.0 == place) changes) []
 
@@ -41,29 +41,29 @@ edits_at changes place = option_map_or (λ (c : PlacedEdits). c.1) (find (λ (c 
 abbrev pub rows_edited : Tables → List PlacedEdits → RowsByPlace
 rows_edited store changes place = option_map_or (λ stored. rows_after stored (edits_at changes place)) (slice_get store.tables place) []
 
--- The rows that edits take away, with those that come in their place.
+-- The rows that edits delete or replace, with their new rows.
 abbrev pub pairs_at : List StoredRows → PlacedEdits → List Pair
 pairs_at relations change = option_map_or (λ stored. pairs_of (slot_at stored.places) change.1) (slice_get relations change.0) []
 
--- The same by the name of the table.
+-- The pairs of the edits, with the name of the table.
 abbrev pub named : Schema → List StoredRows → PlacedEdits → NamedEdits
 named schema relations change = record {
   table = option_map_or (λ (t : Table). t.definition.name) (slice_get schema.tables change.0) [];
   pairs = pairs_at relations change;
 }
 
--- The relation of the edits' table is there, and they fit it.
+-- The relation of the edits' table exists, and the edits fit it.
 abbrev pub FitsAt : Tables → PlacedEdits → Type 0
 FitsAt store change = (stored : StoredRows) × IsAt store change.0 stored × AreFit stored change.1
 
--- Edits of tables: each table comes once, in the order of creation. Where there is more than one, rows only go.
+-- Edits of tables: each table occurs once, in the order of creation. If there is more than one table, the edits only delete rows.
 pub record AreEdits (store : Tables) (changes : List PlacedEdits) : Type 0 where
   pub fit : All (FitsAt store) changes
   pub ascend : AllPairs (λ (a b : PlacedEdits). a.0 < b.0) changes
   pub removals : 1 < length changes → All (λ (c : PlacedEdits). BringNone c.1) changes
 
--- Edits are for the relation of the table that a change names; they may be made together, and each brings a row of the types of its
--- columns, if any; and the rows that go and come are the pairs of that table.
+-- Edits are for the relation of the table that a change names. They may be made together, each new row has the types of the columns, and
+-- the old and new rows are the pairs of that table.
 pub record AreOwnEditsOf (mutation : Mutation) (schema : Schema) (relations : List StoredRows) (place : ℕ) (edits : List Edit) : Type 0 where
   pub placed : table_place (changed_table mutation) schema ≡ Some place
   pub fit : (stored : StoredRows) → slice_get relations place ≡ Some stored → AreFit stored edits
@@ -76,25 +76,24 @@ pub record AreEditsOf (mutation : Mutation) (schema : Schema) (store : Tables) (
   pub are : AreEdits store (own ∷ cascaded)
   pub named : map (named schema store.tables) (own ∷ cascaded) ≡ edits mutation (state_of schema store.tables)
 
--- ---- what refuses edits
+-- ---- refusals of edits
 
--- The reference is to the table of some edits, and they take away a row, or its key, to which a row refers that is there once all
--- edits are made.
+-- The reference is to the table of some edits, and they delete a row or change its key, although a row refers to it after all edits.
 abbrev pub leaves_orphan : Tables → List PlacedEdits → PlacedEdits → Reference → Bool
 leaves_orphan store changes change reference =
     (reference.to == change.0)
     && lose_targets reference.column (key_at store.tables change.0) (rows_edited store changes reference.from) (pairs_at store.tables change)
 
--- Some edits do so by some reference.
+-- Some edits leave an orphan by some reference.
 abbrev pub leaves_orphans : Tables → List PlacedEdits → Bool
 leaves_orphans store changes = list_any (λ (change : PlacedEdits). list_any (leaves_orphan store changes change) store.links) changes
 
--- What refuses edits, of which the first are for this relation, in the one order.
+-- The conditions that refuse edits, in the order of refusals. The first edits are for this relation.
 abbrev pub edits_conditions : Tables → StoredRows → PlacedEdits → List PlacedEdits → List Condition
 edits_conditions store stored own cascaded =
     table_rows_conditions stored.key (rows_after stored own.1) (has_orphans store own.0 (rows_after stored own.1)) (leaves_orphans store (own ∷ cascaded))
 
--- ---- what they make
+-- ---- the rows after edits
 
 -- Each relation has the rows for its place, with the columns, the key and the indexes that it had.
 pub record HaveRows (rows : RowsByPlace) (old new : Tables) : Type 0 where

@@ -1,4 +1,4 @@
--- The database between two commands, and what is listed of standing queries there.
+-- The database between two commands, and its listings.
 use Rattle.std.specs.Prelude.{ℕ, ◌||◌, Bool, true, false, if◌then◌else◌, List, [], ◌∷◌, ◌++◌, Option, Some, None, is_some, length, nat_le}
 use Rattle.mm_schema.specs.Instance.{Instance}
 use Rattle.mm_schema.specs.Refused.{Condition}
@@ -19,30 +19,30 @@ use Rattle.mm_query.specs.declared.query.Query.{Query}
 use Rattle.mm_plan.specs.Kept.{AreKept, instance_of}
 use Rattle.mm_txn.specs.Listed.{AreListed, ArePlaced, queries_of}
 
--- There is a relation for each table of the catalog and a list for each standing query, the lists fit the rows, and no change of
--- them is ready.
+-- There is a relation for each table of the catalog and a list for each standing query. The lists fit the rows, and no change of them is
+-- prepared.
 pub record AreAtRest (schema : Schema) (store : Tables) (lists : Lists) : Type 0 where
   pub kept : AreKept schema store
   pub placed : ArePlaced schema lists.queries
   pub listed : AreListed (instance_of store.tables) lists
 
--- The state of a catalog and its lists over rows, where no transaction is open.
+-- The state outside a transaction, of a catalog and its lists over rows.
 abbrev pub listed_state : Schema → Instance → Lists → State
 listed_state schema rows lists = record { schema = schema; rows = rows; queries = queries_of lists.queries; saved = None }
 
--- The same over the rows of a store.
+-- The state outside a transaction, of a catalog and its lists over the rows of a store.
 abbrev pub state_at_rest : Schema → Tables → Lists → State
 state_at_rest schema store lists = listed_state schema (instance_of store.tables) lists
 
--- What is listed of a table of a state.
+-- The listing of a table of a state.
 abbrev pub table_listed : State → Table → ListedTable
 table_listed state table = record { table = table; rows = length (rows_in state table.definition.name) }
 
--- What is listed of a standing query of a state.
+-- The listing of a standing query of a state.
 abbrev pub query_listed : State → StandingDef → ListedQuery
 query_listed state query = record { name = query.name; rows = length (shown_rows query.name state) }
 
--- What refuses a new standing query by the catalog alone, in the one order.
+-- The conditions by which the catalog alone refuses a new standing query, in the order of refusals.
 abbrev pub naming_conditions : List ℕ → Query → Schema → List Condition
 naming_conditions name query schema =
     missing_conditions query schema
@@ -51,19 +51,19 @@ naming_conditions name query schema =
     ++ record { holds = exceeds_query_limits query || nat_le 32 (length schema.standing); refusal = TooMany }
     ∷ []
 
--- A name that is taken is answered behind these.
+-- The refusal takes precedence over that of a taken name.
 abbrev pub comes_before_name : Refusal → Bool
 comes_before_name NoSuchTable = true
 comes_before_name NoSuchColumn = true
 comes_before_name Memory = true
 comes_before_name refusal = false
 
--- The refusal is that of a name that is taken.
+-- The refusal is that of a taken name.
 abbrev pub is_name_taken : Option Refusal → Bool
 is_name_taken (Some NameTaken) = true
 is_name_taken refusal = false
 
--- Of the refusal of a query and that of its name the one that is answered.
+-- The refusal that is due, given that of a query and perhaps one of its name.
 abbrev pub earlier_refusal : Refusal → Option Refusal → Refusal
 earlier_refusal of_query of_name =
     if comes_before_name of_query then of_query else (if is_name_taken of_name then NameTaken else of_query)

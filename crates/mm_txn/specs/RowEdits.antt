@@ -16,27 +16,27 @@ use Rattle.mm_tables.specs.declared.edit.Edit.{Edit}
 use Rattle.mm_value.specs.declared.row_ref.RowRef.{RowRef}
 use Rattle.mm_value.specs.declared.values.Value.{Value}
 
--- The pairs of rows and the rows that assignments make of them.
+-- Each row with its updated row, as pairs.
 abbrev pub updates_of : List (Assignment ℕ) → List (List Value) → List Pair
 updates_of assignments rows = map (λ (row : List Value). (Some row, Some (updated_row assignments row))) rows
 
--- The row that assignments make of the row of a reference.
+-- The updated row of a reference.
 abbrev pub updated_at : Slots → List (Assignment ℕ) → RowRef → List Value
 updated_at now assignments at = updated_row assignments (row_at now at)
 
--- A row was staged in a slot that was free, and the edit brings it, in the place of the row of a reference if there is one.
+-- A row was staged in a slot that was free, and the edit inserts it, or replaces the row of a reference by it.
 pub record Brings (old new : StoredRows) (at : Option RowRef) (row : List Value) (edit : Edit) : Type 0 where
   pub fits : Fits new.key (slot_at new.places) edit
   pub fresh : (other : RowRef) → new_slot edit ≡ Some other → slot_at old.places other ≡ Free
   pub takes : old_slot edit ≡ at
   pub pair : pair_of (slot_at new.places) edit ≡ (option_map (row_at (slot_at old.places)) at, Some row)
 
--- Rows of a table were staged since, and edits that fit it bring them: they change its rows by these pairs.
+-- Rows of a table were staged since, and edits that fit the table bring them into use: they change its rows by these pairs.
 pub record Stages (table : ℕ) (old new : Tables) (edits : List Edit) (pairs : List Pair) : Type 0 where
   pub kept : HasStaged table old new
   pub fit : (stored : StoredRows) → IsAt new table stored → AreFit stored edits
   pub pairs_are : (stored : StoredRows) → IsAt new table stored → pairs_of (slot_at stored.places) edits ≡ pairs
 
--- No edit brings a row.
+-- No edit inserts or replaces a row.
 abbrev pub BringNone : List Edit → Type 0
 BringNone edits = All (λ (e : Edit). came_by e ≡ None) edits

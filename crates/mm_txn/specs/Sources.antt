@@ -1,4 +1,4 @@
--- Where the rows of an answer lie, and which they are.
+-- The rows of an answer.
 use Rattle.std.specs.Prelude.{List}
 use Rattle.mm_value.specs.declared.values.Value.{Value}
 use Rattle.mm_txn.specs.declared.rows.RowReader.{RowReader}
@@ -11,7 +11,7 @@ abbrev pub source_rows : Source → List (List Value)
 source_rows (source.Stored rows) = rows
 source_rows (source.Shown rows) = rows
 
--- The rows that are left to be read, in their order.
+-- The unread rows, in their order.
 abbrev pub rows_to_read : RowReader → List (List Value)
 rows_to_read (reader.Stored rows) = rows
 rows_to_read (reader.Shown rows) = rows.now

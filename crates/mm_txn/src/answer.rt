@@ -1,9 +1,9 @@
-//! What a question is answered.
+//! Answers to questions.
 use crate::rows::Rows;
 use mm_query::{ItemList, Listing, PlanLine};
 use mm_value::Refusal;
 
-/// What a question is answered. Rows are lent by the database.
+/// The answer to a question. Rows are borrowed from the database.
 #[derive(Drop)]
 pub enum Answer<'a> {
     /// These rows, in this order.
@@ -12,6 +12,6 @@ pub enum Answer<'a> {
     Steps(ItemList<PlanLine>),
     /// The tables with their indexes, and the standing queries.
     Listing(Listing),
-    /// It was refused.
+    /// The refusal of the question.
     Refused(Refusal),
 }

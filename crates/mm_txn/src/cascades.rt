@@ -22,20 +22,20 @@ use mm_tables::Edit;
 use mm_value::{Few, RowRef};
 use std::alloc::{AllocError, Global};
 
-/// A CASCADE column of a table, and the rows that go of the table that it refers to.
+/// A CASCADE column of a table, and the deleted rows of the table that it refers to.
 #[derive(Drop)]
 struct Cascade<'a> {
     /// The place of the column, counted from 0.
     column: usize,
     /// The place of the table that it refers to.
     to: usize,
-    /// What is taken out of that table.
+    /// The deletions in that table.
     gone: &'a [Edit],
 }
 
-/// Removals of the rows to which a DELETE in a table cascades: of each row that has in a CASCADE column the key
-/// of one that goes, whichever table it is of. A column refers to an older table, so one pass over the tables in the order of
-/// creation finds all. The removals are in that order, and none are empty. `AllocError` where memory is refused.
+/// Returns the deletions to which a DELETE in a table cascades: of each row, in any table, that has the key of a deleted row in a CASCADE
+/// column. A column refers to an older table, so one pass over the tables in the order of creation finds all. The deletions are in that
+/// order, and no list is empty. Fails with `AllocError` if an allocation fails.
 pub(crate) fn cascades(
     alloc: Global,
     catalog: &Catalog,
@@ -63,7 +63,7 @@ pub(crate) fn cascades(
     Ok(cascaded)
 }
 
-/// Removals of the rows of a table that are cascaded by removals in older tables. `AllocError` where memory is refused.
+/// Returns the deletions in a table to which deletions in older tables cascade. Fails with `AllocError` if an allocation fails.
 fn cascaded_edits(
     alloc: Global,
     catalog: &Catalog,
@@ -93,7 +93,7 @@ fn cascaded_edits(
     removals_at(alloc, &mut view, table, found)
 }
 
-/// The CASCADE columns of a table that refer to tables of which rows go. `AllocError` where memory is refused.
+/// Returns the CASCADE columns of a table that refer to tables with deleted rows. Fails with `AllocError` if an allocation fails.
 fn cascading_columns<'a>(
     alloc: Global,
     catalog: &Catalog,
@@ -115,7 +115,7 @@ fn cascading_columns<'a>(
     Ok(found)
 }
 
-/// The column at a place of its table, if it is a CASCADE column and refers to a table of which rows go.
+/// Returns the column at a place of its table, if it is a CASCADE column and refers to a table with deleted rows.
 fn cascade_of<'a>(
     catalog: &Catalog,
     place: usize,
@@ -139,7 +139,7 @@ fn cascade_of<'a>(
     })
 }
 
-/// The name of the table that a column refers to, if a row of the column is deleted with the row that it refers to.
+/// Returns the name of the table that a CASCADE column refers to, or `None` if the column is not a CASCADE column.
 fn cascading_target(column: &Column) -> Option<&Name>
     ensures { option_copied result ≡ cascading_target column.now }
 {
@@ -150,7 +150,7 @@ fn cascading_target(column: &Column) -> Option<&Name>
     }
 }
 
-/// What is taken out of the table at a place.
+/// Returns the deletions in the table at a place.
 fn removals_of<'a>(
     own: &'a RelationEdits,
     cascaded: &'a [RelationEdits],
@@ -169,8 +169,8 @@ fn removals_of<'a>(
     &[]
 }
 
-/// Appends the references of the rows of a table that are cascaded by a CASCADE column: found by an index of the column
-/// where it has one, else by one pass over the rows. `AllocError` where memory is refused.
+/// Appends the references of the rows of a table to which deletions cascade by a CASCADE column: found along an index of the column if
+/// there is one, else by one pass over the rows. Fails with `AllocError` if an allocation fails.
 fn add_referrers(
     alloc: Global,
     view: &mut View<'_>,
@@ -189,7 +189,8 @@ fn add_referrers(
     }
 }
 
-/// The same by an index of the column: for each row that goes those that have its key there. `AllocError` where memory is refused.
+/// Appends the references of the rows to which deletions cascade, found along an index of the column: for each deleted row, the rows that
+/// have its key in the column. Fails with `AllocError` if an allocation fails.
 fn add_by_index(
     alloc: Global,
     view: &mut View<'_>,
@@ -214,8 +215,8 @@ fn add_by_index(
     Ok(())
 }
 
-/// The same where the column has none: each row of the table is asked once whether the row that it refers to goes, with no look at
-/// either. `AllocError` where memory is refused.
+/// Appends the references of the rows to which deletions cascade, for a column without an index: one pass over the table checks whether the
+/// row that each row refers to is deleted, and reads neither of the two rows. Fails with `AllocError` if an allocation fails.
 fn add_by_scan(
     alloc: Global,
     view: &View<'_>,

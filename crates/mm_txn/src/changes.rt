@@ -1,9 +1,10 @@
 //! Changes of rows, and of the lists of standing queries with them.
-ghost use Rattle.std.specs.Prelude.{◌≡◌, ℕ, ◌<◌, ◌≤◌, ◌∷◌, All, [], map, IfOk, OnOk, OnErr};
+ghost use Rattle.std.specs.Prelude.{◌≡◌, ℕ, ◌<◌, ◌≤◌, ◌∷◌, All, List, [], map, IfOk, OnOk, OnErr};
 ghost use Rattle.mm_indexed.specs.Index.{EachTurns};
 ghost use Rattle.mm_indexed.specs.Kept.{StoredRows};
 ghost use Rattle.mm_schema.specs.Refused.{AnswersDue, first_refusal};
-ghost use Rattle.mm_multiset.specs.Counts.{Counts};
+ghost use Rattle.mm_multiset.specs.Counts.{count_in};
+ghost use Rattle.mm_standing.specs.Bags.{entries_at};
 ghost use Rattle.mm_standing.specs.Queries.{change_conditions as list_conditions};
 ghost use Rattle.mm_standing.specs.State.{AreServed, FitPrepared};
 ghost use Rattle.mm_store.specs.Marks.{KeepsMarks, mark_of};
@@ -13,6 +14,7 @@ ghost use Rattle.mm_plan.specs.Kept.{instance_of};
 ghost use Rattle.mm_txn.specs.PlacedEdits.{AreEdits, FitsAt, HaveRows, edits_conditions, placed, placed_change, rows_edited};
 ghost use Rattle.mm_txn.specs.Listed.{AreListed, IsTested, rows_by_place};
 ghost use Rattle.mm_txn.specs.Reads.{ReadsForLists};
+ghost use Rattle.mm_value.specs.declared.values.Value.{Value};
 
 use crate::contents::Contents;
 use crate::edits::{ChangeEdits, RelationEdits};
@@ -23,10 +25,9 @@ use mm_value::{Few, Refusal};
 use std::alloc::{AllocError, Global};
 
 impl Contents {
-    /// Makes all edits of a change that its rows and the standing queries allow, and logs them, or none. Each list
-    /// follows its query. The refusals are those of [`Store::make`] for the table that the change names, and then those
-    /// of [`Standing::prepare`]. `RowIsReferenced` is also due if a row that stays refers to a deleted row of another table. Sets
-    /// `reads` to the number of rows read for the lists.
+    /// Makes and logs all edits of a change, or none if the rows or the standing queries refuse it. Each list is updated to match its
+    /// query. Fails as [`Store::make`] does for the table that the change names, and then as [`Standing::prepare`] does. `RowIsReferenced`
+    /// is also due if a row that stays refers to a deleted row of another table. Sets `reads` to the number of rows read for the lists.
     pub(crate) fn make_edits(
         &mut self,
         alloc: Global,
@@ -44,7 +45,8 @@ impl Contents {
     }
 }
 
-/// Makes the edits of tables, as [`Contents::make_edits`] does. The lists read rows as they are before, so their changes are made ready first.
+/// Makes the edits of tables, as [`Contents::make_edits`] does. The changes of the lists are prepared first, because they read the rows
+/// before the edits.
 fn edit_tables(
     alloc: Global,
     store: &mut Store,
@@ -72,9 +74,9 @@ fn edit_tables(
     Ok(())
 }
 
-/// Makes the edits of tables, from the last table to the first: a column refers to an older table, so all rows that refer to a row
-/// that goes are gone by then unless they stay. The refusals are those of [`Contents::make_edits`] by the rows. Then some of the edits
-/// may be made, and the log says which.
+/// Makes the edits of tables, from the last table to the first. A column refers to an older table, so all rows that refer to a deleted row
+/// are deleted before it, unless they stay. Fails as [`Contents::make_edits`] does because of rows. Then some of the edits may be made, and
+/// the log records which.
 fn apply_each(
     alloc: Global,
     store: &mut Store,
@@ -99,8 +101,8 @@ fn apply_each(
     store.make(alloc, own.table, own.edits.as_slice())
 }
 
-/// Makes ready what edits of tables change of the lists. `StandingListTooLarge` where a list would have more than 1,048,576 rows;
-/// `Memory` may come in its place and in that of success. Then nothing is ready. Sets `reads` to the number of rows read for the lists.
+/// Prepares the changes of the lists for edits of tables. Fails with `StandingListTooLarge` if a list would have more than 1,048,576 rows,
+/// and with `Memory` if an allocation fails; then nothing is prepared. Sets `reads` to the number of rows read for the lists.
 fn prepare_lists(
     alloc: Global,
     store: &Store,
@@ -117,7 +119,8 @@ fn prepare_lists(
     ensures due { AnswersDue (first_refusal (list_conditions (rows_edited store.now (placed own.now ∷ map placed cascaded.now)) standing.old.queries)) result }
     ensures ok { OnOk result (FitPrepared (rows_edited store.now (placed own.now ∷ map placed cascaded.now)) standing.new) }
     ensures err { OnErr result (standing.new.prepared ≡ []) }
-    ensures entries { map (λ (bag : Counts). bag.entries) standing.new.bags ≡ map (λ (bag : Counts). bag.entries) standing.old.bags }
+    ensures counts { (list : ℕ) (row : List Value)
+        → count_in row (entries_at standing.new.bags list) ≡ count_in row (entries_at standing.old.bags list) }
     ensures queries { standing.new.queries ≡ standing.old.queries }
     ensures log { standing.new.log ≡ standing.old.log }
     ensures reads { ReadsForLists store.now (placed own.now ∷ map placed cascaded.now) standing.old.queries reads.new }
@@ -130,7 +133,8 @@ fn prepare_lists(
     outcome
 }
 
-/// The edits of tables for the lists of standing queries. `AllocError` where memory is refused for more than one table.
+/// Returns the edits of tables for the lists of standing queries. Fails with `AllocError` if an allocation fails; a single table needs
+/// none.
 fn as_changes<'e>(
     alloc: Global,
     own: &'e RelationEdits,

@@ -1,4 +1,4 @@
-//! What a database holds: a catalog, the rows of its tables, and the lists of its standing queries.
+//! The contents of a database: a catalog, the rows of its tables, and the lists of its standing queries.
 ghost use Rattle.std.specs.Prelude.{◌≡◌, ℕ, ◌≤◌, true, false, List, [], length, take};
 ghost use Rattle.mm_standing.specs.State.{count_at};
 ghost use Rattle.mm_indexed.specs.Index.{EachTurns};
@@ -15,12 +15,12 @@ use mm_store::Store;
 use std::alloc::Global;
 use std::marker::Model;
 
-/// A catalog, the rows of its tables and the lists of its standing queries, which fit each other.
+/// A catalog, the rows of its tables and the lists of its standing queries, which agree with each other.
 #[derive(Drop)]
 pub(crate) struct Contents {
     pub(crate) catalog: Catalog,
     pub(crate) store: Store,
-    /// The standing queries with their lists, and what the open transaction has changed of these.
+    /// The standing queries with their lists, and the log of what the open transaction has changed in these.
     pub(crate) standing: Standing,
 }
 
@@ -36,7 +36,7 @@ impl Model for Contents {
 }
 
 impl Contents {
-    /// No table and no standing query. It takes no memory.
+    /// Returns contents with no table and no standing query. Allocates nothing.
     pub(crate) fn new(alloc: Global) -> Contents
         ensures schema { result.schema ≡ record { tables = []; standing = [] } }
         ensures tables { result.store.tables ≡ [] }
@@ -51,7 +51,7 @@ impl Contents {
         }
     }
 
-    /// All fit each other, and what stands now can be gone back to. The call does nothing.
+    /// Lemma: catalog, store and lists agree, and the current contents can be restored later. The call does nothing.
     pub(crate) fn is_at_rest(&self)
         ensures rest { IsAtRest self.now }
         ensures back { GoesBack self.now.store self.now.lists (mark_of self.now.store) (length self.now.lists.log) }
@@ -60,14 +60,14 @@ impl Contents {
         let _mark = self.store.mark();
     }
 
-    /// How long the logs of the store and of the lists are.
+    /// Returns the lengths of the logs of the store and of the lists.
     pub(crate) fn lengths(&self) -> (usize, usize)
         ensures { result ≡ (mark_of self.now.store, length self.now.lists.log) }
     {
         (self.store.mark(), self.standing.mark())
     }
 
-    /// Takes back what was changed of the rows and of the lists since their logs were so long. It takes no memory.
+    /// Undoes the changes of the rows and of the lists since their logs had these lengths. Allocates nothing.
     pub(crate) fn revert(&mut self, commands: usize, changes: usize)
         requires back { GoesBack self.old.store self.old.lists commands changes }
         requires changes { changes ≤ length self.old.lists.log }
@@ -84,7 +84,7 @@ impl Contents {
         self.standing.revert(changes);
     }
 
-    /// Takes back what was done of the rows since their log was so long: rows were staged, and all else was as it is. It takes no memory.
+    /// Undoes the log of the store down to a length since which rows were only staged. Allocates nothing.
     pub(crate) fn unstage(&mut self, mark: usize)
         requires mark { IsMark self.old.store mark }
         requires rows { rows_at_mark mark self.old.store ≡ instance_of self.old.store.tables }
@@ -99,7 +99,7 @@ impl Contents {
         self.store.revert(mark);
     }
 
-    /// Makes what was done final, unless a transaction is open.
+    /// Commits the changes, unless a transaction is open.
     pub(crate) fn settle_outside(&mut self, is_open: bool)
         ensures schema { self.new.schema ≡ self.old.schema }
         ensures rows { instance_of self.new.store.tables ≡ instance_of self.old.store.tables }

@@ -27,15 +27,15 @@ use mm_value::Refusal;
 use std::alloc::{AllocError, Global};
 use std::marker::Model;
 
-/// A database: the catalog, and beside it the rows of its tables. It makes changes and answers questions, and each is one step of the
-/// machine of row lists. What is refused changes nothing. In a transaction the store and the lists log how to take back what was
-/// changed, and its savepoints are marks of these logs. Outside one the logs are empty, since each command is final at once.
+/// A database: a catalog and the rows of its tables. Each change and each question is one step of the machine of row lists, and a refused
+/// one changes nothing. In a transaction the store and the lists keep undo logs, and the savepoints are marks of these logs. Outside a
+/// transaction the logs are empty, since each command is final at once.
 #[derive(Drop)]
 pub struct Db {
     contents: Contents,
     /// Whether a transaction is open.
     is_open: bool,
-    /// The savepoints of the open transaction, the oldest first.
+    /// The savepoints of the open transaction, oldest first.
     marks: Vec<Mark>,
 }
 
@@ -51,7 +51,7 @@ impl Model for Db {
 }
 
 impl Db {
-    /// A database with nothing in it. It takes no memory.
+    /// Returns an empty database. Allocates nothing.
     pub fn new(alloc: Global) -> Db
         ensures { result ≡ first_state }
     {
@@ -62,7 +62,7 @@ impl Db {
         }
     }
 
-    /// Begins a transaction. `TransactionOpen` where one is open. It takes no memory and no time that grows with the rows.
+    /// Begins a transaction. Fails with `TransactionOpen` if one is open. Allocates nothing, in time that does not grow with the rows.
     fn begin(&mut self) -> Result<(), Refusal>
         ensures due { MatchResult result (λ _. first_refusal (conditions Begin self.old) ≡ None)
             (λ refusal. first_refusal (conditions Begin self.old) ≡ Some refusal) }
@@ -77,8 +77,8 @@ impl Db {
         Ok(())
     }
 
-    /// Ends a transaction and keeps what it changed. `NoTransaction` where none is open. It takes no memory, and looks at each
-    /// change of the transaction once.
+    /// Ends a transaction and keeps its changes. Fails with `NoTransaction` if none is open. Allocates nothing, and visits each change of
+    /// the transaction once.
     fn commit(&mut self) -> Result<(), Refusal>
         ensures due { MatchResult result (λ _. first_refusal (conditions Commit self.old) ≡ None)
             (λ refusal. first_refusal (conditions Commit self.old) ≡ Some refusal) }
@@ -94,8 +94,9 @@ impl Db {
         Ok(())
     }
 
-    /// Ends a transaction and takes back what it changed: the rows are those at [`Db::begin`]. `NoTransaction` where none is open.
-    /// It takes no memory, so it can always be done. The changes are undone one by one, the newest first, as by the undo log of Gray.
+    /// Ends a transaction and undoes its changes: the rows are those at [`Db::begin`]. Fails with `NoTransaction` if none is open.
+    /// Allocates nothing, so it cannot fail in an open transaction. The changes are undone one by one, newest first, as with Gray's undo
+    /// log.
     fn rollback(&mut self) -> Result<(), Refusal>
         ensures due { MatchResult result (λ _. first_refusal (conditions Rollback self.old) ≡ None)
             (λ refusal. first_refusal (conditions Rollback self.old) ≡ Some refusal) }
@@ -111,9 +112,9 @@ impl Db {
         Ok(())
     }
 
-    /// Makes a savepoint of this name in the open transaction, which comes behind those that are there, also where one of these has
-    /// the name. `NoTransaction` where no transaction is open; `TooMany` where it has 64 savepoints already; `Memory` may come in
-    /// their place and in that of success. It takes no time that grows with the rows.
+    /// Sets a savepoint with this name in the open transaction, after the existing ones, even if one of these has the name. Fails with
+    /// `NoTransaction` if no transaction is open, with `TooMany` if it already has 64 savepoints, and with `Memory` if an allocation fails.
+    /// Takes no time that grows with the rows.
     fn savepoint(&mut self, name: Name) -> Result<(), Refusal>
         ensures due { AnswersDue (first_refusal (conditions (Savepoint name) self.old)) result }
         ensures ok { OnOk result (self.new ≡ state_after (Savepoint name) self.old) }
@@ -135,9 +136,9 @@ impl Db {
         Ok(())
     }
 
-    /// Takes back what was changed since the latest savepoint of a name was made: the rows are those that stood then. The savepoint
-    /// stays, and those that were made later go. `NoTransaction` where no transaction is open; `NoSuchSavepoint` where it has none of
-    /// the name. It takes no memory, so it can always be done, and looks at each change that it takes back once.
+    /// Undoes the changes since the latest savepoint with a name: the rows are those at the savepoint. The savepoint remains, and later
+    /// ones are dropped. Fails with `NoTransaction` if no transaction is open, and with `NoSuchSavepoint` if it has none with the name.
+    /// Allocates nothing, so no rollback to an existing savepoint fails. Visits each change that it undoes once.
     fn rollback_to(&mut self, name: &Name) -> Result<(), Refusal>
         ensures due { MatchResult result (λ _. first_refusal (conditions (RollbackTo name.now) self.old) ≡ None)
             (λ refusal. first_refusal (conditions (RollbackTo name.now) self.old) ≡ Some refusal) }
@@ -154,9 +155,9 @@ impl Db {
         Ok(())
     }
 
-    /// Releases the latest savepoint of a name and those set after it: they are forgotten, and all rows stay as they are. `ROLLBACK TO`
-    /// an earlier savepoint still restores the rows of that savepoint. Returns `NoTransaction` if no transaction is open, and
-    /// `NoSuchSavepoint` if the transaction has none of the name. Allocates nothing, and takes no time that grows with the rows.
+    /// Releases the latest savepoint with a name and those set after it; no row changes. `ROLLBACK TO` an earlier savepoint still restores
+    /// the rows of that savepoint. Fails with `NoTransaction` if no transaction is open, and with `NoSuchSavepoint` if the transaction has
+    /// none with the name. Allocates nothing, in time that does not grow with the rows.
     pub fn release(&mut self, name: &Name) -> Result<(), Refusal>
         ensures due { MatchResult result (λ _. first_refusal (conditions (RollbackTo name.now) self.old) ≡ None)
             (λ refusal. first_refusal (conditions (RollbackTo name.now) self.old) ≡ Some refusal) }
@@ -171,7 +172,26 @@ impl Db {
         Ok(())
     }
 
-    /// Changes the catalog. The refusals are those of [`Change::Define`](crate::Change::Define).
+    /// Changes the catalog. A new table is the last and has no rows. A dropped table loses its rows and its indexes, and the tables after
+    /// it move forward. A new index covers the existing rows. A new standing query is the last, and its list has the rows that currently
+    /// match. No rollback undoes these changes.
+    ///
+    /// Fails with the first refusal that is due: `NotInTransaction` if a transaction is open, unless an index is created or dropped. Then:
+    ///
+    /// - A new table: `NoSuchTable` if a column refers to a table that does not exist; `NameTaken` if its name is taken or two columns have
+    ///   one name; `TypeMismatch` if a column differs in type from the key of the table that it refers to; `TooMany` if there are already
+    ///   64 tables or it has more than 16 columns.
+    /// - A dropped table: `NoSuchTable` if none has the name; `InUse` if a column of another table refers to it or a standing query reads
+    ///   it.
+    /// - A new index: `NoSuchTable` and `NoSuchColumn` if its table or its column does not exist; `NameTaken` if an index of any table has
+    ///   its name; `TooMany` if its table already has 16 indexes.
+    /// - A dropped index: `NoSuchIndex` if none has the name.
+    /// - A new standing query: those of `SELECT` ([`Db::ask`]) except `ResultTooLarge`; after `NoSuchColumn` is `NameTaken` if a standing
+    ///   query has its name; `TooMany` also if there are already 32 standing queries; and last `StandingListTooLarge` if more than
+    ///   1,048,576 combinations of rows match.
+    /// - A dropped standing query: `NoSuchStandingQuery` if none has the name.
+    ///
+    /// Or with `Memory` if an allocation fails.
     fn define(&mut self, alloc: Global, definition: Definition<'_>) -> Result<(), Refusal>
         ensures due { AnswersDue (first_refusal (conditions (Define definition.entry) self.old)) result }
         ensures ok { OnOk result (self.new ≡ state_after (Define definition.entry) self.old) }
@@ -184,8 +204,11 @@ impl Db {
         self.contents.define(alloc, definition)
     }
 
-    /// Changes the rows of a table, and tells how many rows of it that concerned. The refusals are those of
-    /// [`Change::Edit`](crate::Change::Edit). Sets `reads` as [`Db::change_bound`] does, and to 0 where the catalog refuses the change.
+    /// Changes the rows of a table, and returns the number of its rows that were inserted, that satisfy the tests of an `UPDATE`, or that
+    /// were deleted. A `DELETE` also deletes the rows of any table that have the key of a deleted row in a CASCADE column. Sets `reads` as
+    /// [`Db::change_bound`] does, and to 0 if the catalog refuses the change.
+    ///
+    /// Fails with the first refusal that is due, those of [`Db::bind_change`] before those of [`Db::change_bound`].
     fn change(
         &mut self,
         alloc: Global,
@@ -226,8 +249,9 @@ impl Db {
         }
     }
 
-    /// The rows of a table, in the order of the index of a name. The refusals are those of
-    /// [`Question::ScanIndex`](crate::Question::ScanIndex).
+    /// Returns the rows of a table, in the order of the values in the column of the index with a name, and by key if these are equal. Fails
+    /// with `NoSuchIndex` if none has the name. A TREE index has that order. For a HASH index the references of the rows are sorted first,
+    /// which may fail with `Memory`.
     fn scan_index(&self, alloc: Global, name: &Name) -> Result<TableRows<'_>, Refusal>
         ensures due { AnswersDue (first_refusal (conditions (ScanIndex name.now) self.now)) result }
         ensures rows { IfOk result (λ rows. rows ≡ rows_by_index self.now name.now) }
@@ -235,9 +259,8 @@ impl Db {
         self.contents.scan_index(alloc, name)
     }
 
-    /// The rows that a query gives, in their order, found by its plan; no value is copied. The refusals are those of
-    /// [`Question::Select`](crate::Question::Select). Sets `reads` to the number of rows read, up to `u64::MAX`: no more than the plan
-    /// allows, and none where the query is refused by the catalog.
+    /// Returns the rows of a query's result, in order, found by its plan; no value is copied. Fails as `SELECT` does in [`Db::ask`]. Sets
+    /// `reads` to the number of rows read, up to `u64::MAX`: no more than the plan allows, and 0 if the catalog refuses the query.
     fn select(
         &self,
         alloc: Global,
@@ -253,8 +276,8 @@ impl Db {
         self.select_bound(alloc, &bound, reads)
     }
 
-    /// The plan of a query, by the row counts of the tables as they are: a line for each table of FROM, in their order. The
-    /// refusals are those of [`Db::select`] but for `ResultTooLarge`.
+    /// Returns the plan of a query for the current row counts of the tables: a line for each table of FROM, in their order. Fails as
+    /// [`Db::select`] does, but not with `ResultTooLarge`.
     fn explain(&self, alloc: Global, query: Query<'_>) -> Result<ItemList<PlanLine>, Refusal>
         ensures due { AnswersDue (first_refusal (conditions (Explain query.entry) self.now)) result }
         ensures lines { IfOk result (λ lines. lines ≡ plan_in self.now query.entry) }
@@ -262,8 +285,8 @@ impl Db {
         self.contents.explain(alloc, query)
     }
 
-    /// The rows that a standing query shows, in their order; no value is copied, and no row of a table is looked at.
-    /// `NoSuchStandingQuery` where none has the name; `Memory` may come in its place and in that of success.
+    /// Returns the rows of a standing query, in order. No value is copied, and no row of a table is read. Fails with `NoSuchStandingQuery`
+    /// if none has the name, and with `Memory` if an allocation fails.
     fn show(&self, alloc: Global, name: &Name) -> Result<ShownRows<'_>, Refusal>
         ensures due { AnswersDue (first_refusal (conditions (Show name.now) self.now)) result }
         ensures rows { IfOk result (λ rows. rows ≡ shown_rows name.now self.now) }
@@ -276,8 +299,8 @@ impl Db {
         Ok(contents.standing.list(alloc, place)?)
     }
 
-    /// What there is: the tables with their indexes and how many rows each has, and the standing queries and how many rows each
-    /// shows, all in the order of creation. `AllocError` where memory is refused.
+    /// Returns the tables with their indexes and their numbers of rows, and the standing queries with theirs, each in the order of
+    /// creation. Fails with `AllocError` if an allocation fails.
     fn tables(&self, alloc: Global) -> Result<Listing, AllocError>
         ensures { IfOk result (λ listing. listing ≡ listing_of self.now) }
     {
@@ -290,7 +313,7 @@ impl Db {
         )
     }
 
-    /// The rows of a table, in the order of its key. `NoSuchTable` where none has the name. It takes no memory.
+    /// Returns the rows of a table, in the order of its key. Fails with `NoSuchTable` if none has the name. Allocates nothing.
     fn scan(&self, table: &Name) -> Result<TableRows<'_>, Refusal>
         ensures due { MatchResult result (λ _. first_refusal (conditions (Scan table.now) self.now) ≡ None)
             (λ refusal. first_refusal (conditions (Scan table.now) self.now) ≡ Some refusal) }

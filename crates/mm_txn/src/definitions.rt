@@ -1,5 +1,4 @@
-//! Changes of the catalog, and of the relations beside its tables. But for those of indexes they are for a database in which no
-//! transaction is open.
+//! Changes of the catalog, and of the relations of its tables. All but those of indexes require that no transaction is open.
 ghost use Rattle.std.specs.Prelude.{◌≡◌, true, false, [], IfOk, OnOk, OnErr, map};
 ghost use Rattle.mm_schema.specs.Indexes.{drop_index_conditions, index_conditions};
 ghost use Rattle.mm_schema.specs.Refused.{AnswersDue, first_refusal};
@@ -19,7 +18,7 @@ use mm_store::Store;
 use mm_value::{ColType, Refusal};
 use std::alloc::{AllocError, Global};
 
-/// Whether a change of the catalog concerns an index alone, and so no row.
+/// Returns whether a change of the catalog concerns only an index, and so no row.
 pub(crate) fn is_of_index(definition: &Definition<'_>) -> bool
     ensures { result ≡ is_of_index definition.now }
 {
@@ -27,8 +26,8 @@ pub(crate) fn is_of_index(definition: &Definition<'_>) -> bool
 }
 
 impl Contents {
-    /// Changes the catalog. The first refusal that is due is answered, or `Memory` in its place or in that of success. The log can be
-    /// taken back afterwards as before. It asks for rows of the types of their columns.
+    /// Changes the catalog. Fails with the first refusal that is due, or with `Memory` if an allocation fails. The log can still be undone
+    /// afterwards. Requires every row to match its column types, and both logs to be empty unless the change concerns only an index.
     pub(crate) fn define(
         &mut self,
         alloc: Global,
@@ -57,7 +56,7 @@ impl Contents {
         }
     }
 
-    /// Drops a table with its rows and indexes; those behind it move up. The refusals are those of [`Catalog::drop_table`].
+    /// Drops a table with its rows and indexes; the tables after it move forward. Fails as [`Catalog::drop_table`] does.
     fn drop_table(&mut self, name: &Name) -> Result<(), Refusal>
         requires { IsSettled self.old.store self.old.lists }
         ensures due { AnswersDue (first_refusal (drop_table_conditions name.now self.old.schema)) result }
@@ -73,7 +72,7 @@ impl Contents {
     }
 }
 
-/// Adds a table with no rows, which comes last. The refusals are those of [`Catalog::add_table`].
+/// Appends a table with no rows. Fails as [`Catalog::add_table`] does.
 fn add_table(
     alloc: Global,
     catalog: &mut Catalog,
@@ -103,14 +102,14 @@ fn add_table(
     Ok(())
 }
 
-/// The types of columns, from left to right. `AllocError` where memory is refused.
+/// Returns the types of columns, from left to right. Fails with `AllocError` if an allocation fails.
 fn types_of(alloc: Global, columns: &[Column]) -> Result<Vec<ColType>, AllocError>
     ensures { IfOk result (λ types. types.items ≡ map (λ column. column.col_type) columns.now) }
 {
     columns.iter().map(|column| column.col_type).collect(alloc)
 }
 
-/// Makes an index over the rows that are there. The refusals are those of [`Catalog::add_index`].
+/// Builds an index over the existing rows. Fails as [`Catalog::add_index`] does.
 fn add_index(
     alloc: Global,
     catalog: &mut Catalog,
@@ -139,7 +138,7 @@ fn add_index(
     Ok(())
 }
 
-/// Drops an index. `NoSuchIndex` where none has the name.
+/// Drops an index. Fails with `NoSuchIndex` if none has the name.
 fn drop_index(catalog: &mut Catalog, store: &mut Store, name: &Name) -> Result<(), Refusal>
     requires { AreKept catalog.old store.old }
     ensures due { AnswersDue (first_refusal (drop_index_conditions name.now catalog.old)) result }

@@ -1,4 +1,4 @@
-//! What a change of rows asks of its table.
+//! The edits of a change of rows.
 ghost use Rattle.std.specs.Prelude.{◌≡◌, ◌++◌, ◌∷◌, map, IfOk, OnErr};
 ghost use Rattle.mm_schema.specs.Refused.{AnswersDue, first_refusal};
 ghost use Rattle.mm_schema.specs.Schema.{HasDistinctNames, Schema};
@@ -27,12 +27,12 @@ use std::alloc::Global;
 pub(crate) struct RelationEdits {
     /// The table's place in the order of creation.
     pub(crate) table: usize,
-    /// The edits, of which no two have a slot in common. The rows that they bring are staged.
+    /// The edits, no two of which have a slot in common. Their new rows are staged.
     pub(crate) edits: Few<Edit>,
 }
 
 impl RelationEdits {
-    /// The same for the lists of standing queries.
+    /// Returns the edits in the form that the lists of standing queries read.
     pub(crate) fn as_change(&self) -> TableChange<'_>
         ensures { placed_change result ≡ placed self.now }
     {
@@ -43,19 +43,18 @@ impl RelationEdits {
     }
 }
 
-/// The edits of all tables that a change concerns.
+/// The edits of all tables that a change affects.
 #[derive(Drop)]
 pub(crate) struct ChangeEdits {
-    /// Those of the table that it names.
+    /// The edits of the table that the change names.
     pub(crate) own: RelationEdits,
-    /// Those of the rows that a DELETE cascades to, in the order of the tables' creation. There are none with another
-    /// change.
+    /// The deletions to which a DELETE cascades, in the order of the tables' creation. Empty for any other change.
     pub(crate) cascaded: Vec<RelationEdits>,
 }
 
 impl Contents {
-    /// The edits that a bound change asks for. The rows that they bring are staged, and all else is as before. The refusals are those of
-    /// [`updates`]; or `Memory` in their place or in that of success. Then nothing has changed.
+    /// Returns the edits of a bound change. Their new rows are staged, and all else is as before. Fails as [`updates`] does, or with
+    /// `Memory` if an allocation fails; then nothing changes.
     pub(crate) fn edits_of(
         &mut self,
         alloc: Global,
@@ -83,7 +82,7 @@ impl Contents {
     }
 }
 
-/// The edits that a bound change asks for. It refuses what [`Contents::edits_of`] does; then some of the rows may be staged.
+/// Returns the edits of a bound change. Fails as [`Contents::edits_of`] does; then some of the rows may be staged.
 fn staged_edits(
     alloc: Global,
     catalog: &Catalog,
@@ -109,7 +108,7 @@ fn staged_edits(
     Ok(ChangeEdits { own, cascaded })
 }
 
-/// The edits of the table that a bound change is for. It refuses what [`Contents::edits_of`] does; then some of the rows may be staged.
+/// Returns the edits of the table that a bound change names. Fails as [`Contents::edits_of`] does; then some of the rows may be staged.
 fn own_edits(
     alloc: Global,
     store: &mut Store,

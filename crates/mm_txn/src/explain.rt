@@ -12,8 +12,8 @@ use mm_value::Refusal;
 use std::alloc::Global;
 
 impl Contents {
-    /// The plan of a query, by the row counts of the tables as they are: a line for each table of FROM. The first refusal that is
-    /// due is answered, those of [`bind_query`]; or `Memory` in its place or in that of success.
+    /// Returns the plan of a query for the current row counts of the tables: a line for each table of FROM. Fails with the first refusal of
+    /// [`bind_query`] that is due, or with `Memory` if an allocation fails.
     pub(crate) fn explain(
         &self,
         alloc: Global,

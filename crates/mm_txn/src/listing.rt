@@ -14,8 +14,8 @@ use mm_standing::Standing;
 use mm_store::Store;
 use std::alloc::{AllocError, Global};
 
-/// What there is: the tables with their indexes and how many rows each has, and the standing queries and how many rows each shows.
-/// `AllocError` where memory is refused.
+/// Returns the tables with their indexes and their numbers of rows, and the standing queries with theirs. Fails with `AllocError` if an
+/// allocation fails.
 pub(crate) fn list_tables(
     alloc: Global,
     catalog: &Catalog,
@@ -33,7 +33,7 @@ pub(crate) fn list_tables(
     })
 }
 
-/// The tables, and how many rows each has. `AllocError` where memory is refused.
+/// Returns the tables with their numbers of rows. Fails with `AllocError` if an allocation fails.
 fn listed_tables(
     alloc: Global,
     catalog: &Catalog,
@@ -49,7 +49,7 @@ fn listed_tables(
     Ok(listed)
 }
 
-/// A table of the catalog, and how many rows it has. `AllocError` where memory is refused.
+/// Returns a table of the catalog with its number of rows. Fails with `AllocError` if an allocation fails.
 fn listed_table(
     alloc: Global,
     catalog: &Catalog,
@@ -67,7 +67,7 @@ fn listed_table(
     })
 }
 
-/// The standing queries, and how many rows each shows. `AllocError` where memory is refused.
+/// Returns the standing queries with their numbers of rows. Fails with `AllocError` if an allocation fails.
 fn listed_queries(
     alloc: Global,
     catalog: &Catalog,

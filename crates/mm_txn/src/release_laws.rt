@@ -20,9 +20,9 @@ use mm_laws::{
     transactions_stand_alone,
 };
 
-/// A savepoint that is released leaves no trace: after a SAVEPOINT that nothing refuses, any commands that leave the savepoint, and
-/// its release, the transaction can go back to what it could go back to before the SAVEPOINT. The catalog, the rows, and the
-/// standing queries stay as they are before the release.
+/// A released savepoint leaves no trace. After a successful SAVEPOINT, any commands that keep the savepoint, and its release, the
+/// transaction can be rolled back to the same states as before the SAVEPOINT. The release changes no row, and neither the catalog nor the
+/// standing queries.
 pub fn released_savepoints_leave_no_trace()
     ensures { (name : List ℕ) (commands : List Command) (state : State) → first_refusal (conditions (Savepoint name) state) ≡ None
         → list_all (leaves_savepoint name) commands ≡ true
@@ -32,8 +32,8 @@ pub fn released_savepoints_leave_no_trace()
 }
 
 /// COMMIT and ROLLBACK have the same reply and lead to the same state with and without a release before them. So does ROLLBACK TO a
-/// savepoint that was set before the released one, immediately after the release or after any commands that leave the earlier
-/// savepoint. A savepoint of another name was set before one that is set now.
+/// savepoint that was set before the released one, immediately after the release or after any commands that keep the earlier savepoint. An
+/// existing savepoint with another name was set before one that is set now.
 pub fn rollbacks_after_a_release_restore_the_same_rows()
     ensures commit { (name : List ℕ) (state : State) → step Commit (after_release name state) ≡ step Commit state }
     ensures rollback { (name : List ℕ) (state : State) → step Rollback (after_release name state) ≡ step Rollback state }
@@ -54,7 +54,8 @@ pub fn rollbacks_after_a_release_restore_the_same_rows()
     transactions_stand_alone();
 }
 
-/// After the release of the later of two savepoints of one name, ROLLBACK TO that name restores the rows of the earlier one, which stays.
+/// After the release of the later of two savepoints with one name, ROLLBACK TO that name restores the rows of the earlier one, which
+/// remains.
 pub fn a_released_name_means_the_earlier_savepoint()
     ensures { (name : List ℕ) (before after : List Command) (state : State) → first_refusal (conditions (Savepoint name) state) ≡ None
         → list_all (leaves_savepoint name) before ≡ true
@@ -67,8 +68,8 @@ pub fn a_released_name_means_the_earlier_savepoint()
     rollback_to_restores_the_rows_at_its_savepoint();
 }
 
-/// Commands and releases lead from the first state to no other states than commands alone. So what holds in every state that commands
-/// lead to also holds if savepoints are released. A release is done if `ROLLBACK TO` of its name would be; otherwise the state stays.
+/// Commands and releases lead from the first state to no other states than commands alone. So what holds in every state that commands lead
+/// to also holds if savepoints are released. A release succeeds if `ROLLBACK TO` with its name would; otherwise the state is unchanged.
 pub fn releases_lead_to_no_other_states()
     ensures done { (name : List ℕ) (state : State) → first_refusal (conditions (RollbackTo name) state) ≡ None
         → after_call (Release name) state ≡ after_release name state }
@@ -77,8 +78,8 @@ pub fn releases_lead_to_no_other_states()
     ensures reached { (calls : List Call) → (commands : List Command) × (after_calls calls first_state ≡ after_all commands first_state) }
 {}
 
-/// A release keeps what the laws of single commands assume of a state: rows have the types of their columns, those that a transaction
-/// can go back to too, and each standing query has its bound query, whose tables and columns are all there.
+/// A release keeps what the laws of single commands assume of a state: all rows have the types of their columns, also those that a rollback
+/// can restore, and each standing query has its bound query, whose tables and columns exist.
 pub fn releases_keep_types_and_standing_queries()
     ensures types { (name : List ℕ) (state : State) → IsTyped state → IsTyped (after_release name state) }
     ensures queries { (name : List ℕ) (state : State) → HasQueries state → HasQueries (after_release name state) }

@@ -1,4 +1,5 @@
-//! The edits of one table that a change of its rows asks for. Each new row is staged as soon as it is made, so that one is owned at a time.
+//! The edits of one table for a change of its rows. Each new row is staged as soon as it is computed, so at most one exists outside the
+//! table at a time.
 ghost use Rattle.std.specs.Prelude.{◌≡◌, ◌≢◌, ℕ, ◌+◌, ◌<◌, All, AllPairs, IfOk, None, Some, filter, length, map};
 ghost use Rattle.std.specs.List.{flat_map};
 ghost use Rattle.mm_indexed.specs.Kept.{StoredRows};
@@ -26,8 +27,8 @@ use mm_value::{Few, Refusal, Row, RowRef, Tuple};
 use smallvec::SmallVec;
 use std::alloc::{AllocError, Global};
 
-/// Stages these rows of a table, and returns the edits that add them, in their order. `AllocError` where memory is refused; then some of
-/// the rows may be staged.
+/// Stages rows of a table, and returns the edits that insert them, in their order. Fails with `AllocError` if an allocation fails; then
+/// some of the rows may be staged.
 pub(crate) fn additions(
     alloc: Global,
     store: &mut Store,
@@ -49,7 +50,7 @@ pub(crate) fn additions(
     Ok(edits)
 }
 
-/// Stages a row of a table, for which there is capacity, and returns the edit that adds it. It takes no memory.
+/// Stages a row of a table, for which there is capacity, and returns the edit that inserts it. Allocates nothing.
 fn addition(store: &mut Store, table: usize, row: Tuple) -> Edit
     requires there { table < length store.old.tables }
     requires room { CanStage 1 table store.old }
@@ -63,9 +64,9 @@ fn addition(store: &mut Store, table: usize, row: Tuple) -> Edit
     Edit::Insert(store.stage(table, values.as_mut_slice()))
 }
 
-/// Stages for each row that meets all atoms the row that the assignments make of it, and returns the edits that put it in its place. The
-/// rows are found as for a query of this table alone. `ArithmeticOutOfRange` where some value is past the range of whole numbers; `Memory`
-/// where memory is refused; then some of the rows may be staged.
+/// Stages the updated row for each row that satisfies all atoms, and returns the edits that replace the rows by these. The rows are found
+/// as for a query of this table alone. Fails with `ArithmeticOutOfRange` if a new value exceeds 64 bits, and with `Memory` if an allocation
+/// fails; then some of the rows may be staged.
 pub(crate) fn updates(
     alloc: Global,
     store: &mut Store,
@@ -88,7 +89,8 @@ pub(crate) fn updates(
     swaps(alloc, store, table, found.as_slice(), assignments)
 }
 
-/// The same for the rows of these references, of which no two are one.
+/// Stages the updated row for each of these references, which are distinct, and returns the edits that replace the rows by these. Fails as
+/// `updates` does.
 fn swaps(
     alloc: Global,
     store: &mut Store,
@@ -118,7 +120,7 @@ fn swaps(
     Ok(edits)
 }
 
-/// The row that the assignments make of a row of a table. The refusals are those of `updates`.
+/// Returns the updated row of a row of a table. Fails as `updates` does.
 fn row_for(
     alloc: Global,
     store: &Store,
@@ -138,8 +140,7 @@ fn row_for(
     updated_row(alloc, &row, assignments)
 }
 
-/// Stages a row of a table, for which there is capacity, and returns the edit that puts it in the place of a row in use. It takes no
-/// memory.
+/// Stages a row of a table, for which there is capacity, and returns the edit that replaces a row in use by it. Allocates nothing.
 fn swap(store: &mut Store, table: usize, at: RowRef, row: Row) -> Edit
     requires there { table < length store.old.tables }
     requires live { (stored : StoredRows) → IsAt store.old table stored → IsLive stored.places at }
@@ -160,8 +161,8 @@ fn swap(store: &mut Store, table: usize, at: RowRef, row: Row) -> Edit
     }
 }
 
-/// Edits that take out each row that meets all atoms. The rows are found as for a query of this table alone. `AllocError` where memory
-/// is refused.
+/// Returns edits that delete each row that satisfies all atoms. The rows are found as for a query of this table alone. Fails with
+/// `AllocError` if an allocation fails.
 pub(crate) fn removals(
     alloc: Global,
     view: &mut View<'_>,
@@ -177,8 +178,8 @@ pub(crate) fn removals(
     gone_each(alloc, found.as_slice())
 }
 
-/// Edits that take out the rows of these references, each once and in key order, however the references stand. `AllocError` where
-/// memory is refused.
+/// Returns edits that delete the rows of these references, each once and in key order, whatever the order of the references. Fails with
+/// `AllocError` if an allocation fails.
 pub(crate) fn removals_at(
     alloc: Global,
     view: &mut View<'_>,
@@ -195,7 +196,7 @@ pub(crate) fn removals_at(
     gone_each(alloc, gone.as_slice())
 }
 
-/// Edits that take out the rows of these references, in their order. `AllocError` where memory is refused.
+/// Returns edits that delete the rows of these references, in their order. Fails with `AllocError` if an allocation fails.
 fn gone_each(alloc: Global, refs: &[RowRef]) -> Result<Few<Edit>, AllocError>
     ensures { IfOk result (λ edits. edits ≡ map Delete refs.now) }
 {

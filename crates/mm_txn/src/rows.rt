@@ -1,4 +1,4 @@
-//! Rows that lie in a database.
+//! Rows of an answer, read in place.
 ghost use Rattle.std.specs.Prelude.{◌≡◌, ◌++◌, OnErr, OnOk, length, map, take};
 ghost use Rattle.mm_partition.specs.Views.{viewed};
 ghost use Rattle.mm_txn.specs.Sources.{rows_to_read};
@@ -12,16 +12,16 @@ use mm_value::ValueRef;
 use std::alloc::{AllocError, Global};
 use std::marker::Model;
 
-/// Where rows lie.
+/// Where rows are stored.
 #[derive(Drop)]
 enum Source<'a> {
     /// In a table.
     Stored(TableRows<'a>),
-    /// Where a query or a standing query found their values.
+    /// In the result of a query or in the list of a standing query, as references to their values.
     Shown(ShownRows<'a>),
 }
 
-/// Rows of a database, seen as their list. None is copied: a [`RowReader`] reads them where they lie.
+/// The rows of an answer, as their list. None is copied: a [`RowReader`] reads them in place.
 #[derive(Drop)]
 pub struct Rows<'a> {
     source: Source<'a>,
@@ -38,7 +38,7 @@ impl<'a> Model for Rows<'a> {
 }
 
 impl<'a> Rows<'a> {
-    /// The rows of a table, in their order.
+    /// Returns the rows of a table, in their order.
     pub(crate) fn stored(rows: TableRows<'a>) -> Rows<'a>
         ensures { result ≡ rows.entry }
     {
@@ -47,7 +47,7 @@ impl<'a> Rows<'a> {
         }
     }
 
-    /// The rows that a query or a standing query shows.
+    /// Returns the rows of the result of a query or of a standing query.
     pub(crate) fn shown(rows: ShownRows<'a>) -> Rows<'a>
         ensures { result ≡ rows.entry }
     {
@@ -56,7 +56,7 @@ impl<'a> Rows<'a> {
         }
     }
 
-    /// How many rows there are.
+    /// Returns the number of rows.
     pub fn len(&self) -> usize
         ensures { result ≡ length self.now }
     {
@@ -66,8 +66,8 @@ impl<'a> Rows<'a> {
         }
     }
 
-    /// Copies the rows, in their order, behind those of a buffer. `AllocError` where memory is refused; then some of them may have
-    /// been added, and those that were there stand as they did.
+    /// Appends copies of the rows, in their order, to a buffer. Fails with `AllocError` if an allocation fails; then some of the rows may
+    /// have been appended, and the rows before them are unchanged.
     pub fn copy_into(&self, alloc: Global, buffer: &mut RowBuffer) -> Result<(), AllocError>
         ensures ok { OnOk result (buffer.new ≡ buffer.old ++ self.now) }
         ensures err { OnErr result (take (length buffer.old) buffer.new ≡ buffer.old) }
@@ -78,7 +78,7 @@ impl<'a> Rows<'a> {
         }
     }
 
-    /// What reads them where they lie, from the first one on.
+    /// Returns a reader of the rows, from the first one on.
     pub fn reader(&self) -> RowReader<'_>
         ensures { rows_to_read result ≡ self.now }
     {
@@ -89,17 +89,17 @@ impl<'a> Rows<'a> {
     }
 }
 
-/// Reads rows where they lie.
+/// Reads rows in place.
 #[derive(Drop)]
 pub enum RowReader<'a> {
     /// Rows of a table.
     Stored(StoredRows<'a>),
-    /// Rows that a query or a standing query shows, as references to their values.
+    /// Rows of the result of a query or of a standing query, as references to their values.
     Shown(&'a ShownRows<'a>),
 }
 
-/// Copies the rows of a table that are left to be read behind those of a buffer. `AllocError` where memory is refused; then some of
-/// them may have been added.
+/// Appends copies of the unread rows of a table to a buffer. Fails with `AllocError` if an allocation fails; then some of them may have
+/// been appended.
 fn copy_stored(
     alloc: Global,
     mut rows: StoredRows<'_>,
@@ -116,7 +116,7 @@ fn copy_stored(
     Ok(())
 }
 
-/// Makes `values` those of a row, where they stand. `AllocError` where memory is refused.
+/// Replaces `values` by references to the values of a row. Fails with `AllocError` if an allocation fails.
 fn read_values<'s>(row: RowView<'s>, values: &mut Vec<ValueRef<'s>>) -> Result<(), AllocError>
     ensures { OnOk result (map value_of values.new.items ≡ viewed row.entry) }
 {

@@ -1,25 +1,25 @@
-//! Savepoints of the transaction that is open.
+//! Savepoints of the open transaction.
 ghost use Rattle.std.specs.Prelude.{◌≡◌, ◌<◌, ℕ, false, true, All, None, IfSome, get_or, length};
 ghost use Rattle.mm_schema.specs.Name.{same_name};
 ghost use Rattle.mm_txn.specs.declared.savepoints.Mark.{Mark as AnyMark};
 
 use mm_schema::Name;
 
-/// The most savepoints that a transaction has at a time.
+/// The most savepoints in a transaction at a time.
 pub(crate) const MAX_SAVEPOINTS: usize = 64;
 
-/// A savepoint: its name, and how long the logs were when it was made.
+/// A savepoint: its name, and the lengths of the logs when it was set.
 #[derive(Drop)]
 pub(crate) struct Mark {
     pub(crate) name: Name,
-    /// How long the log of the store was.
+    /// The length of the store's log.
     pub(crate) commands: usize,
-    /// How long the log of the lists was.
+    /// The length of the log of the lists.
     pub(crate) changes: usize,
 }
 
 impl Mark {
-    /// How long the logs of the store and of the lists were.
+    /// Returns the lengths of the logs of the store and of the lists.
     pub(crate) fn lengths(&self) -> (usize, usize)
         ensures { result ≡ (self.now.commands, self.now.changes) }
     {
@@ -27,7 +27,7 @@ impl Mark {
     }
 }
 
-/// The place of the latest savepoint of a name among these, of which the oldest comes first. Places are counted from 0.
+/// Returns the place of the latest savepoint with a name, counted from 0; the savepoints are ordered oldest first.
 pub(crate) fn latest(marks: &[Mark], name: &Name) -> Option<usize>
     ensures within { IfSome result (λ place. place < length marks.now) }
     ensures named { IfSome result (λ place. (d : AnyMark) → same_name name.now (get_or marks.now place d).name ≡ true) }

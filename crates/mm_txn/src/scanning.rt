@@ -18,7 +18,7 @@ use mm_value::Refusal;
 use std::alloc::Global;
 
 impl Contents {
-    /// The rows of a table, in the order of its key. `NoSuchTable` where none has the name. It takes no memory.
+    /// Returns the rows of a table, in the order of its key. Fails with `NoSuchTable` if none has the name. Allocates nothing.
     pub(crate) fn scan(&self, table: &Name) -> Result<TableRows<'_>, Refusal>
         ensures due { MatchResult result (λ _. first_refusal (conditions (Scan table.now) (state_held self.now)) ≡ None)
             (λ refusal. first_refusal (conditions (Scan table.now) (state_held self.now)) ≡ Some refusal) }
@@ -28,7 +28,7 @@ impl Contents {
         Ok(self.store.rows_by_key(place))
     }
 
-    /// Where the index of a name stands. `NoSuchIndex` where none has the name. It takes no memory.
+    /// Returns the position of the index with a name. Fails with `NoSuchIndex` if none has the name. Allocates nothing.
     fn place_of_index(&self, name: &Name) -> Result<IndexPlace, Refusal>
         ensures due { MatchResult result (λ _. first_refusal (conditions (ScanIndex name.now) (state_held self.now)) ≡ None)
             (λ refusal. first_refusal (conditions (ScanIndex name.now) (state_held self.now)) ≡ Some refusal) }
@@ -55,8 +55,8 @@ impl Contents {
         })
     }
 
-    /// The rows of a table, in the order of the index of a name. `NoSuchIndex` where none has the name; `Memory` may come in its
-    /// place and in that of success, where it is a HASH index.
+    /// Returns the rows of a table, in the order of the index with a name. Fails with `NoSuchIndex` if none has the name; for a HASH index
+    /// also with `Memory` if an allocation fails.
     pub(crate) fn scan_index(&self, alloc: Global, name: &Name) -> Result<TableRows<'_>, Refusal>
         ensures due { AnswersDue (first_refusal (conditions (ScanIndex name.now) (state_held self.now))) result }
         ensures rows { IfOk result (λ rows. rows ≡ rows_by_index (state_held self.now) name.now) }

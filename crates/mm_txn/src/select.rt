@@ -1,4 +1,4 @@
-//! The rows that a query gives.
+//! The rows of a query's result.
 ghost use Rattle.std.specs.Prelude.{◌≡◌, ◌++◌, ◌+◌, ◌*◌, ◌≤◌, All, IfOk, OnErr, OnOk, length, take};
 ghost use Rattle.mm_query.specs.Resolving.{select_conditions, selected};
 ghost use Rattle.mm_query.specs.declared.query.Query.{Query};
@@ -19,8 +19,8 @@ use mm_templist::{ShownRows, TempList};
 use mm_value::Refusal;
 use std::alloc::Global;
 
-/// The combinations of rows that fit a bound query, each once and in no promised order, found by its plan. The refusals are those of
-/// [`run_query`].
+/// Returns the combinations of rows that match a bound query, each once and in no particular order, found by its plan. Fails as
+/// [`run_query`] does.
 fn fitting_combinations<'b>(
     alloc: Global,
     view: &mut View<'_>,
@@ -41,8 +41,8 @@ fn fitting_combinations<'b>(
     run_query(alloc, view, &bound.query, bound.tables.as_slice())
 }
 
-/// The rows that a bound query gives, in their order, found by its plan; no value is copied. It reads no more rows than the steps of
-/// the plan allow, and then those of each combination that fits. The refusals are those of [`run_query`].
+/// Returns the rows of a bound query's result, in order, found by its plan; no value is copied. Reads no more rows than the steps of the
+/// plan allow, and then those of each matching combination. Fails as [`run_query`] does.
 pub(crate) fn select_rows<'s>(
     alloc: Global,
     view: &mut View<'s>,
@@ -66,9 +66,9 @@ pub(crate) fn select_rows<'s>(
     Ok(rows)
 }
 
-/// Copies the rows that a bound query gives, in their order, behind those of a buffer; they are found by its plan. It reads no more
-/// rows than the steps of the plan allow, and then those of each combination that fits. The refusals are those of [`run_query`]; then
-/// some of the rows may have been added, and those that were there stand as they did.
+/// Appends copies of the rows of a bound query's result, in order, to a buffer; they are found by its plan. Reads no more rows than the
+/// steps of the plan allow, and then those of each matching combination. Fails as [`run_query`] does; then some of the rows may have been
+/// appended, and the rows before them are unchanged.
 pub(crate) fn copy_rows(
     alloc: Global,
     view: &mut View<'_>,

@@ -1,4 +1,4 @@
-//! Standing queries that are kept and dropped. They are for a database in which no transaction is open.
+//! Creating and dropping standing queries. Requires that no transaction is open.
 ghost use Rattle.std.specs.Prelude.{◌≡◌, None, Some, map, IfOk, OnErr, OnOk};
 ghost use Rattle.mm_laws.specs.Typing.{AreTyped, type_at};
 ghost use Rattle.mm_plan.specs.Kept.{instance_of};
@@ -18,8 +18,8 @@ use mm_value::{ColType, Refusal};
 use std::alloc::{AllocError, Global};
 
 impl Contents {
-    /// Keeps a query as a standing query, which comes last. The first refusal that is due is answered, or `Memory` in its place or in
-    /// that of success. It asks for rows of the types of their columns.
+    /// Appends a standing query and materializes its rows. Fails with the first refusal that is due, or with `Memory` if an allocation
+    /// fails. Requires every row to match its column types, and both logs to be empty.
     pub(crate) fn watch(&mut self, alloc: Global, named: NamedQuery<'_>) -> Result<(), Refusal>
         requires settled { IsSettled self.old.store self.old.lists }
         requires typed { AreTyped self.old.schema.tables (instance_of self.old.store.tables) }
@@ -45,7 +45,7 @@ impl Contents {
         Ok(())
     }
 
-    /// Drops a standing query. `NoSuchStandingQuery` where none has the name.
+    /// Drops a standing query. Fails with `NoSuchStandingQuery` if none has the name.
     pub(crate) fn unwatch(&mut self, name: &Name) -> Result<(), Refusal>
         requires { IsSettled self.old.store self.old.lists }
         ensures due { AnswersDue (first_refusal (drop_standing_conditions name.now self.old.schema)) result }
@@ -63,9 +63,8 @@ impl Contents {
     }
 }
 
-/// The query of a new standing query, with its fields resolved. Of what refuses it by the catalog the first is answered: a name
-/// that is taken stands behind tables, columns and positions that are missing, and before all else. `Memory` may come in its place
-/// and in that of success.
+/// Returns the query of a new standing query, with its fields resolved. Fails with the first refusal that is due by the catalog: that of a
+/// taken name comes after missing tables, columns and positions, and before all others. Or with `Memory` if an allocation fails.
 fn bind_named(
     alloc: Global,
     catalog: &Catalog,
@@ -88,7 +87,7 @@ fn bind_named(
     }
 }
 
-/// Of the refusal of a query and that of its name the one that is answered. `Memory` stands for one that isn't known.
+/// Returns the refusal that is due, given that of a query and, if there is one, that of its name. A `Memory` of the query is returned.
 fn earlier_refusal(of_query: Refusal, of_name: Option<Refusal>) -> Refusal
     ensures { result ≡ earlier_refusal of_query of_name }
 {
@@ -99,7 +98,7 @@ fn earlier_refusal(of_query: Refusal, of_name: Option<Refusal>) -> Refusal
     }
 }
 
-/// The types of the fields of a query, from left to right. `AllocError` where memory is refused.
+/// Returns the types of the fields of a query, from left to right. Fails with `AllocError` if an allocation fails.
 fn field_types(
     alloc: Global,
     catalog: &Catalog,
@@ -120,7 +119,7 @@ fn field_types(
     Ok(types)
 }
 
-/// The type of the column of a field, where it is there.
+/// Returns the type of the column of a field, or `None` if there is no such column.
 fn type_at(catalog: &Catalog, from: &[FromItem], field: &FieldPlace) -> Option<ColType>
     ensures { result ≡ type_at catalog.now from.now field.now }
 {
@@ -130,7 +129,7 @@ fn type_at(catalog: &Catalog, from: &[FromItem], field: &FieldPlace) -> Option<C
     Some(column.col_type)
 }
 
-/// The names of the tables of FROM. `AllocError` where memory is refused.
+/// Returns the names of the tables of FROM. Fails with `AllocError` if an allocation fails.
 fn names_of(alloc: Global, from: &[FromItem]) -> Result<TableNames, AllocError>
     ensures { IfOk result (λ names. names ≡ map (λ (item : Item). item.table) from.now) }
 {
@@ -141,7 +140,7 @@ fn names_of(alloc: Global, from: &[FromItem]) -> Result<TableNames, AllocError>
     Ok(TableNames::new(names))
 }
 
-/// These places, in their order. `AllocError` where memory is refused.
+/// Returns a copy of these places, in their order. Fails with `AllocError` if an allocation fails.
 fn copy_places(alloc: Global, places: &[usize]) -> Result<Vec<usize>, AllocError>
     ensures { IfOk result (λ copied. copied.items ≡ places.now) }
 {

@@ -1,4 +1,4 @@
--- Which bytes close a text that an opening quote began.
+-- The bytes that end a text after its opening quote.
 use Rattle.std.proofs.Common.{◌≡◌, ◌≢◌, ◌⊎◌, inl, inr, ◌<◌, ◌≤◌, ℕ, ◌+◌, List, [], ◌∷◌, ◌++◌, length, take, set, refl, sym, ap, subst, ◌∙◌, arith}
 use Rattle.std.proofs.Common.{append_assoc, append-nil, length-set, length-append}
 use Rattle.std.specs.List.{All}
@@ -13,7 +13,7 @@ use Rattle.mm_value.proofs.Quotes.{doubled_other, doubled-append}
 doubled_at_quote : (x : ℕ) (xs : List ℕ) → x ≡ 39 → doubled (x ∷ xs) ≡ 39 ∷ 39 ∷ doubled xs
 doubled_at_quote x xs e = ap (λ b. doubled (b ∷ xs)) e
 
--- how the bytes that close a text begin: with the closing quote, with a doubled quote, or with another byte of the text
+-- how the bytes that end a text begin: with the closing quote, with a doubled quote, or with another byte of the text
 abbrev Begins : ℕ → List ℕ → List ℕ → Type 0
 Begins x xs text =
     ((text ≡ []) × (x ≡ 39) × (xs ≡ []))
@@ -29,7 +29,7 @@ begins x xs (t ∷ ts) e =
           let g : x ≡ t = cc in inr (inr (ts, cc, subst (λ b. b ≢ 39) (sym g) ne, cc))
     ]
 
--- what is left of a text after a front of it
+-- the remaining text after a prefix of it
 pub doubled_cancel : (front rest text : List ℕ) → doubled front ++ rest ≡ doubled text ++ 39 ∷ []
     → (back : List ℕ) × (text ≡ front ++ back) × (rest ≡ doubled back ++ 39 ∷ [])
 doubled_cancel [] rest text e = (text, refl, e)
@@ -54,7 +54,7 @@ doubled_cancel (x ∷ xs) rest text e =
           ]
     ]
 
--- one literal is one text's
+-- bytes after an opening quote are at most one text
 pub Closes-unique : (body text other : List ℕ) → Closes body text → Closes body other → text ≡ other
 Closes-unique body text other p q =
     let back = doubled_cancel text (39 ∷ []) other (sym p.spelled ∙ q.spelled) in
@@ -63,7 +63,7 @@ Closes-unique body text other p q =
     ends : (back : List ℕ) → 39 ∷ [] ≡ doubled back ++ 39 ∷ [] → back ≡ []
     ends back e = elim (begins 39 [] back e) [ inl w ↦ w.0 | inr (inl w) ↦ cc (w.3) | inr (inr w) ↦ absurd (w.2 refl) ]
 
--- where a front of the text was read, the rest closes what follows it
+-- after a prefix of the text, the rest ends the remaining text
 pub Closes-back : (body front rest text : List ℕ) → body ≡ doubled front ++ rest → Closes body text → (back : List ℕ) × Closes rest back
 Closes-back body front rest text e h =
     let back = doubled_cancel front rest text (sym e ∙ h.spelled) in
@@ -73,7 +73,7 @@ Closes-back body front rest text e h =
     All-back [] ys all = all
     All-back (x ∷ xs) ys all = All-back xs ys (All-tail (λ b. b ≢ 10) x (xs ++ ys) all)
 
--- a text is no longer than it is written
+-- a text is at most as long as its spelling
 pub length-doubled : (text : List ℕ) → length text ≤ length (doubled text)
 length-doubled [] = omega arith
 length-doubled (x ∷ xs) =
@@ -82,7 +82,7 @@ length-doubled (x ∷ xs) =
       | inr ne ↦ omega (arith, length-doubled xs, ap length (doubled_other x xs ne))
     ]
 
--- a front of the text, one byte on
+-- a prefix of the text, one byte longer
 pub doubled_front_more : (body front rest tail : List ℕ) (x : ℕ) → body ≡ doubled front ++ rest → rest ≡ doubled_byte x ++ tail
     → body ≡ doubled (front ++ x ∷ []) ++ tail
 doubled_front_more body front rest tail x e f =
@@ -90,7 +90,7 @@ doubled_front_more body front rest tail x e f =
     (append-nil (doubled_byte x)) in
     e ∙ ap (λ l. doubled front ++ l) f ∙ sym (append_assoc (doubled front) (doubled_byte x) tail) ∙ ap (λ l. l ++ tail) (sym pushed)
 
--- the front of the buffer, where one byte more is written
+-- the prefix of the buffer after one more byte is written
 pub buffer_more : (buffer front : List ℕ) (x n : ℕ) → n ≡ length front → n < length buffer → take n buffer ≡ take (length buffer) front
     → take (length (front ++ x ∷ [])) (set buffer n x) ≡ take (length (set buffer n x)) (front ++ x ∷ [])
 buffer_more buffer front x n is lt e =
@@ -99,7 +99,7 @@ buffer_more buffer front x n is lt e =
     ap (λ k. take k (set buffer n x)) longer ∙ take_more_set buffer n x lt ∙ ap (λ l. l ++ x ∷ []) stands
     ∙ sym (take_all (length (set buffer n x)) (front ++ x ∷ []) (omega (arith, length-set buffer n x)))
 
--- and where there is no room for it
+-- .. and if the buffer is full
 pub buffer_full : (buffer front : List ℕ) (x : ℕ) → length buffer ≤ length front → take (length front) buffer ≡ take (length buffer) front
     → take (length (front ++ x ∷ [])) buffer ≡ take (length buffer) (front ++ x ∷ [])
 buffer_full buffer front x full e =

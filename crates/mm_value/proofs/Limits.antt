@@ -1,4 +1,4 @@
--- What the test of a value's limit says.
+-- The meaning of the test of a value's limit.
 use Rattle.std.proofs.Common.{◌≤◌, ℕ, ◌^◌, List, length, arith}
 use Rattle.std.specs.Int.{w64}
 use Rattle.std.specs.Int.RustNames.{FitsSigned}

@@ -12,18 +12,18 @@ use Rattle.mm_value.specs.Literal.{IsNumeral}
 digits : IsNumeralModel (λ ds. list_all is_ascii_digit ds ≡ true) (digits_value 10)
 digits = numerals_by_value _ (search rules)
 
--- the test of a numeral says that there is a digit and that each byte is one
+-- the test of a numeral means that there is a digit and that each byte is one
 pub numeral_parts : (ds : List ℕ) → IsNumeral ds → (0 < length ds) × AllDigits 10 ds
 numeral_parts ds h = let p = and_parts (ltb 0 (length ds)) (list_all is_ascii_digit ds) h in (ltb-true 0 (length ds) p.0, digits.to ds p.1)
 
 pub numeral_from : (ds : List ℕ) → 0 < length ds → AllDigits 10 ds → IsNumeral ds
 numeral_from ds some all = and_from (ltb 0 (length ds)) (list_all is_ascii_digit ds) (lt-ltb 0 (length ds) some) (digits.from ds all)
 
--- a byte that is no digit stands in no numeral
+-- no numeral contains a byte that is not a digit
 pub AllDigits-other : (ds : List ℕ) (i : ℕ) → i < length ds → IsNotAsciiDigit (get_or ds i 0) → AllDigits 10 ds → ⊥
 AllDigits-other ds i lt other all = let digit = digit_at ds i all lt in omega (arith, digit, other)
 
--- the greatest number takes the place of any above it, one digit on
+-- a number capped at the maximum, one digit longer
 capped : (v d m n : ℕ) → m ≡ min v (2 ^ 64 - 1) → n ≡ min (min (m * 10) (2 ^ 64 - 1) + d) (2 ^ 64 - 1) → n ≡ min (v * 10 + d) (2 ^ 64 - 1)
 capped v d m n is next = omega arith
 

@@ -46,13 +46,13 @@ value_cmp_exact (Int a) (Text b) p = cc
 value_cmp_exact (Text a) (Int b) p = cc
 value_cmp_exact (Text a) (Text b) p = ap Text (exact_bytes a b p)
 
--- the first of two comparisons ties where both together do
+-- the first of two comparisons ties if both together do
 then_first : (a b : Ordering) → ordering_then a b ≡ Equal → a ≡ Equal
 then_first Less b p = p
 then_first Equal b p = refl
 then_first Greater b p = p
 
--- and so does the second
+-- .. and so does the second
 pub then_second : (a b : Ordering) → ordering_then a b ≡ Equal → b ≡ Equal
 then_second Less b p = cc
 then_second Equal b p = p

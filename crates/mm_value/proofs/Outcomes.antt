@@ -1,4 +1,4 @@
--- What a reading of a literal answers, by the outcome.
+-- The results of reading a literal, by outcome.
 use Rattle.std.proofs.Common.{◌≡◌, ◌⊎◌, ◌↔◌, inl, inr, ◌<◌, ◌≤◌, ℕ, List, ◌∷◌, length, Result, Ok, Err, MatchResult, IfOk, IfErr, IsErrOf, Bool, true, false}
 use Rattle.std.proofs.Common.{pos, get_or, ◌≢◌, refl, sym, ap, subst, ◌∙◌, arith}
 use Rattle.std.specs.Int.{w64}
@@ -17,7 +17,7 @@ use Rattle.mm_value.proofs.Limits.{int_within, within_int, text_within, within_t
 use Rattle.mm_value.proofs.Spelling.{Spells-unique, SpellsInt-unique, SpellsInt-no_text, SpellsText-unique, SpellsText-closes, Closes-spells, quote_no_int}
 use Rattle.mm_value.proofs.Spelling.{minus_no_digits, minus_no_text}
 
--- each outcome with what the bytes are
+-- each outcome with the property of the bytes
 abbrev pub Outcome : List ℕ → Result Value Refusal → Type 0
 Outcome bytes (Ok v) = Spells bytes v × IsWithinLimit v
 Outcome bytes (Err e) =
@@ -26,12 +26,12 @@ Outcome bytes (Err e) =
     ⊎ (((e ≡ TextTooLong) × ((text : List ℕ) × SpellsText bytes text × (64 < length text)))
     ⊎ ((e ≡ Memory) × ((text : List ℕ) × SpellsText bytes text × (16 < length text) × (length text ≤ 64)))))
 
--- a number past 64 bits is no value within its limit
+-- a number that exceeds 64 bits is no value within its limit
 range_no_value : (bytes : List ℕ) (z : ℤ) (v : Value) → SpellsInt bytes z → ¬ FitsSigned w64 z → Spells bytes v → IsWithinLimit v → ⊥
 range_no_value bytes z (Int y) p out q within = out (subst (FitsSigned w64) (SpellsInt-unique bytes y z q p) (within_int y within))
 range_no_value bytes z (Text t) p out q within = SpellsInt-no_text bytes z t p q
 
--- nor is a text past 64 bytes
+-- .. and neither is a text of more than 64 bytes
 long_no_value : (bytes text : List ℕ) (v : Value) → SpellsText bytes text → 64 < length text → Spells bytes v → IsWithinLimit v → ⊥
 long_no_value bytes text (Int z) p long q within = SpellsInt-no_text bytes z text q p
 long_no_value bytes text (Text t) p long q within = omega (arith, long, within_text t within, ap length (SpellsText-unique bytes t text q p))
@@ -86,7 +86,7 @@ memory bytes (Err e) (inr (inl h)) f = cc (f, h.0)
 memory bytes (Err e) (inr (inr (inl h))) f = cc (f, h.0)
 memory bytes (Err e) (inr (inr (inr h))) f = (h.1.0, h.1.1, h.1.2)
 
--- the clauses of a reading
+-- the clauses of `read_literal`
 abbrev pub Clauses : List ℕ → Result Value Refusal → Type 0
 Clauses bytes r = record {
   ok : IfOk r (λ v. Spells bytes v × IsWithinLimit v);
@@ -115,7 +115,7 @@ clauses bytes r h = record {
 pub text_read : (bytes body text : List ℕ) → bytes ≡ 39 ∷ body → ReadsText body (Ok text) → Outcome bytes (Ok (Text text))
 text_read bytes body text e h = (subst (λ l. SpellsText l text) (sym e) (Closes-spells body text h.0), text_within text h.1)
 
--- a text that spells bytes after an opening quote closes them
+-- a text whose spelling begins with an opening quote ends the bytes after it
 closed : (bytes body text : List ℕ) → bytes ≡ 39 ∷ body → SpellsText bytes text → Closes body text
 closed bytes body text e h = SpellsText-closes body text (subst (λ l. SpellsText l text) e h)
 
@@ -131,7 +131,7 @@ text_refused bytes body e is (inl h) = inl (h.0, unclosed bytes body is h.1)
 text_refused bytes body e is (inr (inl h)) = inr (inr (inl (h.0, (h.1.0, spelled bytes body h.1.0 is h.1.1, h.1.2))))
 text_refused bytes body e is (inr (inr h)) = inr (inr (inr (h.0, (h.1.0, spelled bytes body h.1.0 is h.1.1, h.1.2, h.1.3))))
 
--- the digits are what stands after a minus, or the bytes, which begin with neither a minus nor a quote
+-- the digits follow a minus, or are all bytes, which begin with neither a minus nor a quote
 abbrev pub IsSigned : Bool → List ℕ → List ℕ → Type 0
 IsSigned true bytes digits = bytes ≡ 45 ∷ digits
 IsSigned false bytes digits = (bytes ≡ digits) × (x : ℕ) × (xs : List ℕ) × (bytes ≡ x ∷ xs) × (x ≢ 39) × (x ≢ 45)
@@ -158,11 +158,11 @@ pub int_refused : (is_negative : Bool) (bytes digits : List ℕ) (r : Refusal) �
 int_refused is_negative bytes digits r e (inl h) = inl (h.0, no_numeral is_negative bytes digits e h.1)
 int_refused is_negative bytes digits r e (inr h) = inr (inl (h.0, (signed_value is_negative digits, numeral_spells is_negative bytes digits e h.1, h.2)))
 
--- the clauses where an error is passed on
+-- the clauses if an error is returned
 pub clauses_passed : (bytes : List ℕ) (r : Result Value Refusal) (e f : Refusal) → r ≡ Err f → f ≡ e → Outcome bytes (Err e) → Clauses bytes r
 clauses_passed bytes r e f is same h = clauses bytes r (subst (Outcome bytes) (sym (is ∙ ap Err same)) h)
 
--- the clauses where a number is read
+-- the clauses if a number is read
 pub clauses_number : (is_negative : Bool) (bytes digits : List ℕ) (z : ℤ) → IsSigned is_negative bytes digits → ReadsInt is_negative digits (Ok z)
     → Clauses bytes (Ok (Int (to_z w64 (of_z w64 z))))
 clauses_number is_negative bytes digits z e h =

@@ -1,4 +1,4 @@
--- The prefixes of values keep their order.
+-- Prefixes preserve the order of values.
 use Rattle.std.proofs.Common.{◌≡◌, ◌<◌, ◌≤◌, ◌<ℤ◌, ◌+◌, ◌-◌, ◌*◌, ◌^◌, ℕ, zero, suc, min, List, [], ◌∷◌, get_or, drop, refl, ap, ◌∙◌, subst, arith, add-one}
 use Rattle.std.proofs.Math.Nat.{mul-le-mul_left, mul-le-mul_right, pow-suc}
 use Rattle.std.specs.Cmp.{ranks, int_ranks}
@@ -35,7 +35,7 @@ pub big_endian_none : (k : ℕ) → big_endian k [] ≡ 0
 big_endian_none zero = refl
 big_endian_none (suc k) = refl
 
--- The first byte stands before what the others spell.
+-- The first byte is more significant than the number of the others.
 next_byte : (k : ℕ) (bytes : List ℕ) (i : ℕ) → get_or bytes i 0 < 256
     → big_endian (suc k) (drop i bytes) ≡ get_or bytes i 0 * 256 ^ k + big_endian k (drop (suc i) bytes)
 next_byte k [] zero small = let none = big_endian_none k in omega (arith, none)
@@ -46,7 +46,7 @@ next_byte k (byte ∷ bytes) zero small =
     omega (arith, more, below, pow-suc 256 k)
 next_byte k (byte ∷ bytes) (suc i) small = next_byte k bytes i small
 
--- the number of the bytes before i, and behind it the places of the others
+-- the number of the bytes before i, followed by the others
 abbrev pub Spelled : List ℕ → ℕ → ℕ → Type 0
 Spelled bytes i number = number * 256 ^ (8 - i) + big_endian (8 - i) (drop i bytes) ≡ big_endian 8 bytes
 
@@ -60,7 +60,7 @@ Spelled-more bytes i number byte within small is so_far =
     let next = next_byte k bytes i (omega (arith, is, small)) in
     rw (then, add-one, is) (omega (arith, was, next, ap (λ w. number * w) (pow-suc 256 k)))
 
--- so there is room for a byte more
+-- so one more byte does not overflow
 pub Spelled-room : (bytes : List ℕ) (i number : ℕ) → i < 8 → Spelled bytes i number → 256 * number + 255 < 2 ^ 64
 Spelled-room bytes i number within so_far =
     let k : ℕ = 7 - i in
@@ -70,11 +70,11 @@ Spelled-room bytes i number within so_far =
     let below = big_endian_below 8 bytes in
     omega (arith, was, some, below, ap (λ w. number * w) (pow-suc 256 k))
 
--- the step of the number that bytes spell
+-- a smaller first byte makes the number no greater
 steps_keep : (x y m n w v : ℕ) → x < y → m < w → min (x * w + m) (v - 1) ≤ min (y * w + n) (v - 1)
 steps_keep x y m n w v less below = let more = mul-le-mul_right {m = x + 1} {n = y} w (omega arith) in omega (arith, more, below)
 
--- texts that come first spell no greater numbers
+-- texts that precede have no greater numbers
 texts_keep : (k : ℕ) (a b : List ℕ) → slice_cmp nat_cmp a b ≡ Less → big_endian k a ≤ big_endian k b
 texts_keep zero a b less = omega arith
 texts_keep (suc k) [] b less = omega arith

@@ -13,13 +13,13 @@ doubled-append xs ys = flat_map-append doubled_byte xs ys
 pub doubled_other : (x : ℕ) (xs : List ℕ) → x ≢ 39 → doubled (x ∷ xs) ≡ x ∷ doubled xs
 doubled_other x xs ne = ap (λ b. cond b (39 ∷ 39 ∷ []) (x ∷ []) ++ doubled xs) (ne_eqb x 39 ne)
 
--- bytes without a quote stay as they are
+-- bytes without a quote are unchanged
 pub doubled_none : (xs : List ℕ) → ((k : ℕ) → k < length xs → get_or xs k 0 ≢ 39) → doubled xs ≡ xs
 doubled_none [] h = refl
 doubled_none (x ∷ xs) h =
     doubled_other x xs (h 0 (omega arith)) ∙ ap (λ l. x ∷ l) (doubled_none xs (λ k lt. h (suc k) (omega arith)))
 
--- a piece up to the first quote, that quote twice, and what follows
+-- a piece up to the first quote, that quote doubled, and the rest
 pub doubled_piece : (xs : List ℕ) (i : ℕ) → i < length xs → get_or xs i 0 ≡ 39 → ((k : ℕ) → k < i → get_or xs k 0 ≢ 39)
     → doubled xs ≡ take i xs ++ (39 ∷ 39 ∷ doubled (drop 1 (drop i xs)))
 doubled_piece xs i lt at before =
@@ -32,11 +32,11 @@ doubled_piece xs i lt at before =
     before k k_below (sym (get_or-take i xs k 0 k_below) ∙ e)) in
     ap doubled split ∙ doubled-append (take i xs) (39 ∷ drop 1 (drop i xs)) ∙ ap (λ l. l ++ (39 ∷ 39 ∷ doubled (drop 1 (drop i xs)))) stays
 
--- where no quote is found
+-- no quote is found
 pub doubled_unfound : (xs : List ℕ) → IsFirstByte (is_byte 39) xs None → doubled xs ≡ xs
 doubled_unfound xs none = doubled_none xs (λ k lt e. none k (omega arith) lt (eq-eqb (get_or xs k 0) 39 e))
 
--- what was written of a text, one piece on
+-- the written part of a text, one piece longer
 pub doubled_more : (text written rest piece others : List ℕ) (i : ℕ) → doubled text ≡ written ++ doubled rest
     → IsFirstByte (is_byte 39) rest (Some i) → piece ≡ take i rest → others ≡ drop i rest
     → doubled text ≡ (written ++ (piece ++ 39 ∷ 39 ∷ [])) ++ doubled (drop 1 others)

@@ -1,4 +1,4 @@
--- The text of values that stand one after another.
+-- The text of values one after another.
 use Rattle.std.proofs.Common.{◌≡◌, ◌<◌, ◌≤◌, ℕ, ◌+◌, List, [], ◌∷◌, ◌++◌, length, map, get_or, take, drop, refl, sym, ap, ◌∙◌}
 use Rattle.std.proofs.Common.{append-nil, append_assoc, take-append-drop}
 use Rattle.std.specs.List.{flat_map}
@@ -15,7 +15,7 @@ pub values_text-cons : (v : Value) (vs : List Value) → values_text (v ∷ vs) 
 values_text-cons v [] = sym (append-nil (value_text v))
 values_text-cons v (w ∷ ws) = ap (λ l. value_text v ++ 44 ∷ 32 ∷ l) (values_text-cons w ws)
 
--- a first text, the texts of i items, that of the next one, and those of the rest
+-- a first text, the texts of i items, that of the next one, and those of the remaining ones
 texts_at : {T : Type 0} (text : T → List ℕ) (first : List ℕ) (others : List T) (i : ℕ) (v : T) → i < length others → v ≡ get_or others i v
     → first ++ flat_map text others ≡ ((first ++ flat_map text (take i others)) ++ text v) ++ flat_map text (drop (i + 1) others)
 texts_at text first others i v lt at =
@@ -32,7 +32,7 @@ texts_all : {T : Type 0} (text : T → List ℕ) (first : List ℕ) (others : Li
     → first ++ flat_map text others ≡ first ++ flat_map text (take i others)
 texts_all text first others i end = ap (λ l. first ++ flat_map text l) (sym (take_all i others end))
 
--- a value after another one, read from where it is
+-- a value after another one, by reference
 abbrev pub next_text_of : {T : Type 0} → (T → Value) → T → List ℕ
 next_text_of value v = next_text (value v)
 
@@ -56,19 +56,19 @@ module _ {T : Type 0} (value : T → Value) (values : List T) (first : T) (other
       ∙ values_text-cons (value first) (map value others)
       ∙ ap (λ l. value_text (value first) ++ l) (next_texts value others)
 
-  -- the first value, the i values after it, the next one, and the rest of them
+  -- the first value, the i values after it, the next one, and the remaining ones
   pub values_text_at : (i : ℕ) (v : T) → i < length others → v ≡ get_or others i v
       → values_text (map value values)
       ≡ ((value_text (value first) ++ flat_map (next_text_of value) (take i others)) ++ next_text_of value v)
       ++ flat_map (next_text_of value) (drop (i + 1) others)
   values_text_at i v lt at = values_text-split ∙ texts_at (next_text_of value) (value_text (value first)) others i v lt at
 
-  -- the first value, and all i after it
+  -- the first value, and the i values after it
   pub values_text_all : (i : ℕ) → length others ≤ i
       → values_text (map value values) ≡ value_text (value first) ++ flat_map (next_text_of value) (take i others)
   values_text_all i end = values_text-split ∙ texts_all (next_text_of value) (value_text (value first)) others i end
 
--- values that are read from themselves
+-- values as references to themselves
 pub values_themselves : (values : List Value) → map (λ (v : Value). v) values ≡ values
 values_themselves [] = refl
 values_themselves (v ∷ vs) = ap (λ l. v ∷ l) (values_themselves vs)

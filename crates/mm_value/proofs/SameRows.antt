@@ -1,4 +1,4 @@
--- Equality holds of one value, and of one row, alone.
+-- Equality holds only of equal values and equal rows.
 use Rattle.std.proofs.Common.{◌≡◌, true, List, subst}
 use Rattle.std.specs.Bool.{Decides}
 use Rattle.std.proofs.lemmas.Map.Views.{tells_apart}

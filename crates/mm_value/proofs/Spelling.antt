@@ -32,11 +32,11 @@ quote_no_int bytes body z e (inr h) =
     differ : ◌≡◌ {A = ℕ} 39 45 → ⊥
     differ g = omega arith
 
--- a minus begins no digits
+-- digits do not begin with a minus
 pub minus_no_digits : (bytes ds : List ℕ) → bytes ≡ 45 ∷ ds → IsNumeral bytes → ⊥
 minus_no_digits bytes ds e h = omega (arith, digits_head 45 ds bytes e (numeral_parts bytes h).1)
 
--- nor a text
+-- .. and neither does a text
 pub minus_no_text : (bytes ds text : List ℕ) → bytes ≡ 45 ∷ ds → SpellsText bytes text → ⊥
 minus_no_text bytes ds text e h = absurd (differ (ap (λ l. get_or l 0 0) (sym e ∙ h.0)))
   where
@@ -49,7 +49,7 @@ SpellsInt-unique bytes y z (inl p) (inr q) = absurd (minus_no_digits bytes q.0 q
 SpellsInt-unique bytes y z (inr p) (inl q) = absurd (minus_no_digits bytes p.0 p.1 q.0)
 SpellsInt-unique bytes y z (inr p) (inr q) = let e : p.0 ≡ q.0 = cc (p.1, q.1) in p.3 ∙ ap (λ ds. neg_ℤ (pos (digits_value 10 ds))) e ∙ sym q.3
 
--- a text between quotes is an opening quote and what closes it
+-- a text in quotes is an opening quote and the bytes that end it
 pub SpellsText-closes : (body text : List ℕ) → SpellsText (39 ∷ body) text → Closes body text
 SpellsText-closes body text h = record { spelled = let e = h.0 in cc; one_line = h.1 }
 
@@ -62,7 +62,7 @@ SpellsText-unique bytes text other p q =
     let e : quoted other ≡ quoted text = sym q.0 ∙ p.0 in
     Closes-unique body text other (record { spelled = refl; one_line = p.1 }) (record { spelled = cc; one_line = q.1 })
 
--- no bytes spell a number and a text
+-- no bytes spell both a number and a text
 pub SpellsInt-no_text : (bytes : List ℕ) (z : ℤ) (text : List ℕ) → SpellsInt bytes z → SpellsText bytes text → ⊥
 SpellsInt-no_text bytes z text p q = quote_no_int bytes (doubled text ++ 39 ∷ []) z q.0 p
 

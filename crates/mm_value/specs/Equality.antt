@@ -1,4 +1,4 @@
--- When two values or two rows are one, and what a hasher is given of them.
+-- Equality of values and rows, and the input of hashers.
 use Rattle.std.specs.Prelude.{ℕ, Bool, List, [], ◌∷◌}
 use Rattle.std.specs.Hash.{HashWrites, i64, slice}
 use Rattle.std.specs.Ordering.{is_eq}
@@ -6,11 +6,11 @@ use Rattle.mm_value.specs.Order.{value_cmp, row_cmp}
 use Rattle.mm_value.specs.declared.values.Value.{Value}
 use Rattle.mm_value.specs.declared.values.Value.TheVariants.{Int, Text}
 
--- Two values are one: they tie in the value order.
+-- Two values are equal: they tie in the value order.
 abbrev pub same_value : Value → Value → Bool
 same_value a b = is_eq (value_cmp a b)
 
--- Two rows are one: they tie in the row order.
+-- Two rows are equal: they tie in the row order.
 abbrev pub same_row : List Value → List Value → Bool
 same_row a b = is_eq (row_cmp a b)
 

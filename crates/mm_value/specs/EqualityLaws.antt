@@ -1,4 +1,4 @@
--- The laws that equality and hash owe: equality is an equivalence, and equal values are hashed alike.
+-- The laws of equality and hash: equality is an equivalence, and equal values are hashed alike.
 use Rattle.std.specs.Prelude.{◌≡◌, ℕ, true, List}
 use Rattle.std.proofs.Common.{refl, ap, sym, subst, ◌∙◌}
 use Rattle.std.specs.Cmp.{IsEquivalence, int_eq_equiv, signed_Decides}
@@ -32,7 +32,7 @@ alike (Text a) (Text b) (Text c) h =
 pub same_value_equiv : IsEquivalence same_value
 same_value_equiv = record { refl = itself; symm = turned; congr = alike }
 
--- Rows are one where they are equally long and their values are the same at each place.
+-- Rows are equal if and only if they have the same length and equal values at each position.
 pub rows_by_values : (a b : List Value) → pointwise same_value a b ≡ same_row a b
 rows_by_values = lists_ties value_cmp (λ a b. refl)
 

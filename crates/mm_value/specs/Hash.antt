@@ -5,11 +5,11 @@ use Rattle.std.specs.Int.Bits.{bit_xor}
 use Rattle.mm_value.specs.declared.values.Value.{Value}
 use Rattle.mm_value.specs.declared.values.Value.TheVariants.{Int, Text}
 
--- A byte goes in by an exclusive or, and then a product with the prime.
+-- One step: exclusive or with the byte, and multiplication by the prime.
 abbrev pub with_byte : ℕ → ℕ → ℕ
 with_byte hash byte = (bit_xor hash byte * 1099511628211) % 2 ^ 64
 
--- The hash of bytes, from the offset basis on.
+-- The hash of bytes, starting with the offset basis.
 abbrev pub bytes_hash : List ℕ → ℕ
 bytes_hash bytes = fold with_byte 14695981039346656037 bytes
 

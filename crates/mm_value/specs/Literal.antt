@@ -32,11 +32,11 @@ doubled bytes = flat_map doubled_byte bytes
 abbrev pub quoted : List ℕ → List ℕ
 quoted bytes = 39 ∷ doubled bytes ++ 39 ∷ []
 
--- A text is spelled between quotes. No byte of it is a line feed.
+-- A text is spelled between quotes, and has no line feed.
 abbrev pub SpellsText : List ℕ → List ℕ → Type 0
 SpellsText bytes text = (bytes ≡ quoted text) × All (λ b. b ≢ 10) text
 
--- The bytes are one literal of this value, and nothing beside it, whatever its size.
+-- The bytes are exactly one literal of this value, of any size.
 abbrev pub Spells : List ℕ → Value → Type 0
 Spells bytes (Int z) = SpellsInt bytes z
 Spells bytes (Text text) = SpellsText bytes text
@@ -51,6 +51,6 @@ abbrev pub is_within_limit : Value → Bool
 is_within_limit (Int z) = fits_64_bits z
 is_within_limit (Text text) = nat_le (length text) 64
 
--- The value passes no limit.
+-- The value is within its limit.
 abbrev pub IsWithinLimit : Value → Type 0
 IsWithinLimit value = IsTrue (is_within_limit value)

@@ -7,13 +7,13 @@ use Rattle.std.specs.declared.cmp.Ordering.TheVariants.{Less, Greater}
 use Rattle.mm_value.specs.declared.values.Value.{Value}
 use Rattle.mm_value.specs.declared.values.Value.TheVariants.{Int, Text}
 
--- Value order: whole numbers by value, texts by their bytes, a whole number before a text.
+-- Value order: whole numbers by value, texts by their bytes, whole numbers before texts.
 abbrev pub value_cmp : Value → Value → Ordering
 value_cmp (Int a) (Int b) = int_cmp a b
 value_cmp (Int a) (Text b) = Less
 value_cmp (Text a) (Int b) = Greater
 value_cmp (Text a) (Text b) = slice_cmp nat_cmp a b
 
--- Row order: by the values from left to right (the lexicographic order).
+-- Row order: lexicographic, by the values from left to right.
 abbrev pub row_cmp : List Value → List Value → Ordering
 row_cmp = slice_cmp value_cmp

@@ -1,4 +1,4 @@
--- What the steps of reading a literal give.
+-- The results of the steps of reading a literal.
 use Rattle.std.specs.Prelude.{◌≡◌, ◌≢◌, ◌⊎◌, ℕ, ◌<◌, ◌≤◌, Bool, true, false, List, [], ◌∷◌, ◌++◌, length, take, pos, All, Option, MatchOption, Result}
 use Rattle.std.specs.Prelude.{MatchResult, FitsSigned}
 use Rattle.std.specs.Int.{w64}
@@ -10,36 +10,36 @@ use Rattle.mm_value.specs.declared.literals.Head.{Head}
 use Rattle.mm_value.specs.declared.literals.Head.TheVariants.{Byte, End, Fault}
 use Rattle.mm_value.specs.Literal.{IsNumeral, doubled_byte, doubled}
 
--- The number of digits that follow a minus, or that follow none.
+-- The value of digits, negated or not.
 abbrev pub signed_value : Bool → List ℕ → ℤ
 signed_value true digits = neg_ℤ (pos (digits_value 10 digits))
 signed_value false digits = pos (digits_value 10 digits)
 
--- Digits give their number, where it fits 64 bits.
+-- Digits read as their value, if it fits into 64 bits.
 abbrev pub ReadsInt : Bool → List ℕ → Result ℤ Refusal → Type 0
 ReadsInt is_negative digits result = MatchResult result
     (λ z. IsNumeral digits × (z ≡ signed_value is_negative digits) × FitsSigned w64 z)
     (λ e. ((e ≡ Syntax) × ¬ IsNumeral digits)
     ⊎ ((e ≡ NumberOutOfRange) × IsNumeral digits × ¬ FitsSigned w64 (signed_value is_negative digits)))
 
--- What follows the opening quote is this text, each quote in it doubled, and the closing quote.
+-- The bytes after an opening quote are this text, with each quote in it doubled, and the closing quote.
 pub record Closes (body text : List ℕ) : Type 0 where
   pub spelled : body ≡ doubled text ++ 39 ∷ []
   pub one_line : All (λ b. b ≢ 10) text
 
--- What stands first in the rest of a text between quotes.
+-- The first piece inside a text in quotes.
 abbrev pub IsHead : List ℕ → Head → Type 0
 IsHead rest (Byte b tail) = (rest ≡ doubled_byte b ++ tail.now) × (b ≢ 10)
 IsHead rest End = rest ≡ 39 ∷ []
 IsHead rest Fault = (text : List ℕ) → Closes rest text → ⊥
 
--- The length of the text, which stands in the buffer where it has room.
+-- The length of the text. The buffer contains the text, if it fits.
 abbrev pub Unquotes : List ℕ → List ℕ → Option ℕ → Type 0
 Unquotes body buffer result = MatchOption result
     ((text : List ℕ) → Closes body text → ⊥)
     (λ n. (text : List ℕ) × Closes body text × (n ≡ length text) × (n ≤ length buffer → take n buffer ≡ text))
 
--- A body gives its text, where that has at most 64 bytes.
+-- The bytes after an opening quote read as their text, if it has at most 64 bytes.
 abbrev pub ReadsText : List ℕ → Result (List ℕ) Refusal → Type 0
 ReadsText body result = MatchResult result
     (λ text. Closes body text × (length text ≤ 64))

@@ -7,7 +7,7 @@ use Rattle.mm_value.specs.declared.refusal.Refusal.TheVariants.{ArithmeticOutOfR
 use Rattle.mm_value.specs.declared.refusal.Refusal.TheVariants.{ResultTooLarge, StandingListTooLarge, TooMany, TransactionOpen, NoTransaction}
 use Rattle.mm_value.specs.declared.refusal.Refusal.TheVariants.{NotInTransaction, NoSuchSavepoint, Memory}
 
--- The number by which a refusal is known.
+-- The number of a refusal.
 abbrev pub refusal_number : Refusal → ℕ
 refusal_number LineTooLong = 10
 refusal_number Syntax = 11
@@ -37,7 +37,7 @@ refusal_number NotInTransaction = 52
 refusal_number NoSuchSavepoint = 53
 refusal_number Memory = 90
 
--- What a refusal says.
+-- The text of a refusal.
 abbrev pub refusal_text : Refusal → List ℕ
 refusal_text LineTooLong = codes "line too long"
 refusal_text Syntax = codes "syntax"

@@ -1,4 +1,4 @@
--- What every value of the program meets.
+-- Limits that every value of the program satisfies.
 use Rattle.std.specs.Prelude.{◌≤◌, All, FitsSigned, List, length}
 use Rattle.std.specs.Int.{w64}
 use Rattle.mm_value.specs.declared.values.Value.{Value}
@@ -10,11 +10,11 @@ abbrev pub IsStorable : Value → Type 0
 IsStorable (Int z) = FitsSigned w64 z
 IsStorable (Text text) = IsText text
 
--- So is each of the values.
+-- Each of the values is storable.
 abbrev pub AreStorable : List Value → Type 0
 AreStorable values = All IsStorable values
 
--- The value needs no memory of its own: a whole number, or a text of at most 16 bytes.
+-- The value needs no allocation: a whole number, or a text of at most 16 bytes.
 abbrev pub LiesInline : Value → Type 0
 LiesInline (Int z) = Unit {0}
 LiesInline (Text text) = length text ≤ 16

@@ -1,4 +1,4 @@
--- What a text is.
+-- Texts.
 use Rattle.std.specs.Prelude.{◌≢◌, ℕ, ◌≤◌, List, length, All}
 
 -- at most 64 bytes, none of them a line feed

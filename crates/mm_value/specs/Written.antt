@@ -1,4 +1,4 @@
--- How values and rows are printed.
+-- The text of values and rows.
 use Rattle.std.specs.Prelude.{ℕ, List, [], ◌∷◌, ◌++◌}
 use Rattle.std.specs.Fmt.{signed_decimal}
 use Rattle.mm_value.specs.declared.values.Value.{Value}
@@ -10,7 +10,7 @@ abbrev pub value_text : Value → List ℕ
 value_text (Int z) = signed_decimal z
 value_text (Text text) = quoted text
 
--- The values, a comma and a space between each two.
+-- The values, separated by a comma and a space.
 abbrev pub values_text : List Value → List ℕ
 values_text [] = []
 values_text (v ∷ []) = value_text v

@@ -1,4 +1,4 @@
-//! Rows and references to them, as one.
+//! A common trait for rows and references to them.
 ghost use Rattle.std.specs.Prelude.{◌≡◌, ◌<◌, List, Some, length, slice_get};
 ghost use Rattle.std.specs.Option.{option_map};
 ghost use Rattle.mm_value.specs.Views.{value_of};
@@ -8,20 +8,20 @@ use crate::row::Row;
 use crate::value_ref::ValueRef;
 use crate::values::Value;
 
-/// What a row can be read from.
+/// A source of a row.
 pub trait AsRow {
     ghost row: { Self → List AnyValue };
 
-    /// How many values the row has.
+    /// Returns the number of values of the row.
     fn len(&self) -> usize
         ensures { result ≡ length (row self.now) };
 
-    /// The value at a position, counted from 0.
+    /// Returns the value at a position, counted from 0.
     fn value(&self, i: usize) -> ValueRef<'_>
         requires { i < length (row self.now) }
         ensures { slice_get (row self.now) i ≡ Some (value_of result) };
 
-    /// The value at a position, counted from 0, if the row has one there.
+    /// Returns the value at a position, counted from 0, or `None` if the row has none there.
     #[inline(always)]
     fn get(&self, i: usize) -> Option<ValueRef<'_>>
         ensures { option_map value_of result ≡ slice_get (row self.now) i }

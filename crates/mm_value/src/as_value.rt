@@ -1,4 +1,4 @@
-//! Values and references to them, as one.
+//! A common trait for values and references to them.
 ghost use Rattle.std.specs.Prelude.{◌≡◌};
 ghost use Rattle.mm_value.specs.Views.{value_of};
 ghost use Rattle.mm_value.specs.declared.values.Value.{Value as AnyValue};
@@ -6,11 +6,11 @@ ghost use Rattle.mm_value.specs.declared.values.Value.{Value as AnyValue};
 use crate::value_ref::ValueRef;
 use crate::values::Value;
 
-/// What a value can be read from.
+/// A source of a value.
 pub trait AsValue {
     ghost value: { Self → AnyValue };
 
-    /// The value to read.
+    /// Returns a reference to the value.
     fn as_value(&self) -> ValueRef<'_>
         ensures { value_of result ≡ value self.now };
 }

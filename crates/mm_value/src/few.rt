@@ -1,4 +1,4 @@
-//! Lists that have one item as a rule, which takes no block.
+//! Lists that store a single item inline.
 ghost use Rattle.std.specs.Prelude.{◌≡◌, ◌∷◌, ◌++◌, ◌≤◌, [], IfOk, IsOk, OnErr, OnOk};
 ghost use Rattle.std.specs.Iterator.{YieldsFirst, item_count};
 ghost use Rattle.std.specs.Mem.{FitsInMemory};
@@ -7,19 +7,18 @@ use std::alloc::{AllocError, Global};
 use std::marker::Model;
 use std::{mem, slice, vec};
 
-/// Items, one after another, of which an only one lies in the value itself: the tests of a WHERE, the rows of an INSERT, or the edits of
-/// a table.
+/// A list that stores a single item inline: the tests of a WHERE, the rows of an INSERT, or the edits of a table.
 #[derive(Debug, Drop)]
 pub struct Few<T> {
     items: Items<T>,
 }
 
-/// Where the items of a list lie.
+/// The representation of a list.
 #[derive(Debug, Drop)]
 enum Items<T> {
-    /// There is one.
+    /// A single item.
     One(T),
-    /// There are so many.
+    /// Any number of items.
     Many(Vec<T>),
 }
 
@@ -33,7 +32,7 @@ impl<T> Model for Few<T> {
 }
 
 impl<T> Few<T> {
-    /// The list of one item. It takes no memory.
+    /// Returns the list of one item. Allocates nothing.
     pub fn one(item: T) -> Few<T>
         ensures { result ≡ item ∷ [] }
     {
@@ -42,7 +41,7 @@ impl<T> Few<T> {
         }
     }
 
-    /// The list of these items, in their order. It takes no memory.
+    /// Returns the list of these items in their order. Allocates nothing.
     pub fn from_vec(items: Vec<T>) -> Few<T>
         ensures { result ≡ items.items }
     {
@@ -51,7 +50,7 @@ impl<T> Few<T> {
         }
     }
 
-    /// The items, in their order.
+    /// Returns the items in order.
     pub fn as_slice(&self) -> &[T]
         requires { FitsInMemory T.row }
         ensures { result.now ≡ self.now }
@@ -64,7 +63,7 @@ impl<T> Few<T> {
 }
 
 impl<T: Drop> Few<T> {
-    /// No items, and room for so many. `AllocError` where memory is refused for more than one.
+    /// Returns an empty list with capacity for `count` items. Fails with `AllocError` if an allocation for more than one item fails.
     pub fn with_capacity(alloc: Global, count: usize) -> Result<Few<T>, AllocError>
         ensures ok { IfOk result (λ few. few ≡ []) }
         ensures one { count ≤ 1 → IsOk result }
@@ -75,7 +74,7 @@ impl<T: Drop> Few<T> {
         Ok(Few::from_vec(Vec::with_capacity(alloc, count)?))
     }
 
-    /// Puts an item behind the others. `AllocError` where memory is refused, and then the list is as before.
+    /// Appends an item. Fails with `AllocError` if an allocation fails; the list is then unchanged. Never fails for the first item.
     pub fn push(&mut self, alloc: Global, item: T) -> Result<(), AllocError>
         ensures ok { OnOk result (self.new ≡ self.old ++ item ∷ []) }
         ensures err { OnErr result (self.new ≡ self.old) }
@@ -100,18 +99,18 @@ impl<T: Drop> Few<T> {
     }
 }
 
-/// The items of a list by value, seen as the list of those that are left.
+/// An iterator over the owned items of a list. The model is the list of the remaining items.
 #[derive(Drop)]
 pub struct FewIntoIter<T> {
     left: Left<T>,
 }
 
-/// Where the items that are left lie.
+/// The representation of the remaining items.
 #[derive(Drop)]
 enum Left<T> {
-    /// There was one.
+    /// A list of a single item, which may have been returned.
     One(Option<T>),
-    /// There were so many.
+    /// A list of any number of items.
     Many(vec::IntoIter<T>),
 }
 

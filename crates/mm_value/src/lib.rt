@@ -1,4 +1,4 @@
-//! Values and rows: their order, their text both ways, and the refusals of a command.
+//! Values and rows: their order, their text in both directions, and the refusals of commands.
 #![tactic(auto)]
 
 mod as_row;

@@ -25,7 +25,7 @@ impl Model for Row {
 }
 
 impl Row {
-    /// A row of these values.
+    /// Returns a row of these values.
     pub fn new(values: Vec<Value>) -> Row
         ensures { result ≡ values.items }
     {
@@ -35,21 +35,21 @@ impl Row {
         Self { values }
     }
 
-    /// A law of each row: its whole numbers have 64 bits, and its texts at most 64 bytes without a line feed. It does nothing.
+    /// Lemma: whole numbers of a row have 64 bits, and its texts have at most 64 bytes and no line feed. The call does nothing.
     pub fn is_storable(&self)
         ensures { AreStorable self.now }
     {
         let _values = &self.values;
     }
 
-    /// How many values it has.
+    /// Returns the number of values.
     pub fn len(&self) -> usize
         ensures { result ≡ length self.now }
     {
         self.values.len()
     }
 
-    /// The value at a position, counted from 0.
+    /// Returns the value at a position, counted from 0.
     pub fn value(&self, i: usize) -> &Value
         requires { i < length self.now }
         ensures { slice_get self.now i ≡ Some result.now }
@@ -57,14 +57,14 @@ impl Row {
         &self.values[i]
     }
 
-    /// The values, from left to right.
+    /// Returns the values, from left to right.
     pub fn values(&self) -> &[Value]
         ensures { result.now ≡ self.now }
     {
         self.values.as_slice()
     }
 
-    /// The values, from left to right, each for the caller to keep.
+    /// Returns the owned values, from left to right.
     pub fn into_values(self) -> Vec<Value>
         ensures { result.items ≡ self }
     {
@@ -72,14 +72,14 @@ impl Row {
         values
     }
 
-    /// A row of the same values. `AllocError` where memory is refused for the list of them or for a text.
+    /// Returns a copy of the row. Fails with `AllocError` if an allocation fails, for the list of values or for a text.
     pub fn copy(&self, alloc: Global) -> Result<Row, AllocError>
         ensures ok { IfOk result (λ row. row ≡ self.now) }
     {
         Row::copy_of(alloc, self.values())
     }
 
-    /// A row of copies of these values. `AllocError` where memory is refused for the list of them or for a text.
+    /// Returns a row of copies of these values. Fails with `AllocError` if an allocation fails, for the list of values or for a text.
     pub fn copy_of(alloc: Global, values: &[Value]) -> Result<Row, AllocError>
         ensures ok { IfOk result (λ row. row ≡ values.now) }
     {

@@ -8,7 +8,7 @@ use smallvec::SmallVec;
 use std::alloc::{AllocError, Global};
 use std::marker::Model;
 
-/// A text: 0 to 64 bytes, any but a line feed. Up to 16 bytes lie in the value itself.
+/// A text: 0 to 64 bytes, any except a line feed. Up to 16 bytes are stored inline.
 #[derive(Debug, Drop)]
 pub struct Text {
     bytes: SmallVec<u8, 16>,
@@ -25,12 +25,12 @@ impl Model for Text {
     ghost invariant = { λ t. IsText t.bytes.items };
 }
 
-/// The most bytes that a text has.
+/// The maximum length of a text in bytes.
 pub const MAX_TEXT_BYTES: usize = 64;
 
 impl Text {
-    /// A text of these bytes. `TextTooLong` where there are more than 64, else `Syntax` where one is a line feed;
-    /// `Memory` is answered only for more than 16.
+    /// Returns a text of these bytes. Fails with `TextTooLong` if there are more than 64, and otherwise with `Syntax` if one is a line
+    /// feed. Fails with `Memory` only for more than 16 bytes.
     pub fn new(alloc: Global, bytes: &[u8]) -> Result<Text, Refusal>
         ensures ok { IfOk result (λ text. text ≡ bytes.now) }
         ensures too_long { IsErrOf result Refusal.TextTooLong ↔ (64 < length bytes.now) }
@@ -50,7 +50,7 @@ impl Text {
         })
     }
 
-    /// The text of no bytes. It takes no memory.
+    /// Returns the empty text. Allocates nothing.
     pub fn empty(alloc: Global) -> Text
         ensures { result ≡ [] }
     {
@@ -59,7 +59,7 @@ impl Text {
         }
     }
 
-    /// The bytes of the text: at most 64, and no line feed among them.
+    /// Returns the bytes of the text: at most 64, and no line feed.
     pub fn bytes(&self) -> &[u8]
         ensures value { result.now ≡ self.now }
         ensures is_text { IsText self.now }
@@ -67,7 +67,7 @@ impl Text {
         self.bytes.as_slice()
     }
 
-    /// A text of the same bytes. `AllocError` where memory is refused; only more than 16 bytes take any.
+    /// Returns a copy of the text. Fails with `AllocError` if an allocation fails; only more than 16 bytes need one.
     pub fn copy(&self, alloc: Global) -> Result<Text, AllocError>
         ensures ok { IfOk result (λ text. text ≡ self.now) }
         ensures short { length self.now ≤ 16 → IsOk result }

@@ -1,4 +1,4 @@
-//! The tuples of an INSERT.
+//! The tuples of INSERT.
 ghost use Rattle.std.specs.Prelude.{◌≡◌, ◌<◌, ◌≤◌, ◌++◌, ◌∷◌, [], length, IfOk, IsOk, OnErr, OnOk};
 ghost use Rattle.mm_value.specs.Storable.{AreStorable};
 
@@ -7,8 +7,8 @@ use smallvec::SmallVec;
 use std::alloc::{AllocError, Global};
 use std::marker::Model;
 
-/// The values that an INSERT gives a row, from left to right, on their way into the columns of its table. Up to 4 lie in the tuple
-/// itself, so it takes no block.
+/// The values of one row of an INSERT, from left to right, before they are moved into the columns of its table. Up to 4 values are stored
+/// inline.
 #[derive(Debug, Drop)]
 pub struct Tuple {
     values: SmallVec<Value, 4>,
@@ -27,7 +27,7 @@ impl Model for Tuple {
 }
 
 impl Tuple {
-    /// No values, and room for so many. `AllocError` where memory is refused for more than 4.
+    /// Returns an empty tuple with capacity for `count` values. Fails with `AllocError` if an allocation for more than 4 values fails.
     pub fn with_capacity(alloc: Global, count: usize) -> Result<Tuple, AllocError>
         ensures ok { IfOk result (λ tuple. tuple ≡ []) }
         ensures few { count ≤ 4 → IsOk result }
@@ -37,14 +37,14 @@ impl Tuple {
         })
     }
 
-    /// Puts a value behind the others. `AllocError` where memory is refused for more than 4, and then the tuple is as before.
+    /// Appends a value. Fails with `AllocError` if an allocation for more than 4 values fails; the tuple is then unchanged.
     pub fn push(&mut self, value: Value) -> Result<(), AllocError>
         ensures ok { OnOk result (self.new ≡ self.old ++ value ∷ []) }
         ensures err { OnErr result (self.new ≡ self.old) }
         ensures few { length self.old < 4 → IsOk result }
     {
         value.is_storable();
-        // It is at least 4.
+        // The contract of `capacity` implies that it is at least 4.
         let _room = self.values.capacity();
         match self.values.push(value) {
             Ok(()) => Ok(()),
@@ -52,28 +52,28 @@ impl Tuple {
         }
     }
 
-    /// A law of each tuple: its whole numbers have 64 bits, and its texts at most 64 bytes without a line feed. It does nothing.
+    /// Lemma: whole numbers of a tuple have 64 bits, and its texts have at most 64 bytes and no line feed. The call does nothing.
     pub fn is_storable(&self)
         ensures { AreStorable self.now }
     {
         let _values = &self.values;
     }
 
-    /// How many values it has.
+    /// Returns the number of values.
     pub fn len(&self) -> usize
         ensures { result ≡ length self.now }
     {
         self.values.len()
     }
 
-    /// The values, from left to right.
+    /// Returns the values, from left to right.
     pub fn values(&self) -> &[Value]
         ensures { result.now ≡ self.now }
     {
         self.values.as_slice()
     }
 
-    /// The values, from left to right, each for the caller to keep.
+    /// Returns the owned values, from left to right.
     pub fn into_values(self) -> SmallVec<Value, 4>
         ensures { result.items ≡ self }
     {
@@ -81,7 +81,7 @@ impl Tuple {
         values
     }
 
-    /// Copies of these values. `AllocError` where memory is refused for a text, or for more than 4 of them.
+    /// Returns copies of these values. Fails with `AllocError` if an allocation fails, for a text or for more than 4 values.
     pub fn copy_of(alloc: Global, values: &[Value]) -> Result<Tuple, AllocError>
         ensures ok { IfOk result (λ tuple. tuple ≡ values.now) }
     {

@@ -1,4 +1,4 @@
-//! Values where they stand.
+//! References to values.
 ghost use Rattle.std.specs.Prelude.{◌≡◌, IfOk, IsOk};
 ghost use Rattle.mm_value.specs.Storable.{LiesInline};
 ghost use Rattle.mm_value.specs.Views.{value_of};
@@ -7,7 +7,7 @@ use crate::short_text::Text;
 use crate::values::Value;
 use std::alloc::{AllocError, Global};
 
-/// A value to read, wherever it stands: a number itself, or a text by reference.
+/// A value in place: a number itself, or a reference to a text.
 #[derive(Clone, Copy, Debug)]
 pub enum ValueRef<'a> {
     /// A whole number.
@@ -17,7 +17,7 @@ pub enum ValueRef<'a> {
 }
 
 impl Value {
-    /// The value to read.
+    /// Returns a reference to the value.
     #[inline(always)]
     pub fn as_ref(&self) -> ValueRef<'_>
         ensures { value_of result ≡ self.now }
@@ -30,7 +30,7 @@ impl Value {
 }
 
 impl<'a> ValueRef<'a> {
-    /// The same value, as one of its own. `AllocError` where memory is refused; only a text of more than 16 bytes takes any.
+    /// Returns a copy of the value. Fails with `AllocError` if an allocation fails; only a text of more than 16 bytes needs one.
     pub fn copy(&self, alloc: Global) -> Result<Value, AllocError>
         ensures ok { IfOk result (λ value. value ≡ value_of self.now) }
         ensures inline { LiesInline (value_of self.now) → IsOk result }

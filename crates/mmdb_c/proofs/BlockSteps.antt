@@ -1,4 +1,4 @@
--- What the proofs on a block share.
+-- Parts shared by the proofs about a block.
 use mathlib.Core.Path.{◌≡◌, refl, sym, ap, subst}
 use mathlib.Core.List.{List, [], ◌∷◌, ◌++◌}
 use Prim.Native.Nat.{ℕ}
@@ -25,7 +25,7 @@ use Rattle.mmdb_c.specs.declared.block.Block.{Block}
 use Rattle.mmdb_c.specs.Owning.{block_owns}
 use Rattle.mmdb_c.specs.contracts.block.Block as block
 
--- what a call passes for the two type parameters, the first of which can be dropped
+-- the arguments of a call for the two type parameters, the first of which can be dropped
 abbrev pub passed : RattleType → RattleType → Dict → Dict → Dict → Args
 passed T A d dx dd = bounded (a_type ∷ a_type ∷ []) (T, (A, tt)) (dcons d (dcons dx (dcons dd dnil)))
 
@@ -38,7 +38,7 @@ abbrev pub Kept : (T A : RattleType) → Ghosts A.Denot → RattleType
 Kept T A g = block.the_row (param 0 T) (param 1 A) g
 
 module _ (T A : RattleType) (g : Ghosts A.Denot) (K : Laws A) (d dd : Dict) where
-  -- the allocator, with what a statement assumes of it
+  -- the allocator, with the assumptions of a statement about it
   abbrev pub allocator : Al
   allocator = record { row = A; laws = K; g = g; d = d; drops = dd }
 
@@ -47,7 +47,7 @@ module _ (T A : RattleType) (g : Ghosts A.Denot) (K : Laws A) (d dd : Dict) wher
   may_free a p = g.dealloc_token a (bare (layout T)) p
 
   module _ {M : Type 1} {𝓤 : Ura M} {𝓛 : Logic 𝓤} {J : Type 0} {Γ : List (Item 𝓤)} {G : Goal 𝓤 𝓛.H} where
-    -- a block taken apart: the value in it, the right to free it, and what the allocator owns
+    -- a block taken apart: the value in it, the right to free it, and the allocator's resources
     pub block_out : J → (o : Block T.Denot A.Denot) (vs : List Val)
         → ((b at : ℕ) (h : Val) → o.at ≡ block_ptr b at → vs ≡ word h b at ∷ [] → Fits allocator h
         → Seq J 𝓛 (‵ (part_at (param 0 T) full_share o.value b at) ∷ ‵ (may_free o.alloc (block_ptr b at)) ∷ ‵ ((param 1 A).own_val o.alloc (h ∷ [])) ∷ Γ) G)

@@ -1,4 +1,4 @@
--- Cells that stand for values.
+-- Cells that have values.
 use mathlib.Core.Path.{◌≡◌, refl, sym, ap, subst, ◌∙◌}
 use Prim.Native.Nat.{ℕ, zero, suc}
 use Rattle.std.proofs.Common.{arith, get_or}
@@ -19,7 +19,7 @@ use Rattle.mmdb_c.specs.declared.cell.Cell.{Cell}
 none_below : (i : ℕ) → i < 0 → ⊥
 none_below i h = omega (arith, h)
 
--- cells and more cells stand for their values together
+-- cells and more cells have their values together
 pub stand_both : (cells more : List Cell) (values others : List Value) → StandFor cells values → StandFor more others
     → StandFor (cells ++ more) (values ++ others)
 stand_both [] more [] others s t = t
@@ -32,7 +32,7 @@ pub stand_more : (cells : List Cell) (values : List Value) (cell : Cell) (value 
     → StandFor (cells ++ cell ∷ []) (values ++ value ∷ [])
 stand_more cells values cell value s t = stand_both cells (cell ∷ []) values (value ∷ []) s (t, tt)
 
--- each of them stands for a value
+-- each cell has a value
 pub stands_at : (cells : List Cell) (values : List Value) (i : ℕ) (d : Cell) → i < length cells → StandFor cells values
     → (value : Value) × StandsFor (get_or cells i d) value
 stands_at [] values i d within s = absurd (none_below i within)
@@ -47,26 +47,26 @@ as_many_values [] (value ∷ values) s = absurd s
 as_many_values (cell ∷ cells) [] s = absurd s
 as_many_values (cell ∷ cells) (value ∷ values) s = ap suc (as_many_values cells values s.1)
 
--- what is the same from a place on is the same from a later place on
+-- lists that are equal from a place on are equal from a later place on
 pub drop_same : (xs ys : List Cell) (i j : ℕ) → i ≤ j → drop i xs ≡ drop i ys → drop j xs ≡ drop j ys
 drop_same xs ys i j h e =
     let split : (zs : List Cell) → drop (j - i) (drop i zs) ≡ drop j zs = λ zs. drop-drop (j - i) i zs ∙ ap (λ n. drop n zs) (omega (arith, h)) in
     sym (split xs) ∙ ap (drop (j - i)) e ∙ split ys
 
--- the first i cells stand for values, and the next for another
+-- the first i cells have values, and the next cell has another
 pub stand_next : (cells : List Cell) (i : ℕ) (d : Cell) (values : List Value) (value : Value) → i < length cells
     → StandFor (take i cells) values → StandsFor (get_or cells i d) value → StandFor (take (i + 1) cells) (values ++ value ∷ [])
 stand_next cells i d values value within s t =
     subst (λ cs. StandFor cs (values ++ value ∷ [])) (sym (take_more cells i d within)) (stand_more (take i cells) values (get_or cells i d) value s t)
 
--- A list without an element has others alone.
+-- A list without an element has only others.
 no_line_feed : (bytes : List ℕ) → (Any (λ b. b ≡ 10) bytes → ⊥) → All (λ b. b ≢ 10) bytes
 no_line_feed bytes none = λ k d within is. none (k, 10, within, get_or_same bytes k d 10 within ∙ is, refl)
   where
     get_or_same : (xs : List ℕ) (k d e : ℕ) → k < length xs → get_or xs k e ≡ get_or xs k d
     get_or_same xs k d e within = grind (arith, common_steps)
 
--- A cell whose text is refused memory stands for a text of more than 16 bytes.
+-- A cell whose text cannot be allocated has a text of more than 16 bytes.
 pub refused_text : (cell : Cell) (bytes : List ℕ) (refusal : Refusal) → cell.kind ≡ 1 → bytes ≡ take cell.len cell.text → length bytes ≡ cell.len
     → cell.len ≤ 64 → refusal ≡ Memory → IsErrOf {T = List ℕ} (Err refusal) Syntax ↔ ((length bytes ≤ 64) × Any (λ b. b ≡ 10) bytes)
     → (length bytes ≤ 16 → All (λ b. b ≢ 10) bytes → IsOk {T = List ℕ} (Err refusal)) → (value : Value) × StandsFor cell value × NeedsMemory value
@@ -85,7 +85,7 @@ error_of (Err x) e = x
 pub same_error : {T U E : Type 0} (r : Result T E) (x y z : E) → r ≡ Err x → r ≡ Err y → x ≡ z → IsErrOf {T = U} (Err z) y
 same_error {T} {U} {E} r x y z is_x is_y same = ap (λ (e : E). Err e) (sym same ∙ ap (λ (q : Result T E). error_of q x) (sym is_x ∙ is_y))
 
--- one more cell stands for one more value
+-- one more cell has one more value
 pub set_more : (old cells : List Cell) (place i : ℕ) (values : List Value) (cell : Cell) (value : Value) → i ≡ length values
     → place + i < length cells → WritesCells place values old cells → StandsFor cell value
     → WritesCells place (values ++ value ∷ []) old (set cells (place + i) cell)

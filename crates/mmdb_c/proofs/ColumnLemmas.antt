@@ -7,7 +7,7 @@ use Rattle.std.proofs.lemmas.List.{length-map, length-take-le, map_more, take-ma
 use Rattle.std.proofs.lemmas.Simd.{map-map}
 use Rattle.std.specs.Prelude.{◌+◌, ◌<◌, List, [], ◌∷◌, ◌++◌, drop, length, map, take}
 
--- one more cell is written, and those behind it stay
+-- one more cell is written, and later cells are unchanged
 pub written_more : {X Y : Type 0} (f : X → Y) (xs : List X) (old cells : List Y) (i : ℕ) (x : X) (y : Y) → i < length xs → i < length old
     → cells ≡ map f (take i xs) ++ drop i old → x ≡ get_or xs i x → y ≡ f x → set cells i y ≡ map f (take (i + 1) xs) ++ drop (i + 1) old
 written_more f xs old cells i x y within room was is written =
@@ -18,7 +18,7 @@ written_more f xs old cells i x y within room was is written =
     ap (λ cs. set cs i y) (was ∙ ap (λ b. front ++ b) behind) ∙ ap (λ n. set (front ++ get_or old i y ∷ drop (i + 1) old) n y) (sym count)
     ∙ set-append_seam front (get_or old i y) (drop (i + 1) old) y ∙ sym (ap (λ m. m ++ drop (i + 1) old) more ∙ append_assoc front (y ∷ []) (drop (i + 1) old))
 
--- what stands for elements that are lent stands for the elements
+-- a list that is written from borrowed elements is one written from the elements
 pub written_of_lent : {X Y Z : Type 0} (f : Y → Z) (lent : X → Y) (xs : List X) (old new : List Z)
     → new ≡ map (λ x. f (lent x)) (take (length old) xs) ++ drop (length xs) old
     → new ≡ map f (take (length old) (map lent xs)) ++ drop (length (map lent xs)) old

@@ -1,4 +1,4 @@
--- A block of the heap that has what a handle leads to.
+-- A block of the heap that has the target of a handle.
 use mir.Syntax.{impl, tnil, dnil}
 use mathlib.Core.List.{[]}
 use denote.RattleType.{RattleType}

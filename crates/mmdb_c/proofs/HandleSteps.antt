@@ -1,4 +1,4 @@
--- What the proofs on a handle share.
+-- Parts shared by the proofs about a handle.
 use mathlib.Core.Path.{◌≡◌, refl, sym, ap, ◌∙◌}
 use mathlib.Core.List.{List, [], ◌∷◌, ◌++◌}
 use Prim.Native.Nat.{ℕ}
@@ -27,7 +27,7 @@ use Rattle.mmdb_c.specs.declared.handle.Handle.{Handle}
 use Rattle.mmdb_c.specs.contracts.handle.Handle as handle
 use Rattle.mmdb_c.specs.contracts.library.Library as library
 
--- a handle, and what its block holds, as rows
+-- a handle, and the content of its block, as rows
 abbrev pub H : RattleType
 H = handle.the_row
 
@@ -43,7 +43,7 @@ abbrev pub word : Bool → Ptr → Val
 word is_open p = vstruct (vcons (ptr_val p) (vcons (vbool is_open) vnil))
 
 module _ {M : Type 1} {𝓤 : Ura M} {𝓛 : Logic 𝓤} {J : Type 0} {Γ : List (Item 𝓤)} {G : Goal 𝓤 𝓛.H} where
-  -- a handle taken apart: what it owns
+  -- a handle taken apart: its resources
   pub handle_out : J → (h : Handle) (vs : List Val)
       → (vs ≡ word h.is_open h.at ∷ [] → Seq J 𝓛 (‵ (handle_owns h.heap L h.is_open h.at h.value) ∷ Γ) G)
       → Seq J 𝓛 (‵ (H.own_val h vs) ∷ Γ) G
@@ -62,7 +62,7 @@ module _ {M : Type 1} {𝓤 : Ura M} {𝓛 : Logic 𝓤} {J : Type 0} {Γ : List
       fpack t (Valss (RawPtr ∷ bool ∷ [])) (within (shape handle.the_type) (h.at, (h.is_open, tt)) (word h.is_open h.at ∷ []))
       (ptr_val h.at ∷ [], (vbool h.is_open ∷ [], tt)) $ fjoin t $ s)
 
-  -- what an open handle owns: the value in its block, and the right to free that
+  -- the resources of an open handle: the value in its block, and the right to free that
   pub block_out : J → (h : Handle) → h.is_open ≡ true
       → ((b at : ℕ) → h.at ≡ block_ptr b at → Seq J 𝓛 (‵ (part_at L full_share h.value b at) ∷ ‵ (may_free h.heap (block_ptr b at)) ∷ Γ) G)
       → Seq J 𝓛 (‵ (handle_owns h.heap L h.is_open h.at h.value) ∷ Γ) G

@@ -26,7 +26,7 @@ pub kind_found : (found : Option (List ℕ)) (kind : StatementKind) → IsKindOf
 kind_found None kind is = absurd (cc)
 kind_found (Some line) kind is = (line, refl, (is.0, is.1, let same : kind ≡ kind_of is.0 = cc in same))
 
--- where there is no kind there is no statement
+-- without a kind there is no statement
 pub no_kind : (found : Option (List ℕ)) → IsKindOf found None → found ≡ None
 no_kind None is = refl
 no_kind (Some line) is = absurd (let clash = is.2 in cc)
@@ -61,13 +61,13 @@ no_plan number cells old lacks = by (line_at number old.lines) refl
     by None is = inl (inl (none_is_told _ (line_at number old.lines) (length cells) is))
     by (Some line) is = inr (line, is, lacks line is)
 
--- what refuses the cells refuses the plan
+-- a refusal of the cells refuses the plan
 pub refused_plan : (number : ℕ) (cells : List Cell) (status : ℕ) (old : SessionState) → HasPlanAt number old → RefusesCells number cells status old
     → RefusesPlan number cells status old
 refused_plan number cells status old plan (inl misused) = inl (misused.0, inl misused.1)
 refused_plan number cells status old plan (inr memory) = inr (memory, plan)
 
--- what was explained with the values that cells stand for was explained with the cells
+-- an explanation with the values of cells is one with the cells
 pub explains_cells : (number : ℕ) (cells : List Cell) (values : List Value) (status : ℕ) (old new : SessionState) → StandFor cells values
     → ExplainsWith number values status old new → ExplainsCells number cells status old new
 explains_cells number cells values status old new stand (inl explained) =

@@ -7,7 +7,7 @@ use Rattle.mmdb_c.specs.Replies.{ReadsRows}
 use Rattle.mmdb_c.specs.declared.cell.Cell.{Cell}
 use Rattle.mmdb_c.proofs.CellLemmas.{as_many_values}
 
--- No fewer cells stand for some values.
+-- Fewer cells than values do not have these values.
 too_few : (cells : List Cell) (values : List Value) → length cells < length values → StandFor (take (length values) cells) values → ⊥
 too_few cells values few stand =
     omega (arith, few, as_many_values (take (length values) cells) values stand, length-take (length values) cells)

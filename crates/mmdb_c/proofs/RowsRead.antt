@@ -14,7 +14,7 @@ use Rattle.mmdb_c.specs.declared.cell.Cell.{Cell}
 use Rattle.mmdb_c.specs.steps.Reading.{WritesCells}
 use Rattle.mmdb_c.proofs.CellLemmas.{drop_same, stand_both}
 
--- the values of a row stand behind those that were read before
+-- the values of a row come after those that were read before
 pub starts_more : (values row : List Value) (old mid new : List Cell) → StartsWith values old mid → WritesCells (length values) row mid new
     → StartsWith (values ++ row) old new
 starts_more values row old mid new was wrote =

@@ -16,11 +16,11 @@ use Rattle.mmdb_c.specs.declared.cell.Cell.{Cell}
 use Rattle.mmdb_c.specs.steps.Running.{RunsWith}
 use Rattle.mmdb_c.proofs.CellLemmas.{as_many_values}
 
--- of no line no number of values is told
+-- without a line there is no number of values
 pub none_is_told : (count_of : List ℕ → ℕ) (found : Option (List ℕ)) (count : ℕ) → found ≡ None → option_map count_of found ≢ Some count
 none_is_told count_of found count is e = let told : option_map count_of found ≡ None = ap (option_map count_of) is in cc
 
--- of a line its own number of values is told
+-- the number of values of a line is its own
 own_is_told : (count_of : List ℕ → ℕ) (found : Option (List ℕ)) (line : List ℕ) (count : ℕ) → found ≡ Some line → count ≢ count_of line
     → option_map count_of found ≢ Some count
 own_is_told count_of found line count is differs e =
@@ -34,7 +34,7 @@ takes_others number count lines NoSuchStatement none = none_is_told _ (line_at n
 takes_others number count lines WrongNumberOfValues wrong = own_is_told _ (line_at number lines) wrong.0 count wrong.1 wrong.2
 takes_others number count lines NoPlan never = absurd never
 
--- what was run with the values that cells stand for was run with the cells
+-- a run with the values of cells is a run with the cells
 pub runs_cells : (number : ℕ) (cells : List Cell) (values : List Value) (status : ℕ) (old new : SessionState) → StandFor cells values
     → RunsWith number values status old new → RunsCells number cells status old new
 runs_cells number cells values status old new stand (inl ran) = inl (record { values = values; stand = stand; runs = ran.0; status_is = ran.1 })
@@ -76,7 +76,7 @@ IsFalse true = ⊥
 ends_at_0 : (n : ℕ) → true ≡ (n == 0) → n ≡ 0
 ends_at_0 n h = grind arith
 
--- what the test of some cells has told
+-- the meaning of the test of some cells
 pub some_cells : (cells : List Cell) → false ≡ (length cells == 0) → 0 < length cells
 some_cells [] h = absurd (subst IsFalse h tt)
 some_cells (cell ∷ cells) h = omega arith

@@ -1,4 +1,4 @@
--- What the calls do to a session.
+-- The effects of the calls on a session.
 use Rattle.std.specs.Prelude.{◌≡◌, ◌≢◌, ◌⊎◌, ℕ, zero, suc, Bool, ◌≤◌, ◌<◌, List, [], Option, Some, None, Result, Ok, Err, drop, length, take}
 use Rattle.std.specs.Result.{result_ok}
 use Rattle.std.specs.Option.{option_map_or}
@@ -71,7 +71,7 @@ TellsKind number kind_old kind_new status old new =
     (new ≡ old) × (((kind : StatementKind) × IsKindOf (line_at number old.lines) (Some kind) × (kind_new ≡ kind_number kind) × (status ≡ done))
     ⊎ ((line_at number old.lines ≡ None) × (kind_new ≡ kind_old) × (status ≡ misuse)))
 
--- The statement ran with the values that the cells stand for, and the status is that of the reply.
+-- The statement ran with the values of the cells, and the status is that of the reply.
 pub record RunsValues (number : ℕ) (cells : List Cell) (status : ℕ) (old new : SessionState) : Type 0 where
   pub values : List Value
   pub stand : StandFor cells values
@@ -95,7 +95,7 @@ RefusesCells number cells status old = ((status ≡ misuse) × IsMisuseOf number
 abbrev pub RunsCells : ℕ → List Cell → ℕ → SessionState → SessionState → Type 0
 RunsCells number cells status old new = RunsValues number cells status old new ⊎ ((new ≡ old) × RefusesCells number cells status old)
 
--- The statement's query was explained with the values that the cells stand for, and the status is that of the reply.
+-- The statement's query was explained with the values of the cells, and the status is that of the reply.
 pub record ExplainsValues (number : ℕ) (cells : List Cell) (status : ℕ) (old new : SessionState) : Type 0 where
   pub values : List Value
   pub stand : StandFor cells values

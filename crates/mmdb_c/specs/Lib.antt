@@ -2,9 +2,12 @@ pub mod Calls
 pub mod Cells
 pub mod Columns
 pub mod Copying
+pub mod Definitions
+pub mod Dumping
 pub mod HeaderNumbers
 pub mod Kinds
 pub mod Lent
+pub mod Loading
 pub mod Owning
 pub mod Replies
 pub mod Sessions

@@ -1,4 +1,4 @@
--- What a block and a handle own.
+-- The ownership of a block and a handle.
 use mir.Syntax.{Ty}
 use mir.Raw.{raw}
 use base.Fml.{Fml, fsep, ftrue}
@@ -10,7 +10,7 @@ use Rattle.std.specs.Prelude.{Bool, cond}
 use Rattle.std.specs.declared.alloc.Global.{Global}
 use Rattle.std.specs.contracts.impls.GlobalAllocator.TheImpl.{ghosts}
 
--- The value x of type R lies at p, and its block may be freed.
+-- The value x of type R is at p, and its block may be freed.
 abbrev pub block_owns : (Ty → Ptr → Fml) → (R : RattleType) → Ptr → R.Denot → Fml
 block_owns may_free R p x = fsep (lies_at R full_share p x) (may_free (raw (lone R.mir)) p)
 

@@ -31,7 +31,7 @@ count_of (Some (Refused refusal)) = 0
 abbrev pub values_of : List (List Value) → List Value
 values_of rows = flat_map (λ row. row) rows
 
--- The first cells stand for the values, and the others are unchanged.
+-- The first cells have the values, and the others are unchanged.
 pub record StartsWith (values : List Value) (old new : List Cell) : Type 0 where
   pub stand : StandFor (take (length values) new) values
   pub back : drop (length values) new ≡ drop (length values) old

@@ -1,4 +1,4 @@
-//! Laws of what calls read into cells, and of what they run.
+//! Laws of the rows that calls read into cells, and of the runs that they make.
 ghost use Rattle.std.specs.Prelude.{◌≡◌, ◌≤◌, ◌<◌, ◌⊎◌, ℕ, List, [], ◌∷◌, drop, length, take};
 ghost use Rattle.mm_value.specs.declared.values.Value.{Value};
 ghost use Rattle.mm_session.specs.Calls.{LeadTo, SessionCall};
@@ -6,12 +6,13 @@ ghost use Rattle.mm_session.specs.Calls.SessionCall.{Execute, Finalize, Prepare,
 ghost use Rattle.mm_session.specs.Session.{SessionState};
 ghost use Rattle.mmdb_c.specs.Calls.{Executes, ExplainsCells, Prepares, ReleasesName, RunsCells, RunsRows, TakesStatement};
 ghost use Rattle.mmdb_c.specs.Cells.{StandFor};
+ghost use Rattle.mmdb_c.specs.Loading.{LoadsScript};
 ghost use Rattle.mmdb_c.specs.Replies.{ReadsRows};
 ghost use Rattle.mmdb_c.specs.Statuses.{done, first_refusal_number};
 ghost use Rattle.mmdb_c.specs.declared.cell.Cell.{Cell};
 
-/// Worked examples of a reply with three rows of two values. From the second row on, 5 cells take two rows, and the last cell stays; 3 cells
-/// take one row; 1 cell takes none. From the end on there is no row.
+/// Worked examples of a reply with three rows of two values. From the second row on, 5 cells take two rows, and the last cell is unchanged;
+/// 3 cells take one row; 1 cell takes none. From the end on there is no row.
 pub fn whole_rows_are_read()
     ensures two { (a b c d e f : Value) (old new : List Cell) (count : ℕ) → length old ≡ 5 → length new ≡ 5
         → ReadsRows ((a ∷ b ∷ []) ∷ (c ∷ d ∷ []) ∷ (e ∷ f ∷ []) ∷ []) 1 old new count
@@ -25,8 +26,8 @@ pub fn whole_rows_are_read()
         → ReadsRows ((a ∷ b ∷ []) ∷ (c ∷ d ∷ []) ∷ (e ∷ f ∷ []) ∷ []) 3 old new count → (count ≡ 0) × (new ≡ old) }
 {}
 
-/// Worked examples of 3 cells in rows of 2. If all runs are done, there are two: with the first two cells, and then with the last one. If one
-/// fails, the runs before it are counted. Without cells there is no run.
+/// Worked examples of 3 cells in rows of 2. If all runs are done, there are two: with the first two cells, and then with the last one. If
+/// one fails, the runs before it are counted. Without cells there is no run.
 pub fn rows_of_cells_are_run_in_order()
     ensures all { (number : ℕ) (a b c : Cell) (count : ℕ) (old new : SessionState) → RunsRows number 2 count (a ∷ b ∷ c ∷ []) done old new
         → (between : SessionState) × (first : ℕ) × (second : ℕ) × (count ≡ 2) × (first < first_refusal_number) × (second < first_refusal_number)
@@ -39,10 +40,12 @@ pub fn rows_of_cells_are_run_in_order()
         → (count ≡ 0) × (status ≡ done) × (new ≡ old) }
 {}
 
-/// What a call of C does to a session, calls on the session do: the call of the same name, a run for each row of cells, or no call if a cell
-/// is refused.
+/// The effect of a call of C on a session is that of calls on the session: the call of the same name, a run for each row of cells, an
+/// execution for each line of a script, or no call if a cell is refused.
 pub fn calls_of_c_are_calls_on_a_session()
     ensures execute { (line : List ℕ) (status : ℕ) (old new : SessionState) → Executes line status old new → LeadTo (Execute line ∷ []) old new }
+    ensures load { (script : List ℕ) (lines status : ℕ) (old new : SessionState) → LoadsScript script lines status old new
+        → (calls : List SessionCall) × LeadTo calls old new }
     ensures prepare { (line : List ℕ) (number_old number_new status : ℕ) (old new : SessionState)
         → Prepares line number_old number_new status old new → LeadTo (Prepare line ∷ []) old new }
     ensures run { (number : ℕ) (cells : List Cell) (status : ℕ) (old new : SessionState) → RunsCells number cells status old new

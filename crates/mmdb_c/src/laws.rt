@@ -27,7 +27,7 @@ pub fn cells_are_those_of_the_header()
     ensures texts { (cell : Cell) (text : List ℕ) → StandsFor cell (Text text) → (cell.kind ≡ 1) × (cell.len ≡ length text) }
 {}
 
-/// Each value that a table can store has a cell, and no cell stands for two values.
+/// Each value that a table can store has a cell, and no cell has two values.
 pub fn values_have_cells()
     ensures each { (stored : Value) → IsStorable stored → (cell : Cell) × (length cell.text ≡ 64) × StandsFor cell stored }
     ensures one { (cell : Cell) (value other : Value) → StandsFor cell value → StandsFor cell other → value ≡ other }

@@ -6,6 +6,7 @@ mod calls_laws;
 mod cell;
 mod column;
 mod copying;
+mod dumping;
 mod handle;
 mod kind;
 mod laws;

@@ -1,31 +1,38 @@
-//! What an open handle points to: a session with reusable buffers.
+//! The target of an open handle: a session with reusable buffers.
 ghost use Rattle.std.specs.Prelude.{◌≡◌, IfErr, List, OnOk, Some, false, true, ℕ};
 ghost use Rattle.mmdb_c.specs.Calls.{Counts, Executes, ExplainsCells, FindsPlace, HasPlanAt, InTransaction, Prepares, Queries, Reads};
 ghost use Rattle.mmdb_c.specs.Calls.{RefusesCells, ReleasesName, RunsCells, RunsRows, TakesStatement, TellsChanges, TellsColumns};
 ghost use Rattle.mmdb_c.specs.Calls.{TellsKind, TellsParameters, TellsStatementColumns, TellsText};
 ghost use Rattle.mm_session.specs.Statements.{LacksPlan, line_at};
 ghost use Rattle.mmdb_c.specs.Cells.{StandFor};
+ghost use Rattle.mmdb_c.specs.Definitions.{TellsDefinition};
+ghost use Rattle.mmdb_c.specs.Dumping.{Dumps};
+ghost use Rattle.mmdb_c.specs.Loading.{LoadsScript};
 ghost use Rattle.mmdb_c.specs.steps.Running.{ExplainsWith, RunsWith};
 ghost use Rattle.mmdb_c.specs.Sessions.{new_session};
 
 use crate::cell::{Cell, CellError, read_cells};
 use crate::column::{ColumnCell, write_columns};
 use crate::copying::copy_front;
-use crate::kind::kind_number;
+use crate::dumping::{DUMP_ROOM, DumpCell};
+use crate::kind::{definition_kind, kind_number};
 use crate::replies::{count_of, read_rows, write_text};
-use crate::status::{DONE, FIRST_REFUSAL, MISUSE, ROWS, refusal_of, status_of};
+use crate::status::{COUNT, DONE, FIRST_REFUSAL, MISUSE, ROWS, refusal_of, status_of};
 use mm_session::{ColumnsError, Session};
 use mm_value::{Refusal, Value, Watched};
 use std::alloc::Global;
 use std::marker::Model;
 use std::mem::replace;
 
-/// A session, modelled as its state, and two buffers that calls reuse: one for the values of a run, one for the text of a reply.
+/// A session and two buffers that calls reuse: one for the values of a run, one for the text of a reply, a definition or a dump. The model
+/// is the state of the session.
 #[derive(Drop)]
 pub(crate) struct Library {
     session: Session,
     values: Vec<Value>,
     text: Vec<u8>,
+    /// The number of commands that may have changed the database, modulo 2^64.
+    version: u64,
 }
 
 impl Model for Library {
@@ -45,6 +52,7 @@ impl Library {
             session: Session::new(alloc),
             values: Vec::new(alloc),
             text: Vec::new(alloc),
+            version: 0,
         }
     }
 
@@ -53,7 +61,27 @@ impl Library {
         ensures { Executes line.now result self.old self.new }
     {
         self.session.execute(alloc, line);
-        status_of(&self.session.reply())
+        let status = status_of(&self.session.reply());
+        count_version(status, &mut self.version);
+        status
+    }
+
+    /// Executes the lines of a script up to the first that is refused. Writes the number of lines before it, and returns a status.
+    pub(crate) fn load(&mut self, alloc: Global, script: &[u8], lines: &mut usize) -> u8
+        ensures { LoadsScript script.now lines.new result self.old self.new }
+    {
+        match self.session.load(alloc, script) {
+            Ok(done) => {
+                *lines = done;
+                count_load(done, &mut self.version);
+                DONE
+            }
+            Err(error) => {
+                *lines = error.lines;
+                count_load(error.lines, &mut self.version);
+                error.refusal.number()
+            }
+        }
     }
 
     /// Prepares a line, writes the number of the statement, and returns a status.
@@ -100,7 +128,13 @@ impl Library {
         ensures { RunsCells number cells.now result self.old self.new }
     {
         match read_values(alloc, &self.session, number, cells, &mut self.values) {
-            Ok(()) => run_values(alloc, &mut self.session, number, self.values.as_slice()),
+            Ok(()) => run_values(
+                alloc,
+                &mut self.session,
+                &mut self.version,
+                number,
+                self.values.as_slice(),
+            ),
             Err(status) => status,
         }
     }
@@ -209,6 +243,66 @@ impl Library {
         }
     }
 
+    /// Copies the next piece of the dump, writes its length, and moves the place after it. Returns a status.
+    pub(crate) fn dump(
+        &mut self,
+        alloc: Global,
+        place: &mut DumpCell,
+        out: &mut [u8],
+        length: &mut usize,
+    ) -> u8
+        ensures { Dumps place.old place.new out.old out.new length.old length.new result self.old self.new }
+    {
+        if out.len() < DUMP_ROOM || !place.continues(self.version) {
+            return MISUSE;
+        }
+        let mut bytes = replace(&mut self.text, Vec::new(alloc));
+        bytes.clear();
+        let dumped = self
+            .session
+            .dump(alloc, place.place(), out.len(), &mut bytes);
+        self.text = bytes;
+        match dumped {
+            Ok(next) => {
+                let piece = self.text.as_slice();
+                copy_front(piece, out);
+                *length = piece.len();
+                *place = DumpCell::of(next, self.version);
+                DONE
+            }
+            Err(_) => Refusal::Memory.number(),
+        }
+    }
+
+    /// Copies as many bytes as fit of the line that defines an object with a name, writes its full length, and returns a status.
+    pub(crate) fn definition(
+        &mut self,
+        alloc: Global,
+        kind: u8,
+        name: &[u8],
+        out: &mut [u8],
+        length: &mut usize,
+    ) -> u8
+        ensures { TellsDefinition kind name.now out.old out.new length.old length.new result self.old self.new }
+    {
+        let Some(kind) = definition_kind(kind) else {
+            return MISUSE;
+        };
+        let mut bytes = replace(&mut self.text, Vec::new(alloc));
+        bytes.clear();
+        let written = self.session.definition(kind, name, &mut bytes);
+        self.text = bytes;
+        match written {
+            Ok(()) => {
+                let line = self.text.as_slice();
+                copy_front(line, out);
+                *length = line.len();
+                DONE
+            }
+            Err(refusal) => refusal.number(),
+        }
+    }
+
     /// Writes as many columns of the rows that a line returns as fit, and the number of all of them. Returns a status.
     pub(crate) fn columns(
         &mut self,
@@ -303,12 +397,34 @@ fn read_values(
 }
 
 /// Runs a statement with values, and returns the status of the reply.
-fn run_values(alloc: Global, session: &mut Session, number: usize, values: &[Value]) -> u8
+fn run_values(
+    alloc: Global,
+    session: &mut Session,
+    version: &mut u64,
+    number: usize,
+    values: &[Value],
+) -> u8
     ensures { RunsWith number values.now result session.old session.new }
 {
-    match session.run(alloc, number, values) {
+    let status = match session.run(alloc, number, values) {
         Ok(()) => status_of(&session.reply()),
         Err(_) => MISUSE,
+    };
+    count_version(status, version);
+    status
+}
+
+/// Counts a command, unless it is a question or was refused.
+fn count_version(status: u8, version: &mut u64) {
+    if status == DONE || status == COUNT {
+        *version = version.wrapping_add(1);
+    }
+}
+
+/// Counts a load that executed some lines.
+fn count_load(lines: usize, version: &mut u64) {
+    if lines > 0 {
+        *version = version.wrapping_add(1);
     }
 }
 

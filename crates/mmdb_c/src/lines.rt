@@ -1,7 +1,8 @@
-//! The exported calls about lines and transactions.
+//! The exported calls about lines, scripts and transactions.
 ghost use Rattle.std.specs.Prelude.{◌≡◌, false};
 ghost use Rattle.mmdb_c.specs.Lent.{held};
 ghost use Rattle.mmdb_c.specs.Calls.{Executes, FindsPlace, InTransaction, OnOpen, ReleasesName, TellsColumns};
+ghost use Rattle.mmdb_c.specs.Loading.{LoadsScript};
 ghost use Rattle.mmdb_c.specs.Statuses.{misuse};
 
 use crate::column::ColumnCell;
@@ -18,6 +19,19 @@ pub extern "C" fn mmdb_execute(alloc: Global, db: &mut Handle, line: &[u8]) -> u
         return MISUSE;
     }
     db.as_mut().execute(alloc, line)
+}
+
+/// Executes the lines of a script one after another, up to the first that is refused, and writes the number of lines before it. Stores the
+/// reply to the last line. Returns `DONE`, the number of the refusal, or `MISUSE` if the handle is closed.
+#[unsafe(no_mangle)]
+pub extern "C" fn mmdb_load(alloc: Global, db: &mut Handle, script: &[u8], lines: &mut usize) -> u8
+    ensures { OnOpen (LoadsScript script.now lines.new result) ((result ≡ misuse) × (lines.new ≡ 0)) (held db.old) (held db.new) }
+{
+    *lines = 0;
+    if !db.is_open() {
+        return MISUSE;
+    }
+    db.as_mut().load(alloc, script, lines)
 }
 
 /// Writes as many columns of the rows that a line returns as fit, and the number of all of them: 0 if it returns no rows. The line may

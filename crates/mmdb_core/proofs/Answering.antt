@@ -1,4 +1,4 @@
--- What is written is the reply to what was read.
+-- The reply written is the reply to the line read.
 use Rattle.std.proofs.Common.{◌≡◌, ℕ, ◌+◌, ◌<◌, Bool, true, false, cond, eqb, List, [], ◌∷◌, ◌++◌, Option, Some, None, Result, Ok, Err, length, take}
 use Rattle.std.proofs.Common.{drop, inl, inr, sym, refl, ap, subst, ◌∙◌, ⊎_elim, arith}
 use Rattle.std.proofs.lemmas.List.{drop_all, take_all}
@@ -39,7 +39,7 @@ without_return-last (a ∷ c ∷ front) b = ap (λ rest. a ∷ rest) (without_re
     after_more true = refl
     after_more false = refl
 
--- a line that is too long is refused as that
+-- a line that is too long is refused for that reason
 long_reading : (line : List ℕ) (state : State) → 4096 < length line → answer false line state ≡ refused_outcome LineTooLong state
 unfolding reading
 long_reading line state long =
@@ -66,7 +66,7 @@ replies_to_line {contents = contents} {old} {new} {result = result} d = record {
   reply = subst (λ (o : Outcome). WritesReply contents old new o.reply result) d.is.1 d.took;
 }
 
--- a line found in front of the window is passed when what leads to the next one is dropped
+-- a line found at the front of the window is passed by dropping the bytes up to the next one
 first_line : (input after : Input) (len step : ℕ) → Finds input (Line len step) → after.window.bytes ≡ drop step input.window.bytes
     → after.is_ended ≡ input.is_ended → IsLine (take step input.window.bytes) (take len input.window.bytes) after
 first_line input after len step finds dropped ended =
@@ -98,7 +98,7 @@ passes_first {mid = mid} {after = after} len step comes dropped still ended = re
   is_line = first_line mid after len step comes.1 dropped ended;
 }
 
--- a line that was passed is one that a run goes on by
+-- after a line was passed and its reply written, a run continues
 pub replied_goes_on : {R W E : Type 0} {remaining : R → Option (List ℕ)} {contents : W → Option (List ℕ)} {reader later : Watched R} {input next : Input}
     {before after : State} {old new : Watched W}
     (result : Result Bool E) → PassesReplied remaining contents reader later input next before after old new result

@@ -1,4 +1,4 @@
--- How an input goes on, one step after another.
+-- How an input advances, one step after another.
 use Rattle.std.proofs.Common.{◌≡◌, ℕ, suc, zero, ◌+◌, ◌-◌, ◌≤◌, Option, Result, Err, List, [], ◌∷◌, ◌++◌, length, take, drop, refl, sym, ap, subst, ◌∙◌}
 use Rattle.std.proofs.Common.{arith, append_assoc, length-append}
 use Rattle.std.proofs.KnownBytes.{Consumes-nil, Consumes-trans}
@@ -18,7 +18,7 @@ take-append zero (x ∷ xs) ys = sym (ap (λ m. take m ys) (let e : 0 - length (
 take-append (suc n) (x ∷ xs) ys =
     ap (λ l. x ∷ l) (take-append n xs ys ∙ ap (λ m. take n xs ++ take m ys) (let e : n - length xs ≡ suc n - length (x ∷ xs) = omega arith in e))
 
--- what is kept of some bytes and then of more
+-- the bytes kept after some and then more were dropped
 kept-trans : (x y z given more gone then : List ℕ) (s t : ℕ) → length given + t ≡ s → x ++ take (s - 1) given ≡ gone ++ y → y ++ take (t - 1) more ≡ then ++ z
     → x ++ take (s - 1) (given ++ more) ≡ (gone ++ then) ++ z
 kept-trans x y z given more gone then s t counted h k =
@@ -43,7 +43,7 @@ module _ {R : Type 0} {remaining : R → Option (List ℕ)} where
     at_end = λ p. k.at_end (h.at_end p);
   }
 
-  -- nothing more was taken
+  -- nothing more was read
   Advances-gone : {r : Watched R} {a b : Input} {gone : List ℕ} → a.window.bytes ≡ gone ++ b.window.bytes → b.still ≡ a.still → b.is_ended ≡ a.is_ended
       → Advances remaining r r a b gone
   Advances-gone {r} {a} {b} {gone} is still ended = record {
@@ -64,7 +64,7 @@ module _ {R : Type 0} {remaining : R → Option (List ℕ)} where
       → Advances remaining r r a b a.window.bytes
   Advances-clear {r} {a} is still ended = Advances-gone (sym (ap (λ l. a.window.bytes ++ l) is ∙ append-nil a.window.bytes)) still ended
 
-  -- each byte that is gone comes no more
+  -- each dropped byte lowers the bound of the remaining bytes
   pub Advances-nearer : {r s : Watched R} {a b : Input} {gone : List ℕ} → Advances remaining r s a b gone → bytes_to_come b + length gone ≤ bytes_to_come a
   Advances-nearer {r} {s} {a} {b} {gone} h =
       omega (
@@ -76,7 +76,7 @@ module _ {R : Type 0} {remaining : R → Option (List ℕ)} where
         h.counted,
       )
 
--- an input that breaks off, after it was filled
+-- an input that ends early, after it was filled
 pub stops-then : {R : Type 0} {remaining : R → Option (List ℕ)} {r s t : Watched R} {a b c : Input} {fault : RunError} → Advances remaining r s a b []
     → StopsInLine remaining s t b c fault → StopsInLine remaining r t a c fault
 stops-then h stops = record { gone = stops.gone; advances = Advances-then refl h stops.advances; no_feed = stops.no_feed; why = stops.why }
@@ -90,7 +90,7 @@ long-then t c h comes = (
   comes.2,
 )
 
--- what holds of a fault holds where it is passed on
+-- a property of a fault also holds if the fault is returned further
 pub at-fault : {T : Type 0} (P : RunError → Type 0) (result : Result T RunError) (fault passed : RunError) → result ≡ Err passed → passed ≡ fault → P fault
     → IfErr result P
 at-fault P result fault passed is same h = subst (λ r. IfErr r P) (sym is) (subst P (sym same) h)

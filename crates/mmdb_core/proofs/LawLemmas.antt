@@ -1,4 +1,4 @@
--- What the definitions of a run come to.
+-- Lemmas for the laws of a run's definitions.
 use Rattle.std.proofs.Common.{◌≡◌, ℕ, ◌+◌, ◌<◌, ◌≤◌, Bool, true, false, cond, ltb, not, List, [], ◌++◌, length, Option, Some, None, is_some, Ok, Err, refl}
 use Rattle.std.proofs.Common.{sym, ap, subst, ◌∙◌, arith, length-append}
 use Rattle.std.proofs.lemmas.List.{append-nil}
@@ -18,7 +18,7 @@ use Rattle.mm_query.specs.declared.reply.Reply.TheVariants.{Done, Refused}
 use Rattle.mm_query.proofs.Due.{step-done, step-refused}
 use Rattle.mm_lang.specs.Answering.{answer, outcome_of}
 
--- memory refused to a line that takes none, or not
+-- an allocation failure of a line that does not allocate, or none
 not_refused : (line : List ℕ) (state : State) (choice : Bool) → takes_memory line ≡ false → answer choice line state ≡ outcome_of (reading line) state
 not_refused line state true none = ap (λ b. cond b (refused_outcome Memory state) (outcome_of (reading line) state)) none
 not_refused line state false none = refl
@@ -67,7 +67,7 @@ no_rollback_outside line state choice reads is =
     rollback_answer line state choice reads
     ∙ step-refused Rollback state NoTransaction (ap (λ s. cond (not (is_some s)) (Some NoTransaction) None) is)
 
--- A line that reads as ROLLBACK TO goes back to the savepoint, whatever the choice.
+-- A line that reads as ROLLBACK TO rolls back to the savepoint, whatever the choice.
 pub rolled_back_to : (line name : List ℕ) (state : State) (saved : Saved) (choice : Bool) → reading line ≡ Ok (RollbackTo name) → state.saved ≡ Some saved
     → list_any (λ (savepoint : Savepoint). same_name name savepoint.name) saved.savepoints ≡ true
     → answer choice line state ≡ record {
@@ -104,7 +104,7 @@ taken_within (Some xs) (Some ys) input left taken limit p q consumed within =
     let same_ys : ys ≡ left = cc in
     omega (arith, ap length same_xs, ap length same_ys, ap length consumed, length-append taken ys, within)
 
--- of what was known nothing is left
+-- nothing of the known bytes is left
 pub nothing_left : (before after : Option (List ℕ)) (input taken : List ℕ) → before ≡ Some input → Consumes before after taken → IsAtEnd after
     → after ≡ Some []
 nothing_left None after input taken is consumed at_end = absurd (let clash : ◌≡◌ {A = Option (List ℕ)} None (Some input) = is in cc)
@@ -119,7 +119,7 @@ within_known (Some xs) (Some ys) input taken limit is consumed at_end within =
     let same : xs ≡ input = cc in
     omega (arith, ap length same, ap length consumed, length-append taken ys, ap length at_end, within)
 
--- so what was taken is all that was known
+-- so the bytes read are all known ones
 pub all_taken : (before after : Option (List ℕ)) (taken : List ℕ) → Consumes before after taken → IsAtEnd after → (P : List ℕ → Type 0) → P taken
     → IfSome before P
 all_taken None after taken consumed at_end P p = tt

@@ -1,4 +1,4 @@
--- What a line that is too long leaves.
+-- The rest of a line that is too long.
 use Rattle.std.proofs.Common.{◌≡◌, ℕ, ◌+◌, ◌<◌, ◌≤◌, inl, inr, Bool, true, false, cond, eqb, Option, List, [], ◌∷◌, ◌++◌, length, take, drop, refl, sym, ap}
 use Rattle.std.proofs.Common.{subst, ◌∙◌, arith, append_assoc, length-append}
 use Rattle.std.proofs.lemmas.List.{append-nil, length-take-le}
@@ -12,7 +12,7 @@ use Rattle.mmdb_core.specs.declared.input.Input.{Input}
 use Rattle.mmdb_core.specs.declared.input.Next.TheVariants.{Long}
 use Rattle.mmdb_core.proofs.Inputs.{Advances-clear, Advances-skip, Advances-then}
 
--- Of a line that is too long, some bytes are gone, and nothing is left in the window.
+-- Some bytes of a line that is too long were dropped, and nothing is left in the window.
 pub record Drops {R : Type 0} (remaining : R → Option (List ℕ)) (reader after : Watched R) (old new : Input) : Type 0 where
   pub line : List ℕ
   pub no_feed : HasNoFeed line
@@ -37,7 +37,7 @@ without_return-longer (b ∷ c ∷ bs) = omega (arith, without_return-longer (c 
 stays_long : (line : List ℕ) → 4097 < length line → 4096 < length (without_return line)
 stays_long line long = omega (arith, without_return-longer line)
 
--- the bytes of a line and its line feed, taken from a window
+-- the bytes of a line and its line feed, from a window
 pub take-line : (window : List ℕ) (len : ℕ) → EndsLine window len → take (len + 1) window ≡ take len window ++ 10 ∷ []
 take-line window len ends =
     let long : length (take len window) ≡ len = length-take-le len window (omega (arith, ends.within)) in
@@ -45,7 +45,7 @@ take-line window len ends =
     ∙ take-append-add (take len window) (10 ∷ drop (len + 1) window) 1)
 
 module _ {R : Type 0} {remaining : R → Option (List ℕ)} where
-  -- the reader failed, or gave too much
+  -- the reader failed, or returned too much
   pub Drops-stops : {r s t : Watched R} {a b c : Input} (fault : RunError) → Drops remaining r s a b → Advances remaining s t b c []
       → c.window.bytes ≡ b.window.bytes → IsFault c t fault → StopsInLine remaining r t a c fault
   Drops-stops {a = a} {c = c} fault drops advances same why =
@@ -91,7 +91,7 @@ module _ {R : Type 0} {remaining : R → Option (List ℕ)} where
           stays_long line (omega (arith, drops.long, length-append drops.line (take len c.window.bytes))),
         )
 
-    -- the line goes on
+    -- the line continues
     pub Drops-more : {d : Input} → HasNoFeed c.window.bytes → d.window.bytes ≡ [] → d.still ≡ c.still → d.is_ended ≡ c.is_ended → Drops remaining r t a d
     Drops-more no_feed is still ended = record {
       line = drops.line ++ c.window.bytes;

@@ -1,4 +1,4 @@
--- How a run goes on, line by line.
+-- How a run advances, line by line.
 use Rattle.std.proofs.Common.{◌≡◌, ℕ, ◌+◌, ◌-◌, ◌^◌, ◌<◌, ◌≤◌, ◌↔◌, ⊎_elim, Bool, true, false, Option, Some, None, List, [], ◌∷◌, ◌++◌, length, take, Result}
 use Rattle.std.proofs.Common.{Ok, Err, refl, sym, ap, subst, ◌∙◌, arith, append_assoc, add-zero, add_assoc, zero-add, length-append}
 use Rattle.std.proofs.KnownBytes.{Appends-nil, Appends-trans, Consumes-nil, Consumes-trans}
@@ -32,7 +32,7 @@ use Rattle.mmdb_core.proofs.Inputs.{Advances-nearer, take-append}
 abbrev pub one_if : Bool → ℕ
 one_if is_refused = if is_refused then 1 else 0
 
--- The machine's run over the lines answered: whatever lines follow, their run goes on behind this text from this state.
+-- The machine's run over the lines executed: whatever lines follow, their run continues after this text from this state.
 pub record Transcribed (answered : List (List ℕ)) (state : State) (text : List ℕ) (refused : ℕ) : Type 0 where
   pub each : (rest : List Bool) (left : List (List ℕ)) → (choices : List Bool)
       × (transcript choices first_state (answered ++ left)
@@ -66,8 +66,8 @@ transcribed_line answered line state text refused choice so_far = record {
       );
 }
 
--- The bytes kept so far are cut into the lines answered and the window: whatever follows, which is nothing where the
--- input has ended, the lines are those answered and then those of the window and what follows.
+-- The bytes kept so far consist of the lines executed and the window. Whatever bytes follow, and none do if the input has ended, the lines
+-- are those executed and then those of the window and the bytes after it.
 pub record Cut (kept window : List ℕ) (is_ended : Bool) (answered : List (List ℕ)) : Type 0 where
   pub lines : (more : List ℕ) → (is_ended ≡ true → more ≡ []) → lines_of (kept ++ more) ≡ answered ++ lines_of (window ++ more)
   pub whole : is_ended ≡ false → (more : List ℕ) → whole_lines_of (kept ++ more) ≡ answered ++ whole_lines_of (window ++ more)
@@ -105,7 +105,7 @@ first_whole gone line after is_line going more =
     absurd (let clash : true ≡ false = sym h.3 ∙ going in cc))
     is_line.end
 
--- what an input that has not ended was before
+-- an input that has not ended had not ended before
 not_before : {R : Type 0} {remaining : R → Option (List ℕ)} {r s : Watched R} {a b : Input} {gone : List ℕ} → Advances remaining r s a b gone
     → b.is_ended ≡ false → a.is_ended ≡ false
 not_before {a = a} h going = is_false a.is_ended (λ e. let clash : true ≡ false = sym ((h.ended e).1) ∙ going in cc)
@@ -120,7 +120,7 @@ module _ {R : Type 0} {remaining : R → Option (List ℕ)} {r s : Watched R} {a
       let p = h.ended e in
       ap (λ l. take (a.still - 1) l ++ more) p.0 ∙ (ap (λ l. l ++ more) (take-nil (a.still - 1)) ∙ follows p.1)
 
-  -- one more line was answered
+  -- one more line was executed
   cut_line : (line : List ℕ) → IsLine gone line b → Cut (kept ++ take (a.still - 1) h.given) b.window.bytes b.is_ended (answered ++ without_return line ∷ [])
   cut_line line is_line = record {
     lines = λ more follows.
@@ -137,7 +137,7 @@ module _ {R : Type 0} {remaining : R → Option (List ℕ)} {r s : Watched R} {a
         ∙ sym (append_assoc answered (without_return line ∷ []) (whole_lines_of (b.window.bytes ++ more))))));
   }
 
-  -- the input broke off before the next line had ended
+  -- the input ended early, before the end of the next line
   cut_stop : HasNoFeed (gone ++ b.window.bytes) → b.is_ended ≡ false → whole_lines_of (kept ++ take (a.still - 1) h.given) ≡ answered
   cut_stop no_feed going =
       cut.whole (not_before h going) (take (a.still - 1) h.given)
@@ -160,7 +160,7 @@ refused_behind : (refused : ℕ) (state : State) → refused + (transcript [] st
 unfolding transcript
 refused_behind refused state = add-zero refused
 
--- What a run keeps from line to line.
+-- The invariant of a run between lines.
 pub record Running {R W : Type 0} (remaining : R → Option (List ℕ)) (contents : W → Option (List ℕ)) (limit : ℕ) (reader now : Watched R)
     (writer written : Watched W) (input : Input) (state : State) (totals : Totals) : Type 0 where
   pub given : List ℕ
@@ -248,7 +248,7 @@ module _ {R W : Type 0} {remaining : R → Option (List ℕ)} {contents : W → 
       subst (λ kept. Cut kept next.window.bytes next.is_ended (so_far.answered ++ without_return line ∷ [])) (sym (kept_all h))
       (cut_line so_far.cut h line is_line)
 
-  -- the replies to the lines that had ended were written before the input broke off
+  -- the replies to the lines that had ended were written before the input ended early
   stopped : {later : Watched R} {next : Input} {more : Watched W} {fault : RunError} (h : StopsInLine remaining now later input next fault)
       → next.is_ended ≡ false → WritesNothing contents written more
       → AnswersLines (whole_lines_of (take limit (so_far.given ++ h.advances.given))) (contents (inner_of writer)) (contents (inner_of more))
@@ -265,7 +265,7 @@ module _ {R W : Type 0} {remaining : R → Option (List ℕ)} {contents : W → 
             (appends_keeps (contents (inner_of writer)) (contents (inner_of written)) (contents (inner_of more)) so_far.text so_far.appends nothing.kept));
       }
 
-  -- the writer failed in the reply to a line: a front of it was written behind the others
+  -- the writer failed in the reply to a line: a prefix of it was written after the others
   cut_off : {later : Watched R} {next : Input} {after : State} {more : Watched W} {E : Type 0} {e : E}
       (h : PassesReplied {E = E} remaining contents now later input next state after written more (Err e))
       → AnswersFront (lines_of (take limit (so_far.given ++ h.passes.advances.given))) (contents (inner_of writer)) (contents (inner_of more))
@@ -289,7 +289,7 @@ module _ {R W : Type 0} {remaining : R → Option (List ℕ)} {contents : W → 
 
   -- a step of a run
   module _ (later : Watched R) (next : Input) (after : State) (more : Watched W) where
-    -- a run goes on by a line
+    -- a run continues after a line
     pub running_more : (byte : ℕ) (is_refused : Bool) → byte ≡ bool_byte is_refused
         → GoesOn remaining contents now later input next state after written more (Ok (Some is_refused))
         → Running remaining contents limit reader later writer more next after (record { lines = totals.lines + 1; refused = totals.refused + byte })
@@ -328,7 +328,7 @@ module _ {R W : Type 0} {remaining : R → Option (List ℕ)} {contents : W → 
     advanced Write h = (h.passes.gone, h.passes.advances)
     advanced TooLong h = (h.0.gone, h.0.advances)
 
-    -- a run broke off
+    -- a run ended early
     pub broke_off : (fault : RunError) → GoesOn remaining contents now later input next state after written more (Err fault)
         → BrokeOff remaining reader later limit (contents (inner_of writer)) (contents (inner_of more)) fault
     broke_off Read h = record {
@@ -350,7 +350,7 @@ module _ {R W : Type 0} {remaining : R → Option (List ℕ)} {contents : W → 
       written = stopped h.0 h.0.why.0 h.1;
     }
 
-    -- what was taken where a run broke off
+    -- the bytes read when a run ended early
     too_long_iff : (fault : RunError) (taken : ℕ) → GoesOn remaining contents now later input next state after written more (Err fault)
         → taken + next.still ≡ limit + 1 → (fault ≡ TooLong) ↔ ((limit < taken) × (has_failed more ≡ false))
     too_long_iff Read taken h counted = (
@@ -416,7 +416,7 @@ module _ {R W : Type 0} {remaining : R → Option (List ℕ)} {contents : W → 
               refused = sym (ap (λ (t : Transcript). t.refused) is ∙ refused_behind totals.refused state);
             }
 
-    -- which device failed where a run broke off
+    -- the device that failed when a run ended early
     pub read_at_fault : (result : Result Totals RunError) (fault : RunError) → result ≡ Err fault
         → GoesOn remaining contents now later input next state after written more (Err fault)
         → IsErrOf result Read → has_failed later ≡ true
@@ -443,7 +443,7 @@ module _ {R W : Type 0} {remaining : R → Option (List ℕ)} {contents : W → 
       λ f. absurd (let clash : true ≡ false = sym f ∙ h.2.unfailed in cc),
     )
 
--- No line was answered, so this is the end.
+-- No line was executed, so this is the end.
 pub none_answered : (answered : Option Bool) → ((is_refused : Bool) → (◌≡◌ {A = Option Bool} answered (Some is_refused)) → ⊥) → answered ≡ None
 none_answered None no_line = refl
 none_answered (Some is_refused) no_line = absurd (no_line is_refused refl)

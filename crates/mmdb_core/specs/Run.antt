@@ -14,17 +14,17 @@ use Rattle.mmdb_core.specs.declared.run_error.RunError.{RunError}
 use Rattle.mmdb_core.specs.declared.run_error.RunError.TheVariants.{Read, Write, TooLong}
 use Rattle.mmdb_core.specs.declared.limits.Totals.{Totals}
 
--- What a run writes, and how many of its replies are an `error`.
+-- The replies that a run writes, and the number of `error` replies.
 pub record Transcript : Type 0 where
   pub text : List ℕ
   pub refused : ℕ
 
--- One reply, and then the others.
+-- One reply before the others.
 abbrev pub before_others : Option Reply → Transcript → Transcript
 before_others reply others =
     record { text = text_of reply ++ others.text; refused = (if is_error reply then 1 else 0) + others.refused }
 
--- The run over some lines. To each line a choice says whether memory is refused to it; without one it isn't.
+-- The run over some lines. A choice for each line says whether its allocations fail; without a choice they succeed.
 unfoldable pub transcript : List Bool → State → List (List ℕ) → Transcript
 transcript choices state [] = record { text = []; refused = 0 }
 transcript [] state (line ∷ lines) =
@@ -32,16 +32,15 @@ transcript [] state (line ∷ lines) =
 transcript (choice ∷ choices) state (line ∷ lines) =
     before_others (answer choice line state).reply (transcript choices (answer choice line state).state lines)
 
--- What was appended are the replies of a run of the machine on the input's lines, in order, and nothing else; the
--- totals count the lines and the `error` replies.
+-- The bytes appended are the replies of a run of the machine on the input's lines, in order, and nothing else; the totals count the lines
+-- and the `error` replies.
 pub record Answers (input : List ℕ) (old new : Option (List ℕ)) (totals : Totals) : Type 0 where
   pub choices : List Bool
   pub written : Appends old new (transcript choices first_state (lines_of input)).text
   pub lines : totals.lines ≡ length (lines_of input)
   pub refused : totals.refused ≡ (transcript choices first_state (lines_of input)).refused
 
--- How a run came to the end of its input: its reader gave this input and has nothing left, and the replies to its lines
--- were written.
+-- A run reached the end of its input: its reader returned this input and has nothing left, and the replies to its lines were written.
 pub record ReachedEnd {R : Type 0} (remaining : R → Option (List ℕ)) (reader after : Watched R) (limit : ℕ) (old new : Option (List ℕ))
     (totals : Totals) : Type 0 where
   pub input : List ℕ
@@ -50,32 +49,32 @@ pub record ReachedEnd {R : Type 0} (remaining : R → Option (List ℕ)) (reader
   pub within : length input ≤ limit
   pub answers : Answers input old new totals
 
--- At most one byte more than the limit was taken, and the input was too long exactly where more than the limit was taken
--- and the writer did not fail.
+-- At most one byte more than the limit was read. The input was too long exactly if more than the limit was read and the writer did not
+-- fail.
 pub record TakesWithin {R : Type 0} (remaining : R → Option (List ℕ)) (old new : Watched R) (limit : ℕ) (IsTooLong IsUnfailed : Type 0) : Type 0 where
   pub bytes : List ℕ
   pub consumed : Consumes (remaining (inner_of old)) (remaining (inner_of new)) bytes
   pub within : length bytes ≤ limit + 1
   pub too_long : IsTooLong ↔ ((limit < length bytes) × IsUnfailed)
 
--- The replies to some lines were written, and nothing else, memory refused to some of them or not.
+-- The replies to some lines were written, and nothing else; allocations may have failed for any of the lines.
 pub record AnswersLines (lines : List (List ℕ)) (old new : Option (List ℕ)) : Type 0 where
   pub choices : List Bool
   pub written : Appends old new (transcript choices first_state lines).text
 
--- A front of such replies was written.
+-- A prefix of the replies to some lines was written.
 pub record AnswersFront (lines : List (List ℕ)) (old new : Option (List ℕ)) : Type 0 where
   pub choices : List Bool
   pub written : AppendsPrefix old new (transcript choices first_state lines).text
 
--- What was written by a run that broke off, by the bytes within the limit that its reader gave: where the reader failed or
--- gave too much, the replies to the lines that a line feed ended; where the writer failed, a front of the replies.
+-- What a run that ended early wrote, by the bytes within the limit that its reader returned. If the reader failed or returned too much, the
+-- replies to the lines that end with a line feed were written; if the writer failed, a prefix of the replies.
 abbrev pub IsWritten : RunError → List ℕ → Option (List ℕ) → Option (List ℕ) → Type 0
 IsWritten Read input old new = AnswersLines (whole_lines_of input) old new
 IsWritten Write input old new = AnswersFront (lines_of input) old new
 IsWritten TooLong input old new = AnswersLines (whole_lines_of input) old new
 
--- How a run broke off: its reader gave some bytes, and that much of their replies was written.
+-- A run ended early: its reader returned some bytes, and the corresponding part of their replies was written.
 pub record BrokeOff {R : Type 0} (remaining : R → Option (List ℕ)) (reader after : Watched R) (limit : ℕ) (old new : Option (List ℕ))
     (fault : RunError) : Type 0 where
   pub given : List ℕ

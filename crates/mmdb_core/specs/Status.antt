@@ -1,4 +1,4 @@
--- The exit status of a program, by how its run ended.
+-- The exit status of a program, by the result of its run.
 use Rattle.std.specs.Prelude.{ℕ, Result, Ok, Err}
 use Rattle.mmdb_core.specs.declared.run_error.RunError.{RunError}
 use Rattle.mmdb_core.specs.declared.run_error.RunError.TheVariants.{Read, Write, TooLong}

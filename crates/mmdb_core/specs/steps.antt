@@ -1,4 +1,4 @@
--- What the steps of a run do. They say how the pieces of the code fit together, and not what is promised.
+-- Definitions for the steps of a run, which connect parts of the code. The contract of a run does not use them.
 pub mod Feeds
 pub mod Input
 pub mod Respond

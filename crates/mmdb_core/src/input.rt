@@ -12,35 +12,36 @@ use mm_lang::MAX_LINE_BYTES;
 use mm_value::Watched;
 use std::io::Read;
 
-/// The input of a run: what was taken from its reader and not yet answered, and how much may still be taken.
+/// The input of a run: the bytes that were read and not yet processed, and the number of bytes that may still be read.
 #[derive(Drop)]
 pub(crate) struct Input {
     window: Window,
-    // One more than the limit leaves: the last of them shows that the input is too long, and is dropped.
+    // One more than the limit leaves. If that last byte is read, the input is too long, and the byte is dropped.
     still: u64,
-    // The reader gave no more bytes, and is not asked again.
+    // The reader returned no more bytes, and is not read again.
     is_ended: bool,
 }
 
-/// What comes next of an input.
+/// The next item of an input.
 #[derive(Clone, Copy, Debug)]
 pub(crate) enum Next {
-    /// A line of `len` bytes in front of the window. The next one begins `step` bytes further on.
+    /// A line of `len` bytes at the front of the window. The next line begins after `step` bytes.
     Line { len: usize, step: usize },
-    /// A line that is too long to be read, which is gone.
+    /// A line that was too long, and was dropped.
     Long,
-    /// Nothing: the input has ended.
+    /// The end of the input.
     End,
 }
 
-/// The length of the line that ends in the bytes, without its line feed.
+/// Returns the length of the first line of some bytes, without its line feed, or `None` if there is no line feed.
 fn line_end(bytes: &[u8]) -> Option<usize>
     ensures { MatchOption result (HasNoFeed bytes.now) (EndsLine bytes.now) }
 {
     bytes.find_byte(b'\n')
 }
 
-/// What the bytes of a window begin with, if that can be told of them alone: a whole line, or a line that is too long.
+/// Returns what the bytes of a window begin with, a whole line or a line that is too long, or `None` if the bytes alone do not determine
+/// it.
 fn look(bytes: &[u8]) -> Option<Next>
     ensures { LooksLike bytes.now result }
 {
@@ -54,7 +55,7 @@ fn look(bytes: &[u8]) -> Option<Next>
 }
 
 impl Input {
-    /// An input of which nothing was taken.
+    /// Returns an input from which nothing was read.
     pub(crate) fn new(limits: Limits) -> Input
         ensures window { result.window.bytes ≡ [] }
         ensures still { result.still ≡ limits + 1 }
@@ -68,14 +69,14 @@ impl Input {
         }
     }
 
-    /// The bytes that were taken and not yet answered.
+    /// Returns the bytes that were read and not yet processed.
     pub(crate) fn taken(&self) -> &[u8]
         ensures { result.now ≡ self.now.window.bytes }
     {
         self.window.as_slice()
     }
 
-    /// Takes more from the reader, or learns that there is no more.
+    /// Reads more bytes, or notes the end of the input.
     fn fill<R: Read>(&mut self, reader: &mut Watched<R>) -> Result<(), RunError>
         requires short { length self.old.window.bytes < 8192 }
         requires some { 0 < self.old.still }
@@ -96,9 +97,8 @@ impl Input {
         Ok(())
     }
 
-    /// What comes next. After a `Line` the caller answers it, and then drops it by `skip`.
-    /// `Read` where the reader answered an error, `TooLong` where it gave more than the limit; neither is told before
-    /// each whole line within the limit has come.
+    /// Returns the next item. After a `Line` the caller processes it, and then drops it by `skip`. Fails with `Read` if the reader fails,
+    /// and with `TooLong` if it returns more bytes than the limit; in both cases after all whole lines within the limit.
     pub(crate) fn next<R: Read>(&mut self, reader: &mut Watched<R>) -> Result<Next, RunError>
         ensures comes { IfOk result (Comes R.remaining reader.old reader.new self.old self.new) }
         ensures stops { IfErr result (StopsInLine R.remaining reader.old reader.new self.old self.new) }
@@ -110,7 +110,7 @@ impl Input {
         Ok(next)
     }
 
-    /// Drops the first bytes of those that were taken.
+    /// Drops the first `step` bytes of those that were read.
     pub(crate) fn skip(&mut self, step: usize)
         requires { step ≤ length self.old.window.bytes }
         ensures window { self.new.window.bytes ≡ drop step self.old.window.bytes }
@@ -120,7 +120,7 @@ impl Input {
         self.window.skip(step);
     }
 
-    /// Takes from the reader until it can be told what comes next. A line that is too long stays in the window.
+    /// Reads until the next item is known. A line that is too long remains in the window.
     fn find_line<R: Read>(&mut self, reader: &mut Watched<R>) -> Result<Next, RunError>
         ensures advances { Advances R.remaining reader.old reader.new self.old self.new [] }
         ensures finds { IfOk result (Finds self.new) }
@@ -141,7 +141,7 @@ impl Input {
         }
     }
 
-    /// What comes next where all that is left lies in the window, with no line feed.
+    /// Returns the next item if the rest of the input is in the window and has no line feed.
     fn last_line(&self) -> Next
         requires { HasNoFeed self.now.window.bytes }
         ensures { EndsWith self.now.window.bytes result }
@@ -152,7 +152,7 @@ impl Input {
         }
     }
 
-    /// Drops the rest of a line that is too long, of which more than a line's bytes lie in the window.
+    /// Drops the rest of a line that is too long. The window has more bytes of the line than a line may have.
     fn skip_line<R: Read>(&mut self, reader: &mut Watched<R>) -> Result<(), RunError>
         requires no_feed { HasNoFeed self.old.window.bytes }
         requires long { 4097 < length self.old.window.bytes }
@@ -174,7 +174,7 @@ impl Input {
         Ok(())
     }
 
-    /// Drops all bytes that were taken.
+    /// Drops all bytes that were read.
     fn clear(&mut self)
         ensures window { self.new.window.bytes ≡ [] }
         ensures still { self.new.still ≡ self.old.still }

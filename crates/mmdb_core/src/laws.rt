@@ -1,4 +1,4 @@
-//! Laws of the definitions that the contract of a run speaks of.
+//! Laws of the definitions that the contract of a run uses.
 ghost use Rattle.std.specs.Prelude.{◌≡◌, ◌+◌, ◌<◌, ◌≤◌, ℕ, Bool, true, false, List, [], length, Option, Some, None, Ok, Result, IfSome, IsErrOf};
 ghost use Rattle.mm_lang.specs.Answering.{answer, outcome_of};
 ghost use Rattle.mm_lang.specs.Reading.{is_nothing, reading, takes_memory};
@@ -21,8 +21,8 @@ use crate::run_error::RunError;
 use mm_value::Watched;
 use std::io::{Read, Write};
 
-/// What a line is answered: with memory, what its reading leads to; without, `error 90` where it takes memory, and then
-/// nothing changes. A line that takes none is answered the same either way.
+/// If allocations succeed, the reply to a line and the next state follow from its reading. If one fails and the line may allocate, the
+/// reply is `error 90` and nothing changes. A line that does not allocate has the same reply in both cases.
 pub fn answers_follow_the_choice()
     ensures granted { (line : List ℕ) (state : State) → answer false line state ≡ outcome_of (reading line) state }
     ensures refused { (line : List ℕ) (state : State) → takes_memory line ≡ true
@@ -31,8 +31,7 @@ pub fn answers_follow_the_choice()
         → answer a line state ≡ answer b line state }
 {}
 
-/// Just these lines take no memory: those that are too long, empty lines and comments, those that begin or end a transaction, and
-/// those that go back to a savepoint.
+/// Exactly these lines never allocate: lines that are too long, empty lines and comments, BEGIN, COMMIT, ROLLBACK and ROLLBACK TO.
 pub fn commands_take_memory()
     ensures long { (line : List ℕ) → 4096 < length line → takes_memory line ≡ false }
     ensures nothing { (line : List ℕ) → is_nothing line ≡ true → takes_memory line ≡ false }
@@ -42,8 +41,8 @@ pub fn commands_take_memory()
         → ((command : Command) → reading line ≡ Ok command → is_done_without_memory command ≡ false) → takes_memory line ≡ true }
 {}
 
-/// In a transaction ROLLBACK is never refused, not even for lack of memory: the rows are those that were saved at BEGIN, and
-/// the catalog stays. Outside one it is refused with `NoTransaction`.
+/// In a transaction ROLLBACK is never refused, not even if memory ran out: the rows are those saved at BEGIN, and the catalog is unchanged.
+/// Outside a transaction it is refused with `NoTransaction`.
 pub fn rollback_is_never_refused()
     ensures done { (line : List ℕ) (state : State) (saved : Saved) (choice : Bool) → reading line ≡ Ok Rollback → state.saved ≡ Some saved
         → answer choice line state
@@ -52,8 +51,8 @@ pub fn rollback_is_never_refused()
         → answer choice line state ≡ record { reply = Some (Refused NoTransaction); state = state } }
 {}
 
-/// ROLLBACK TO is not refused, not even for lack of memory, if the open transaction has a savepoint of the name: the rows are those
-/// that were saved there, the savepoint and those before it stay, and so does the catalog.
+/// ROLLBACK TO is never refused, not even if memory ran out, if the open transaction has a savepoint with the name. The rows are those
+/// saved there, the savepoint and those before it remain, and the catalog is unchanged.
 pub fn rollback_to_is_never_refused()
     ensures { (line name : List ℕ) (state : State) (saved : Saved) (choice : Bool) → reading line ≡ Ok (RollbackTo name) → state.saved ≡ Some saved
         → list_any (λ (savepoint : Savepoint). same_name name savepoint.name) saved.savepoints ≡ true
@@ -68,8 +67,7 @@ pub fn rollback_to_is_never_refused()
         } }
 {}
 
-/// Of a reader whose bytes are known, a run takes at most one byte more than its limit, and that one only where the input
-/// is too long.
+/// If the bytes of a reader are known, a run reads at most one byte more than its limit, and that byte only if the input is too long.
 pub fn runs_take_within_their_limit<R: Read, W: Write>(
     _before: &Watched<R>,
     _after: &Watched<R>,
@@ -82,8 +80,8 @@ pub fn runs_take_within_their_limit<R: Read, W: Write>(
         → length input ≤ length left + (_limits + 1) }
 {}
 
-/// Where it is known what the reader of a run had left, a run that reached the end of its input took all of that, it was no
-/// more than the limit, and the replies written are those to all of its lines.
+/// If the remaining bytes of the reader are known, a run that reached the end of its input read all of them. They were no more than the
+/// limit, and the replies written are those to all of its lines.
 pub fn runs_answer_the_whole_input<R: Read>()
     ensures taken { (before after : Watched R) (limit : ℕ) (old new : Option (List ℕ)) (totals : Totals) (input : List ℕ)
         → R.remaining (inner_of before) ≡ Some input → ReachedEnd R.remaining before after limit old new totals

@@ -1,4 +1,4 @@
-//! The command language before the database: a script is read line by line, and each line gets its reply.
+//! Runs of the command language: a script is read line by line, and each line gets its reply.
 #![tactic(auto)]
 
 mod input;

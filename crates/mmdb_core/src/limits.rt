@@ -1,12 +1,12 @@
-//! The limits of a run, and what it counts.
+//! The limits of a run, and its totals.
 ghost use Rattle.std.specs.Prelude.{◌≡◌, ◌^◌, ◌≤◌, ◌↔◌, IsSome, IfSome};
 
 use std::marker::Model;
 
-/// The most bytes that the limit of an input can be: 2^40.
+/// The largest limit of an input, in bytes: 2^40.
 pub const MAX_MAX_INPUT: u64 = 1_099_511_627_776;
 
-/// How long an input may be.
+/// The limit of an input's length.
 #[derive(Clone, Copy, Debug)]
 pub struct Limits {
     max_input: u64,
@@ -25,7 +25,7 @@ impl Model for Limits {
 }
 
 impl Limits {
-    /// Inputs of at most `max_input` bytes. None exactly where that is above 2^40.
+    /// Returns a limit of `max_input` bytes, or `None` if `max_input` exceeds 2^40.
     pub fn new(max_input: u64) -> Option<Limits>
         ensures variant { IsSome result ↔ (max_input ≤ 2 ^ 40) }
         ensures value { IfSome result (λ limits. limits ≡ max_input) }
@@ -36,7 +36,7 @@ impl Limits {
         Some(Limits { max_input })
     }
 
-    /// The most bytes of an input.
+    /// Returns the most bytes of an input.
     pub fn max_input(self) -> u64
         ensures value { result ≡ self }
         ensures bound { result ≤ 2 ^ 40 }
@@ -45,11 +45,11 @@ impl Limits {
     }
 }
 
-/// What a run counted.
+/// The totals of a run.
 #[derive(Clone, Copy, Debug, PartialEq, Eq)]
 pub struct Totals {
-    /// All lines of the input.
+    /// The number of lines of the input.
     pub lines: u64,
-    /// The lines whose reply is an `error`.
+    /// The number of lines whose reply is an `error`.
     pub refused: u64,
 }

@@ -15,20 +15,19 @@ use mm_value::{Refusal, Watched, WriteError};
 use std::alloc::Global;
 use std::io::{Read, Write};
 
-/// Reads commands from the reader, one a line, and writes their replies, each flushed as soon as it is written.
+/// Reads commands from the reader, one per line, and writes their replies, each flushed as soon as it is written.
 ///
-/// `Ok` where the reader gave no more bytes. What was written then are the replies of the machine that keeps only lists of
-/// rows to the lines of an input, in order, and nothing else, where a line that takes memory may be answered
-/// `error 90 memory` instead and then changes nothing; `ROLLBACK` takes none, so in a transaction it is never refused. The
-/// totals count the lines of this input and the `error` replies. It has no more bytes than the limit, and it is all that the
-/// reader had left, where that is known. For a reader that does not reveal its bytes, such as standard input, the contract does
-/// not say that this input came from it. At most one byte more than the limit is taken.
+/// Returns `Ok` at the end of the input. The bytes written are then the replies of the machine of row lists to the lines of an input, in
+/// order, and nothing else. A line that may allocate may instead get the reply `error 90 memory`, and then changes nothing. `ROLLBACK`
+/// allocates nothing, so in a transaction it is never refused. The totals count the lines of this input and the `error` replies. The input
+/// has no more bytes than the limit. If the remaining bytes of the reader are known, the input is all of them. For a reader that does not
+/// reveal its bytes, such as standard input, the contract does not say that this input came from it. At most one byte more than the limit
+/// is read.
 ///
-/// `Read` where the reader answered an error, `Write` where the writer answered one or took 0 of some bytes, `TooLong`
-/// where the reader gave more bytes than the limit.
-/// `Read` and `TooLong` come after the replies to the lines within the limit that a line feed ended, and no others;
-/// `Write` comes after a front of the replies to the lines that the reader gave. An interrupted call of a device is made
-/// again up to 16 times in a row.
+/// Fails with `Read` if the reader fails, with `Write` if the writer fails or accepts 0 of some bytes, and with `TooLong` if the reader
+/// returns more bytes than the limit. Before `Read` and `TooLong`, exactly the replies to the lines within the limit that end with a line
+/// feed are written. Before `Write`, a prefix of the replies to the lines that the reader returned is written. An interrupted call of a
+/// device is repeated up to 16 times in a row.
 pub fn run<R: Read, W: Write>(
     alloc: Global,
     reader: &mut Watched<R>,
@@ -42,14 +41,14 @@ pub fn run<R: Read, W: Write>(
     ensures answers { IfOk result (ReachedEnd R.remaining reader.old reader.new limits
         (W.contents (inner_of writer.old)) (W.contents (inner_of writer.new))) }
 
-    // What was taken, and when that was too much.
+    // How much was read, and when the input was too long.
     ensures taken { TakesWithin R.remaining reader.old reader.new limits
         (IsErrOf result RunError.TooLong) (has_failed writer.new ≡ false) }
 
     ensures read { IsErrOf result RunError.Read → has_failed reader.new ≡ true }
     ensures write { IsErrOf result RunError.Write ↔ (has_failed writer.new ≡ true) }
 
-    // What was written where the run broke off.
+    // What was written if the run ended early.
     ensures broke_off { IfErr result (BrokeOff R.remaining reader.old reader.new limits
         (W.contents (inner_of writer.old)) (W.contents (inner_of writer.new))) }
 {
@@ -66,7 +65,7 @@ pub fn run<R: Read, W: Write>(
     Ok(totals)
 }
 
-/// Answers the next line, and tells whether the reply is an `error`; none where the input has ended.
+/// Executes the next line and writes its reply. Returns whether the reply is an `error`, or `None` at the end of the input.
 fn answer_next<R: Read, W: Write>(
     alloc: Global,
     input: &mut Input,
@@ -90,7 +89,7 @@ fn answer_next<R: Read, W: Write>(
     }
 }
 
-/// How a run goes on after a line was answered.
+/// Returns how a run continues after the reply to a line.
 fn going_on(answered: Result<bool, WriteError>) -> Result<Option<bool>, RunError>
     ensures { result ≡ goes_on_of answered }
 {
@@ -100,7 +99,7 @@ fn going_on(answered: Result<bool, WriteError>) -> Result<Option<bool>, RunError
     }
 }
 
-/// A line without the carriage return at its end.
+/// Returns a line without the carriage return at its end.
 fn without_return(line: &[u8]) -> &[u8]
     ensures { result.now ≡ without_return line.now }
 {

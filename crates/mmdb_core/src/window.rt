@@ -1,4 +1,4 @@
-//! Bytes of the input that were taken from the reader and not yet answered.
+//! Bytes of the input that were read and not yet processed.
 ghost use Rattle.std.specs.Prelude.{◌≡◌, ◌-◌, ◌<◌, ◌≤◌, [], length, take, drop, false, true, IfOk, OnOk, OnErr};
 ghost use Rattle.std.specs.Io.KnownBytes.{Keeps};
 ghost use Rattle.mm_value.specs.Watched.{inner_of, has_failed};
@@ -10,19 +10,19 @@ use std::io;
 use std::io::Read;
 use std::marker::Model;
 
-/// How many bytes a window holds.
+/// The capacity of a window, in bytes.
 const WINDOW_BYTES: usize = 16384;
 
-/// How many bytes the reader is asked for at most at a time, for which there is always room.
+/// The most bytes per read. The window always has capacity for them.
 const CHUNK_BYTES: usize = 4096;
 
-/// Bytes that were taken from the reader and not yet answered, in a vector of fixed capacity.
+/// Bytes that were read and not yet processed, in a vector of fixed capacity.
 #[derive(Drop)]
 pub(crate) struct Window {
     taken: ArrayVec<u8, WINDOW_BYTES>,
-    // How many bytes at the front were answered.
+    // The number of bytes at the front that were processed.
     start: usize,
-    // What the reader writes into.
+    // The buffer of the reader.
     chunk: [u8; CHUNK_BYTES],
 }
 
@@ -38,7 +38,7 @@ impl Model for Window {
 }
 
 impl Window {
-    /// A window with nothing in it.
+    /// Returns an empty window.
     pub(crate) fn new() -> Window
         ensures { result.bytes ≡ [] }
     {
@@ -49,7 +49,7 @@ impl Window {
         }
     }
 
-    /// The bytes that were taken and not dropped since, in the order in which they came.
+    /// Returns the bytes that were read and not dropped since, in order.
     pub(crate) fn as_slice(&self) -> &[u8]
         ensures { result.now ≡ self.now.bytes }
     {
@@ -72,7 +72,7 @@ impl Window {
         self.taken.truncate(self.taken.len() - 1);
     }
 
-    /// Takes at most so many bytes more from the reader. It takes none only at the end of the input.
+    /// Reads at most `most` more bytes. Returns 0 only at the end of the input.
     pub(crate) fn fill<R: Read>(
         &mut self,
         reader: &mut Watched<R>,
@@ -91,7 +91,7 @@ impl Window {
         self.take_chunk(reader, most)
     }
 
-    /// Moves the bytes to the front where less than a chunk fits behind them.
+    /// Moves the bytes to the front if less than a chunk fits after them.
     fn make_room(&mut self)
         requires { length self.old.bytes < 8192 }
         ensures same { self.new.bytes ≡ self.old.bytes }
@@ -103,7 +103,7 @@ impl Window {
         }
     }
 
-    /// Takes at most so many bytes, and at most a chunk.
+    /// Reads at most `most` bytes, and at most a chunk.
     fn take_chunk<R: Read>(&mut self, reader: &mut Watched<R>, most: usize) -> io::Result<usize>
         requires room { 4096 ≤ self.old.room }
         requires some { 0 < most }

@@ -1,9 +1,9 @@
-//! Each growth of memory that a call asks for is refused in turn: then what the call could have changed is as before, and the
-//! call given again answers as it should.
+//! Each allocation of a call fails in turn. Then everything that the call could have changed is as before, and the call succeeds when it is
+//! repeated.
 //!
-//! A run refuses one growth, or that one and those behind it until a line is written, since some calls ask once more. Where it is in
-//! front of the call or behind it a test ends there: other runs refuse those of the call.
-//! A selection or a join is a part of the run of a plan that asks for it, and is tested with that.
+//! One allocation fails in each run, or it and all later ones until a line is written, since some calls try again. If it is before or after
+//! the call, the test ends, since other runs fail those of the call. A selection or a join is part of the run of a plan, and is tested with
+//! that.
 ghost use Rattle.std.specs.Prelude.{◌≤◌};
 
 mod lists;
@@ -15,12 +15,12 @@ use mm_value::{AsValue, Few, Row, Value, compare};
 use std::alloc::{AllocError, Global};
 use std::io;
 
-/// Tells that a call was refused memory and is given again. A run that refuses growths looks for the line.
+/// Writes that an allocation of a call failed and the call is repeated. A run with failed allocations looks for this line.
 fn asked_again(rt: &impl Print) -> io::Result<()> {
     rt.println("refused")
 }
 
-/// The query of two fields and these atoms.
+/// Returns the query with two fields and these atoms.
 fn query_of<const N: usize>(
     alloc: Global,
     fields: [FieldPlace; 2],
@@ -39,7 +39,7 @@ fn query_of<const N: usize>(
     })
 }
 
-/// Whether rows are these pairs of whole numbers, in this order.
+/// Returns whether rows are these pairs of integers, in this order.
 fn are_pairs(rows: &[Row], pairs: &[(i64, i64)]) -> bool {
     for (row, (first, second)) in rows.iter().zip(pairs) {
         let [left, right] = row.values() else {

@@ -19,7 +19,7 @@ use std::alloc::Global;
 use std::process::Abort;
 use std::test::Fail;
 
-/// Joins a list of no combinations by nested loops, where memory is refused once at most.
+/// Joins a list without combinations by nested loops. Tries again once if an allocation fails.
 fn loops_over_none(rt: &impl Abort, alloc: Global, store: &Store, join: Join) -> Result<(), Fail>
     requires { (table : ℕ) × CanJoin store.now join table }
 {
@@ -56,7 +56,7 @@ fn joins_a_list_of_no_combinations(rt: HostRuntime) -> Result<(), Fail> {
     loops_over_none(&rt, alloc, &store, join)
 }
 
-/// Joins a list of no combinations by a hash table that is built, where memory is refused once at most.
+/// Joins a list without combinations by a new hash table. Tries again once if an allocation fails.
 fn builds_for_none(
     rt: &impl Abort,
     alloc: Global,
@@ -123,7 +123,7 @@ fn builds_a_hash_table_of_no_rows(rt: HostRuntime) -> Result<(), Fail> {
     builds_for_none(&rt, alloc, &store, join, key)
 }
 
-/// How many combinations a merge of two tables along the trees on their values gives under a cap.
+/// Returns the number of combinations of a merge of two tables along the trees on their values, with a cap.
 fn try_capped(rt: &impl Abort, alloc: Global, store: &Store, cap: u64) -> Result<usize, Refusal>
     requires { IsSample store.now }
 {
@@ -151,7 +151,7 @@ fn try_capped(rt: &impl Abort, alloc: Global, store: &Store, cap: u64) -> Result
     Ok(list.len())
 }
 
-/// The same where memory is refused once at most.
+/// Returns the number of combinations of a merge with a cap. Tries again once if an allocation fails.
 fn capped(rt: &impl Abort, alloc: Global, store: &Store, cap: u64) -> Result<usize, Refusal>
     requires { IsSample store.now }
 {

@@ -1,6 +1,6 @@
-//! Tests of result lists, selections, joins and plans: of what no contract says, as how many rows are read.
+//! Tests of result lists, selections, joins and plans for what no contract states, such as the number of rows read.
 //!
-//! They stand apart from the crates that they test, since a crate with tests is proved twice.
+//! The tests have a crate of their own, since a crate with tests is proved twice.
 #![tactic(auto)]
 
 #[cfg(test)]

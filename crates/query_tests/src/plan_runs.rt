@@ -1,4 +1,4 @@
-//! Queries run by their plans: that these have the steps that the rules give, and how many rows are read along them.
+//! Queries run by their plans: the steps that the rules determine, and the number of rows read along them.
 ghost use Rattle.std.specs.Prelude.{◌<◌, ◌≤◌, length, All};
 ghost use Rattle.query_tests.specs.Sample.{IsSample};
 
@@ -16,7 +16,7 @@ use std::alloc::{AllocError, Global};
 use std::process::Abort;
 use std::test::Fail;
 
-/// The query of these tests, where memory is refused once at most.
+/// Returns the query of these tests. Tries again once if an allocation fails.
 fn query_of<const N: usize>(
     alloc: Global,
     tests: [Atom<FieldPlace>; N],
@@ -39,14 +39,14 @@ fn query_of<const N: usize>(
     })
 }
 
-/// What came of a query.
+/// The result of running a query.
 #[derive(Drop)]
 struct Ran {
     /// The steps of its plan.
     steps: ShortList<Step, 4>,
-    /// How many combinations of rows are in its answer.
+    /// The number of combinations of rows in its result.
     found: usize,
-    /// How many rows were read to find them.
+    /// The number of rows that were read to find them.
     reads: u64,
 }
 
@@ -71,7 +71,7 @@ fn run_once(
     })
 }
 
-/// The same where memory is refused once at most.
+/// Runs a query over these tables by its plan. Tries again once if an allocation fails.
 fn run_again(
     alloc: Global,
     store: &Store,
@@ -87,7 +87,7 @@ fn run_again(
     }
 }
 
-/// What is to come of a query.
+/// The expected result of running a query.
 #[derive(Clone, Copy)]
 struct Wanted<'a> {
     /// The places of its tables in the store.
@@ -97,8 +97,8 @@ struct Wanted<'a> {
     reads: u64,
 }
 
-/// Asks for the combinations of rows that fit the tests, where memory is refused once at most, and ends the test unless all comes as it
-/// is wanted.
+/// Finds the combinations of rows that match the tests, and asserts that the result is as expected. Tries again once if an allocation
+/// fails.
 fn runs<const N: usize>(
     rt: &impl Abort,
     alloc: Global,
@@ -118,7 +118,7 @@ fn runs<const N: usize>(
     Ok(())
 }
 
-/// The same over a sample made for it.
+/// Finds the combinations of rows of a new sample that match the tests, and asserts that the result is as expected.
 fn runs_over<const N: usize>(
     rt: &(impl Abort + AllocGlobal),
     kind: IndexKind,
@@ -135,16 +135,16 @@ fn runs_over<const N: usize>(
     runs(rt, rt.alloc(), &store, tests, wanted)
 }
 
-/// The step to the row of key 7, for which the first atom asks.
+/// The step to the row with key 7, which the first atom requires.
 const TO_SEVEN: Step = Step::LookUp {
     index: IndexRef::Key,
     atom: 0,
 };
 
-/// The first index of a sample that is no tree.
+/// The first HASH index of a sample.
 const HASH: IndexRef = IndexRef::Hash(0);
 
-/// The first tree of a sample beside that on the key.
+/// The first tree of a sample besides the one on the key.
 const TREE: IndexRef = IndexRef::Tree(0);
 
 #[test]
@@ -201,7 +201,7 @@ fn scan_reads_each_row_for_an_atom(rt: HostRuntime) -> Result<(), Fail> {
     runs_over(&rt, kind, counts, values, [], of_all)
 }
 
-/// Selects the keys of a range, whose rows are looked at unless their ends tell that all of them fit.
+/// Selects the keys of a range. Its rows are read unless the ends show that all of them match.
 fn select_ranges(rt: &impl Abort, alloc: Global, store: &Store) -> Result<(), Fail>
     requires { IsSample store.now }
 {
@@ -243,7 +243,7 @@ fn ranges_read_few_rows(rt: HostRuntime) -> Result<(), Fail> {
     select_ranges(&rt, alloc, &store)
 }
 
-/// The atoms that ask for a value below 5 and a key of at least 10.
+/// Returns the atoms for a value below 5 and a key of at least 10.
 fn two_bounds() -> [Atom<FieldPlace>; 2] {
     [
         compared(OUTER_VALUE, Comparison::Less, 5),
@@ -266,7 +266,7 @@ fn first_atom_that_fits_a_rule_is_taken(rt: HostRuntime) -> Result<(), Fail> {
     let (counts, values) = ([1000, 0], Values::Keys);
     runs_over(&rt, IndexKind::Hash, counts, values, two_bounds(), of_keys)?;
 
-    // Both columns have one, so the range is one of values, which come first.
+    // Both columns have a tree, so the range is one of values, whose atom is the first.
     let of_values = Wanted {
         steps: &[Step::Range {
             index: TREE,
@@ -285,7 +285,7 @@ fn first_atom_that_fits_a_rule_is_taken(rt: HostRuntime) -> Result<(), Fail> {
     )
 }
 
-/// The look-ups in an index of these joins: the table with fewer rows comes first, so that a tree on the values is searched.
+/// Returns the steps of these joins by look-ups in an index. The table with fewer rows is first, so a tree on the values is searched.
 fn joined_by(kind: IndexKind) -> [Step; 2] {
     let join = match kind {
         IndexKind::Hash => Step::HashJoin {
@@ -300,7 +300,7 @@ fn joined_by(kind: IndexKind) -> [Step; 2] {
     [TO_SEVEN, join]
 }
 
-/// Joins the row of key 7 of a table of 10 rows by an index of this kind with those of another table whose values fit a test.
+/// Joins the row with key 7 of a table of 10 rows, by an index of this kind, with those of another table whose values match a test.
 fn join_seven(
     rt: &(impl Abort + AllocGlobal),
     kind: IndexKind,
@@ -331,7 +331,7 @@ fn look_up_joins_read_both_rows(rt: HostRuntime) -> Result<(), Fail> {
     join_seven(&rt, IndexKind::Tree, equal(INNER_VALUE, OUTER_KEY), 1, 2)
 }
 
-/// Joins the row of key 7 by an index of this kind with those whose values are a sum and a difference.
+/// Joins the row with key 7, by an index of this kind, with those whose values are a sum and a difference.
 fn join_shifted(rt: &(impl Abort + AllocGlobal), kind: IndexKind) -> Result<(), Fail> {
     join_seven(rt, kind, equal_sum(INNER_VALUE, OUTER_KEY, 3), 1, 2)?;
     join_seven(rt, kind, equal_sum(OUTER_KEY, INNER_VALUE, 3), 1, 2)
@@ -380,7 +380,7 @@ fn built_hash_reads_each_row_once_to_build(rt: HostRuntime) -> Result<(), Fail> 
     )
 }
 
-/// The atoms that ask the value of the second table to be a column of the first one, neither of them a join equality.
+/// Returns atoms that are true if the value of the second table equals a column of the first one, neither of them a join equality.
 fn bounded_by(column: FieldPlace) -> [Atom<FieldPlace>; 2] {
     [
         stands(INNER_VALUE, Comparison::LessOrEqual, column),
@@ -436,7 +436,7 @@ const MERGE: [Step; 2] = [
 
 #[test]
 fn merge_reads_both_rows_of_a_pair_twice(rt: HostRuntime) -> Result<(), Fail> {
-    // The values are in another order than the keys, so a merge has to go along both tables by the values. Each row is read for its
+    // The values are in another order than the keys, so a merge visits both tables in the order of the values. Each row is read for its
     // prefix, and then for its value.
     let wanted = Wanted {
         tables: &[0, 1],
@@ -456,8 +456,8 @@ fn merge_reads_both_rows_of_a_pair_twice(rt: HostRuntime) -> Result<(), Fail> {
     )
 }
 
-/// Merges a table of 1,000 rows and one of 10, in this order or the other one, by a test that each row of the second meets with one
-/// of the first. Each row is read for its prefix, and only those of a pair for their values.
+/// Merges a table of 1,000 rows and one of 10, in either order, by a test for which each row of the second matches one of the first. Each
+/// row is read for its prefix, and only matching rows for their values.
 fn merge_with_few(
     rt: &(impl Abort + AllocGlobal),
     tables: [usize; 2],
@@ -480,7 +480,7 @@ fn merge_reads_rows_without_partner_for_their_prefix(rt: HostRuntime) -> Result<
     merge_with_few(&rt, [0, 1], equal(INNER_VALUE, OUTER_VALUE))?;
     merge_with_few(&rt, [1, 0], equal(INNER_VALUE, OUTER_VALUE))?;
 
-    // The same with the equality written the other way round.
+    // Both operands of the equality are exchanged.
     merge_with_few(&rt, [0, 1], equal(OUTER_VALUE, INNER_VALUE))
 }
 

@@ -17,7 +17,7 @@ use std::alloc::{AllocError, Global};
 use std::process::Abort;
 use std::test::Fail;
 
-/// Adds a combination, for which memory may be refused once.
+/// Appends a combination. Tries again once if an allocation fails.
 fn push(list: &mut TempList, front: &[RowRef], at: RowRef) -> Result<(), AllocError>
     requires { length front.now + 1 ≡ length list.old.tables }
     ensures ok { OnOk result (list.new ≡ record list.old { combos = list.old.combos ++ (front.now ++ at ∷ []) ∷ [] }) }
@@ -29,7 +29,7 @@ fn push(list: &mut TempList, front: &[RowRef], at: RowRef) -> Result<(), AllocEr
     }
 }
 
-/// The rows of a result in the order of the first column, for which memory may be refused once.
+/// Returns the rows of a result in the order of the first column. Tries again once if an allocation fails.
 fn show<'s>(
     list: &TempList,
     alloc: Global,
@@ -46,14 +46,14 @@ fn show<'s>(
     }
 }
 
-/// The reference to a slot.
+/// Returns the reference to a slot.
 fn at(slot: u32) -> RowRef
     ensures { result ≡ record { slot = slot } }
 {
     RowRef { slot }
 }
 
-/// Looks at both combinations of a list, and at its tables and fields.
+/// Asserts both combinations of a list, its tables and its fields.
 fn are_both(rt: &impl Abort, list: &TempList) {
     assert_same(rt, list.len(), 2);
     assert_same(rt, list.combo(0), [at(1), at(2)].as_slice());
@@ -62,7 +62,7 @@ fn are_both(rt: &impl Abort, list: &TempList) {
     assert_same(rt, list.descriptor().fields.len(), 1);
 }
 
-/// Adds two combinations to a list of none, and looks at both.
+/// Appends two combinations to an empty list, and asserts both.
 fn keeps_both(rt: &impl Abort, list: &mut TempList) -> Result<(), Fail>
     requires { length list.old.tables ≡ 2 }
 {
@@ -86,7 +86,7 @@ fn keeps_combinations_in_their_order(rt: HostRuntime) -> Result<(), Fail> {
     keeps_both(&rt, &mut list)
 }
 
-/// How many rows of the result are copied, for which memory may be refused once.
+/// Returns the number of copied rows of the result. Tries again once if an allocation fails.
 fn copied(list: &TempList, alloc: Global, view: &mut View<'_>) -> Result<usize, Refusal>
     requires live { All (AreLive view.old.store list.now.tables) list.now.combos }
     ensures same { view.new.store ≡ view.old.store }
@@ -98,7 +98,7 @@ fn copied(list: &TempList, alloc: Global, view: &mut View<'_>) -> Result<usize, 
     Ok(rows.len())
 }
 
-/// Copies and shows the rows of a list of no combinations, for which none is read.
+/// Copies and shows the rows of a list without combinations, for which no row is read.
 fn shows_none(rt: &impl Abort, list: &TempList, alloc: Global, store: &Store) -> Result<(), Fail>
     requires { All (AreLive store.now list.now.tables) list.now.combos }
 {
@@ -122,7 +122,7 @@ fn shows_no_rows_of_no_combinations(rt: HostRuntime) -> Result<(), Fail> {
     shows_none(&rt, &list, alloc, &store)
 }
 
-/// Shows the one row of a list, of which the one value is 0.
+/// Shows the only row of a list, whose only value is 0.
 fn shows_0(rt: &impl Abort, list: &TempList, alloc: Global, store: &Store) -> Result<(), Fail>
     requires { All (AreLive store.now list.now.tables) list.now.combos }
 {
@@ -148,7 +148,7 @@ fn shows_0_where_no_row_is_there(rt: HostRuntime) -> Result<(), Fail> {
     shows_0(&rt, &list, alloc, &store)
 }
 
-/// The rows of the first table, where memory is refused once at most.
+/// Returns the rows of the first table. Tries again once if an allocation fails.
 fn all_rows(alloc: Global, store: &Store) -> Result<TempList<'_>, AllocError>
     requires { IsSample store.now }
     ensures { IfOk result (λ list. All (AreLive store.now list.tables) list.combos) }
@@ -164,7 +164,7 @@ fn all_rows(alloc: Global, store: &Store) -> Result<TempList<'_>, AllocError>
     }
 }
 
-/// How many rows a list shows, and how many rows are read for them.
+/// Returns the numbers of rows that a list shows and that are read for them.
 fn try_count(list: &TempList, alloc: Global, store: &Store) -> Result<(usize, u64), AllocError>
     requires { All (AreLive store.now list.now.tables) list.now.combos }
 {
@@ -173,7 +173,7 @@ fn try_count(list: &TempList, alloc: Global, store: &Store) -> Result<(usize, u6
     Ok((shown.len(), view.reads()))
 }
 
-/// The same where memory is refused once at most.
+/// Returns the numbers of rows that a list shows and that are read for them. Tries again once if an allocation fails.
 fn count_shown(list: &TempList, alloc: Global, store: &Store) -> Result<(usize, u64), AllocError>
     requires { All (AreLive store.now list.now.tables) list.now.combos }
 {

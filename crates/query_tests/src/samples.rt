@@ -18,18 +18,18 @@ const VALUE_TO_KEY: Reference = Reference {
     to: 0,
 };
 
-/// The values of the rows of a table.
+/// The values in the rows of a table.
 #[derive(Clone, Copy)]
 pub enum Values {
-    /// The keys.
+    /// Equal to the keys.
     Keys,
-    /// The keys from the greatest to the least, so that they fall where the keys rise.
+    /// The keys from the greatest to the least, so that the values decrease as the keys increase.
     Falling,
     /// 1 in all rows.
     Ones,
 }
 
-/// Two tables of two columns with no rows.
+/// Returns two tables of two columns without rows.
 fn try_empty(alloc: Global) -> Result<Store, AllocError>
     ensures { IfOk result (λ store. length store.tables ≡ 2) }
 {
@@ -39,7 +39,7 @@ fn try_empty(alloc: Global) -> Result<Store, AllocError>
     Ok(store)
 }
 
-/// The same where memory is refused once at most.
+/// Returns two tables of two columns without rows. Tries again once if an allocation fails.
 pub fn empty(alloc: Global) -> Result<Store, AllocError>
     ensures { IfOk result (λ store. length store.tables ≡ 2) }
 {
@@ -49,7 +49,7 @@ pub fn empty(alloc: Global) -> Result<Store, AllocError>
     }
 }
 
-/// The rows of the keys from 1 to `count` with these values.
+/// Returns the rows with the keys from 1 to `count` and these values.
 fn rows_of(alloc: Global, count: u32, values: Values) -> Result<Vec<(i64, i64)>, AllocError> {
     let mut rows = Vec::with_capacity(alloc, count as usize)?;
     for earlier in 0..count {
@@ -64,7 +64,7 @@ fn rows_of(alloc: Global, count: u32, values: Values) -> Result<Vec<(i64, i64)>,
     Ok(rows)
 }
 
-/// Inserts rows of a key and a value in a table. Some of them may stay staged if that is refused.
+/// Inserts rows of a key and a value into a table. If this is refused, some of them may stay staged.
 fn insert(
     store: &mut Store,
     alloc: Global,
@@ -79,7 +79,7 @@ fn insert(
     store.make(alloc, table, edits.as_slice())
 }
 
-/// Adds rows of the keys from 1 to `count` with these values to a table, and then an index of this kind on the values.
+/// Inserts rows with the keys from 1 to `count` and these values into a table, and then appends an index of this kind on the values.
 fn fill(
     store: &mut Store,
     alloc: Global,
@@ -98,8 +98,8 @@ fn fill(
     Ok(())
 }
 
-/// Two tables of so many rows with these values, which have an index of this kind. Those of the second table refer to keys of
-/// the first.
+/// Returns two tables with these numbers of rows and these values, which have an index of this kind. The values of the second table refer
+/// to keys of the first.
 fn try_sample(
     alloc: Global,
     kind: IndexKind,
@@ -116,7 +116,7 @@ fn try_sample(
     Ok(store)
 }
 
-/// The same where memory is refused once at most.
+/// Returns the sample of `try_sample`. Tries again once if an allocation fails.
 pub fn sample(
     alloc: Global,
     kind: IndexKind,

@@ -9,7 +9,7 @@ use mm_templist::Descriptor;
 use std::alloc::{AllocError, Global};
 use std::test::Fail;
 
-/// How many rows a scan of the first table finds, and how many it reads, where memory is refused once at most.
+/// Returns the numbers of rows that a scan of the first table finds and reads. Tries again once if an allocation fails.
 fn scan(alloc: Global, store: &Store) -> Result<(usize, u64), AllocError>
     requires { length store.now.tables ≡ 2 }
 {

@@ -8,7 +8,8 @@ use std::alloc::{AllocError, Global};
 use std::process::Abort;
 use std::test::Fail;
 
-/// Whether the cycle of a row of this value at the first place has just these edges. Of no edges, whether there is no cycle.
+/// Returns whether the cycle of a row of this value at the first place has exactly these edges. Without edges, returns whether there is no
+/// cycle.
 fn has_edges(
     alloc: Global,
     query: &BoundQuery,
@@ -22,7 +23,7 @@ fn has_edges(
     }
 }
 
-/// Looks for the cycles of rows of two numbers. That of the first is to have these edges, and the second to have no cycle.
+/// Searches the cycles of rows of two numbers. Asserts that the first row's cycle has these edges, and that the second row has no cycle.
 fn first_alone_has_edges(
     rt: &impl Abort,
     alloc: Global,
@@ -43,7 +44,7 @@ fn no_value_lies_between_4_and_5(rt: HostRuntime) -> Result<(), Fail> {
     first_alone_has_edges(&rt, alloc, &query, 4, 3, &[lower(0), lower(1)])
 }
 
-/// Whether the cycle of one row is accepted for it and for another row.
+/// Returns whether the cycle of one row passes the check for that row, and whether it does for another row.
 fn is_accepted(
     alloc: Global,
     query: &BoundQuery,
@@ -134,7 +135,7 @@ fn ring(alloc: Global, back: i64) -> Result<BoundQuery, Refusal> {
     query(alloc, 2, atoms)
 }
 
-/// How many edges the accepted cycle of a row of this number has in such a ring, none where there is none.
+/// Returns the number of edges of the accepted cycle of a row of this number in such a ring, or `None` if there is none.
 fn edges_in_ring(alloc: Global, back: i64, number: i64) -> Result<Option<usize>, Refusal> {
     let query = ring(alloc, back)?;
     let row = row(alloc, 1, Value::Int(number))?;

@@ -1,7 +1,7 @@
-//! Searches for a cycle whose growths of memory are refused, as `tests/refused_growths.py` does: in each run of a test one
-//! growth, or all from one to the line that tells of a refused search. Then it is made again.
+//! Searches for a cycle whose allocations fail, as `tests/refused_growths.py` lets them: in each run of a test one allocation, or all from
+//! one to the line that reports a failed search. Then the search is repeated.
 //!
-//! So whatever else may be refused before that line ends the test, as passed.
+//! Any other allocation that fails before that line ends the test, as passed.
 use crate::assertions::assert_same;
 use crate::samples::{between, is_ann, lower, row, text};
 use mm_query::BoundQuery;
@@ -18,7 +18,7 @@ struct Question {
     row: Row,
 }
 
-/// The cycle of a row, looked for again where the search is refused.
+/// Returns the cycle of a row. Repeats the search if an allocation fails.
 fn search_again(
     rt: &(impl Abort + Print),
     alloc: Global,
@@ -33,7 +33,7 @@ fn search_again(
     }
 }
 
-/// Looks for the cycle of a row, which is to have these edges. Where there are none it is to have no cycle.
+/// Searches the cycle of a row, and asserts that it has these edges. Without edges, asserts that the row has no cycle.
 fn search(
     rt: &(impl Abort + Print),
     alloc: Global,
@@ -47,7 +47,7 @@ fn search(
     Ok(())
 }
 
-/// `between`, and a row of the number at its first place.
+/// Returns `between`, and a row of the number at its first place.
 fn between_and_row(alloc: Global, number: i64) -> Result<Question, Refusal> {
     let query = between(alloc)?;
     let row = row(alloc, 1, Value::Int(number))?;
@@ -72,12 +72,12 @@ fn no_cycle_growths(rt: HostRuntime) -> Result<(), Fail> {
     }
 }
 
-/// A row of the name bob.
+/// Returns a row with the name bob.
 fn bob(alloc: Global) -> Result<Row, Refusal> {
     row(alloc, 1, text(alloc, b"bob")?)
 }
 
-/// The query of `is_ann`, and the row of another name.
+/// Returns the query of `is_ann`, and a row with another name.
 fn is_ann_and_row(alloc: Global) -> Result<Question, Refusal> {
     let query = is_ann(alloc)?;
     let row = bob(alloc)?;

@@ -1,6 +1,6 @@
-//! Tests of irrelevant rows and of the cycles that show them, on worked examples.
+//! Tests of irrelevant rows and of the cycles that prove them irrelevant, on worked examples.
 //!
-//! They stand apart from the crate that they test, since a crate with tests is proved twice.
+//! The tests have a crate of their own, since a crate with tests is proved twice.
 #![tactic(auto)]
 
 #[cfg(test)]

@@ -5,12 +5,12 @@ use mm_schema::Name;
 use mm_value::{Few, Refusal, Row, Text, Value};
 use std::alloc::Global;
 
-/// A column of the row at a place.
+/// Returns a column of the row at a place.
 pub fn field(place: usize, column: usize) -> FieldPlace {
     FieldPlace { place, column }
 }
 
-/// The lower edge of an atom.
+/// Returns the lower edge of an atom.
 pub fn lower(conjunct: usize) -> CycleEdge {
     CycleEdge {
         conjunct,
@@ -18,7 +18,7 @@ pub fn lower(conjunct: usize) -> CycleEdge {
     }
 }
 
-/// An atom.
+/// Returns an atom.
 pub fn atom(
     left: FieldPlace,
     comparison: Comparison,
@@ -31,7 +31,7 @@ pub fn atom(
     }
 }
 
-/// A query over so many tables with these atoms. `Memory` where memory is refused.
+/// Returns a query over `tables` tables with these atoms. Fails with `Memory` if an allocation fails.
 pub fn query(
     alloc: Global,
     tables: usize,
@@ -54,7 +54,7 @@ pub fn query(
     })
 }
 
-/// A row of two values. `Memory` where memory is refused.
+/// Returns a row of two values. Fails with `Memory` if an allocation fails.
 pub fn row(alloc: Global, key: i64, value: Value) -> Result<Row, Refusal> {
     let mut values = Vec::with_capacity(alloc, 2)?;
     values.push(Value::Int(key))?;
@@ -90,7 +90,7 @@ pub fn never(alloc: Global) -> Result<BoundQuery, Refusal> {
     query(alloc, 3, atoms)
 }
 
-/// A text.
+/// Returns a text.
 pub fn text(alloc: Global, bytes: &[u8]) -> Result<Value, Refusal> {
     Ok(Value::Text(Text::new(alloc, bytes)?))
 }

@@ -7,13 +7,13 @@ use Rattle.std.proofs.lemmas.List.Elements.{All-cons, All-nil}
 use Rattle.std.proofs.lemmas.List.Sorted.{IsPermutation-cons, IsPermutation-middle, IsPermutation-refl, IsPermutation-trans}
 use Rattle.slot_counts.specs.Sets.{indices_from}
 
--- There are no more than flags.
+-- There are no more indices than flags.
 pub few_indices : (k : ℕ) (fs : List Bool) → length (indices_from k fs) ≤ length fs
 few_indices k [] = omega arith
 few_indices k (true ∷ fs) = omega (arith, few_indices (suc k) fs)
 few_indices k (false ∷ fs) = omega (arith, few_indices (suc k) fs)
 
--- There are fewer where a flag is not set.
+-- There are fewer if a flag is not set.
 pub fewer_indices : (k i : ℕ) (fs : List Bool) → i < length fs → get_or fs i false ≡ false → length (indices_from k fs) < length fs
 fewer_indices k i [] within out = absurd (omega (arith, within))
 fewer_indices k zero (true ∷ fs) within out = absurd (true≢false out)
@@ -21,7 +21,7 @@ fewer_indices k zero (false ∷ fs) within out = omega (arith, few_indices (suc 
 fewer_indices k (suc i) (true ∷ fs) within out = omega (arith, fewer_indices (suc k) i fs (omega (arith, within)) out)
 fewer_indices k (suc i) (false ∷ fs) within out = omega (arith, fewer_indices (suc k) i fs (omega (arith, within)) out)
 
--- A flag that is not set comes at the end.
+-- A flag that is not set is appended.
 pub indices_push : (k : ℕ) (fs : List Bool) → indices_from k (fs ++ false ∷ []) ≡ indices_from k fs
 indices_push k [] = refl
 indices_push k (true ∷ fs) = ap (λ l. k ∷ l) (indices_push (suc k) fs)
@@ -30,7 +30,7 @@ indices_push k (false ∷ fs) = indices_push (suc k) fs
 second_first : (a b : ℕ) (xs : List ℕ) → IsPermutation (a ∷ b ∷ xs) (b ∷ a ∷ xs)
 second_first a b xs = IsPermutation-middle (a ∷ []) b xs
 
--- One flag more is set.
+-- One more flag is set.
 pub indices_set : (k i : ℕ) (fs : List Bool) → i < length fs → get_or fs i false ≡ false
     → IsPermutation (indices_from k (set fs i true)) ((k + i) ∷ indices_from k fs)
 indices_set k i [] within out = absurd (omega (arith, within))

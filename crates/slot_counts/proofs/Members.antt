@@ -1,4 +1,4 @@
--- The members of a set of slots, each at its place, where a slot comes or goes.
+-- The members of a set of slots, each at its place, when a slot is inserted or removed.
 use Rattle.std.proofs.Common.{◌≡◌, ◌≢◌, ℕ, ◌+◌, ◌-◌, ◌<◌, ◌≤◌, Bool, true, false, true≢false, List, [], ◌∷◌, ◌++◌, length, get_or, set, map}
 use Rattle.std.proofs.Common.{refl, sym, ap, ◌∙◌, subst, ⊎_elim, inl, inr, arith}
 use Rattle.std.specs.Prelude.{IsPermutation}
@@ -25,7 +25,7 @@ absent_is n is = grind arith
 pub present_is : (n : ℕ) → is_present n ≡ true → n ≢ absent
 present_is n is e = true≢false (sym is ∙ ap is_present e)
 
--- Whether a slot is in the set is told by its place.
+-- A slot is in the set exactly if its place is that of a member.
 pub has_at : (places : List ℕ) (i : ℕ) → get_or (has_of places) i false ≡ is_present (get_or places i absent)
 has_at places i =
     ⊎_elim
@@ -45,7 +45,7 @@ module _ (members places : List ℕ) (was : IsPlaced members places) where
   pub few_members : length members ≤ length places
   few_members = omega (arith, size, few_indices 0 (has_of places), length-map places is_present)
 
-  -- There is room for a slot that is not in the set.
+  -- There is capacity for a slot that is not in the set.
   pub fewer_members : (i : ℕ) → i < length (has_of places) → get_or (has_of places) i false ≡ false → length members < length places
   fewer_members i within out = omega (arith, size, fewer_indices 0 i (has_of places) within out, length-map places is_present)
 
@@ -66,7 +66,7 @@ module _ (members places : List ℕ) (was : IsPlaced members places) where
   member_inside k d within =
       subst (λ (n : ℕ). n < length places) (get_or_default members k absent d within) (inside places (get_or members k absent) (member_is k within))
 
-  -- A slot comes.
+  -- A slot is inserted.
   pub inserted : (i : ℕ) → i < length (has_of places) → get_or (has_of places) i false ≡ false → IsPlaced (members ++ i ∷ []) (set places i (length members))
   inserted i within out = record {
     few = omega (arith, was.few, length-set places i (length members));
@@ -107,7 +107,7 @@ module _ (members places : List ℕ) (was : IsPlaced members places) where
             ap (λ (n : ℕ). get_or (members ++ i ∷ []) n absent) is ∙ (get_or_push members i absent (length members) refl ∙ sym e),
           )
 
-  -- A slot goes, and the last member comes to its place.
+  -- A slot is removed, and the last member moves to its place.
   module _ (i x : ℕ) (new_members mid : List ℕ) (there : get_or places i absent ≢ absent) (read : x ≡ get_or members (get_or places i absent) x)
       (out : new_members ≡ swap_remove members (get_or places i absent) x) (shorter : length new_members + 1 ≡ length members)
       (last : get_or places i absent + 1 < length members → get_or new_members (get_or places i absent) absent ≡ get_or members (length members - 1) absent)
@@ -128,7 +128,7 @@ module _ (members places : List ℕ) (was : IsPlaced members places) where
     i_within : i < length places
     i_within = inside places i there
 
-    -- The last member, where it is another one.
+    -- The last member, if it is another one.
     last_is : (m : ℕ) → at < length new_members → m ≡ get_or new_members at absent → m ≡ get_or members (length members - 1) absent
     last_is m within is = is ∙ last (omega (arith, within, shorter))
 
@@ -248,7 +248,7 @@ module _ (members places : List ℕ) (was : IsPlaced members places) where
           (cases_eq j i);
     }
 
-  -- A slot more is there, and not in the set.
+  -- One more slot, which is not in the set.
   pub grown : length places < absent → IsPlaced members (places ++ absent ∷ [])
   grown few = record {
     few = omega (arith, few, length_push places absent);

@@ -119,7 +119,7 @@ impl SlotSet {
     }
 }
 
-// Updates the place of the member that is now at a place, if there is one.
+// Updates the place of the member that was moved to a place, if there is one.
 fn tell_moved(places: &mut Vec<u32>, members: &[u32], place: u32)
     requires { place < length members.now → slice_index_or members.now place absent < length places.old.items }
     ensures told { IsMoveTold members.now place places.old.items places.new.items }

@@ -1,4 +1,4 @@
--- What is a case stays one through its steps, and so do its marks.
+-- A case remains one through its steps, and so do its marks.
 use Rattle.std.proofs.Common.{◌≡◌, ℕ, pos, ◌≤◌, List, [], ◌∷◌, ◌++◌, Some, drop, length, map, slice_get, slice_index_or, take, refl, sym, ap, subst, ◌∙◌, arith}
 use Rattle.std.specs.List.{All, remove}
 use Rattle.std.proofs.lemmas.List.Elements.{All-nil, All-push}
@@ -10,7 +10,7 @@ use Rattle.mm_indexed.specs.RowLists.{rows_of}
 use Rattle.mm_standing.specs.Bags.{entries_at}
 use Rattle.mm_standing.specs.Queries.{IsBagOf, IsServed, RowsByPlace, StandingQuery, bag_over}
 use Rattle.mm_standing.specs.State.{AreServed, FitAt, FitNow, Lists, count_at, count_now}
-use Rattle.mm_standing.specs.declared.change.ListChange.{ListChange}
+use Rattle.mm_standing.specs.declared.change.RowChange.{RowChange}
 use Rattle.mm_store.specs.Marks as marks
 use Rattle.mm_store.specs.Marks.{KeepsMarks, rows_at_mark}
 use Rattle.mm_store.specs.Tables.{SameForm, Tables}
@@ -38,7 +38,7 @@ module _ (store new : Tables) (lists left : Lists) (queries : left.queries ≡ l
     ready = ready;
   }
 
-  -- A mark at which rows and counts are what they were is one still.
+  -- A mark at which rows and counts are unchanged is still one.
   pub mark_still : (commands changes : ℕ) → KeepsMarks store new commands → changes ≤ length left.log
       → ((list : ℕ) (row : List Value) → count_at changes list row left ≡ count_at changes list row lists)
       → IsMark store lists commands changes → IsMark new left commands changes
@@ -59,18 +59,18 @@ case_listed store lists left queries counts ready was =
     case_still store store lists left queries was refl was.plain (before_at store) refl was.typed
     (counts_still (count_now lists) (count_now left) (before_at store) lists.queries left.queries queries counts was.fits) ready
 
--- ---- steps back
+-- ---- rollbacks
 
 module _ (store new : Tables) (lists left : Lists) (queries : left.queries ≡ lists.queries) (commands changes : ℕ)
     (log : left.log ≡ take changes lists.log)
     (counts : (mark : ℕ) → mark ≤ changes → (list : ℕ) (row : List Value) → count_at mark list row left ≡ count_at mark list row lists) where
-  -- A case that went back to a mark is one.
+  -- A case after a rollback to a mark is one.
   pub case_back : IsCase store lists → IsMark store lists commands changes → EachTurns SameForm store.tables new.tables
       → map (λ (s : StoredRows). rows_of s) new.tables ≡ rows_at_mark commands store → left.prepared ≡ [] → IsCase new left
   case_back was mark form rows ready =
       let size = form.size in
       let taken = length_taken lists.log changes mark.changes_there in
-      let long = ap (λ (cs : List ListChange). length cs) log in
+      let long = ap (λ (cs : List RowChange). length cs) log in
       let done : drop changes left.log ≡ [] = drop_all left.log changes (omega arith) in
       case_still store new lists left queries was (omega arith) (plain_formed store new form was.plain) (rows_then commands store)
       (before_listed new (rows_at_mark commands store) rows) mark.typed
@@ -78,17 +78,17 @@ module _ (store new : Tables) (lists left : Lists) (queries : left.queries ≡ l
       (λ list row. sym (count_last left changes done list row) ∙ counts changes (omega arith) list row) mark.fits)
       ready
 
-  -- The older marks are still there.
+  -- The older marks still exist.
   pub mark_back : IsMark store lists commands changes → ((mark : ℕ) → mark ≤ commands → KeepsMarks store new mark)
       → (c h : ℕ) → c ≤ commands → h ≤ changes → IsMark store lists c h → IsMark new left c h
   mark_back mark keeps c h older earlier was =
       let taken = length_taken lists.log changes mark.changes_there in
-      let long = ap (λ (cs : List ListChange). length cs) log in
+      let long = ap (λ (cs : List RowChange). length cs) log in
       mark_still store new lists left queries c h (keeps c older) (omega arith) (counts h earlier) was
 
 -- ---- marks
 
--- Where all changes are counted in, and the rows are the current ones, the lists are those now.
+-- If a mark is at the ends of both logs, and its rows are the current ones, the lists are the current ones.
 pub mark_now : (store : Tables) (lists : Lists) → IsCase store lists → (commands changes : ℕ) → marks.IsMark store commands
     → rows_at_mark commands store ≡ map (λ (s : StoredRows). rows_of s) store.tables → changes ≡ length lists.log → IsMark store lists commands changes
 mark_now store lists was commands changes is rows changes_are =
@@ -102,16 +102,16 @@ mark_now store lists was commands changes is rows changes_are =
           (count_last lists changes done) (subst (λ (r : RowsByPlace). FitNow r lists) then was.fits);
     }
 
--- Where nothing can be taken back the start is a mark.
+-- If nothing can be undone, the start is a mark.
 pub start_now : (store : Tables) (lists : Lists) → IsCase store lists → (mark : ℕ) → mark ≡ marks.mark_of store → marks.IsMark store mark
     → rows_at_mark mark store ≡ map (λ (s : StoredRows). rows_of s) store.tables → store.stored.log ≡ [] → lists.log ≡ [] → IsMark store lists 0 0
 start_now store lists was mark at is rows settled log =
     let start : mark ≡ 0 = at ∙ ap (λ (l : List LogRecord). length l) settled in
     mark_now store lists was 0 0 (subst (marks.IsMark store) start is)
     (subst (λ m. rows_at_mark m store ≡ map (λ (s : StoredRows). rows_of s) store.tables) start rows)
-    (sym (ap (λ (cs : List ListChange). length cs) log))
+    (sym (ap (λ (cs : List RowChange). length cs) log))
 
--- With no standing query tables of whole numbers are a case.
+-- Without standing queries, tables of integers are a case.
 pub case_none : (store : Tables) (lists : Lists) → length store.tables ≡ 2 → ArePlain store → HaveNumbers (before_at store)
     → lists.queries ≡ [] → lists.prepared ≡ [] → IsCase store lists
 case_none store lists two plain typed none ready = record {
@@ -125,9 +125,9 @@ case_none store lists two plain typed none ready = record {
   ready = ready;
 }
 
--- ---- standing queries that come and go
+-- ---- creating and dropping standing queries
 
--- One more standing query, with the rows that it gives, leaves a case.
+-- With one more standing query and its rows, a case is still one.
 pub case_watched : (store : Tables) (lists : Lists) (new : StandingQuery) (bag : Counts) → length lists.queries ≡ length lists.bags
     → IsServed store new → IsWhole new → IsBagOf bag.entries (bag_over (before_at store) new)
     → IsCase store lists → IsCase store (record lists { queries = lists.queries ++ new ∷ []; bags = lists.bags ++ bag ∷ [] })
@@ -141,7 +141,7 @@ case_watched store lists new bag many served whole is was = record {
   ready = was.ready;
 }
 
--- So does one less.
+-- So it is with one less.
 pub case_left : (store : Tables) (lists : Lists) (place : ℕ)
     → IsCase store lists → IsCase store (record lists { queries = remove lists.queries place; bags = remove lists.bags place })
 case_left store lists place was = record {
@@ -154,7 +154,7 @@ case_left store lists place was = record {
   ready = was.ready;
 }
 
--- ---- what a list holds
+-- ---- the contents of a list
 
 same_count : (n m : ℕ) → pos n ≡ pos m → n ≡ m
 same_count n m e = cc

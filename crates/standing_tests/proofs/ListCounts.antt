@@ -10,34 +10,34 @@ use Rattle.mm_schema.specs.Refused.{AnswersDue, first_refusal}
 use Rattle.mm_standing.specs.Bags.{Made, count_with, entries_at, row_change, sum_over}
 use Rattle.mm_standing.specs.Queries.{AreCounts, IsBagOf, IsServed, RowsByPlace, StandingQuery, bag_over, change_conditions, is_too_large, list_conditions}
 use Rattle.mm_standing.specs.State.{AreServed, FitNow, FitPrepared, Lists, count_at, count_now}
-use Rattle.mm_standing.specs.declared.change.ListChange.{ListChange}
+use Rattle.mm_standing.specs.declared.change.RowChange.{RowChange}
 use Rattle.mm_store.specs.Tables.{Tables}
 use Rattle.mm_value.specs.declared.refusal.Refusal.{Refusal}
 use Rattle.mm_value.specs.declared.refusal.Refusal.TheVariants.{StandingListTooLarge}
 use Rattle.mm_value.specs.declared.values.Value.{Value}
 
--- The entries of all bags.
-abbrev pub entries_of : List Counts → List Entries
-entries_of bags = map (λ (bag : Counts). bag.entries) bags
+-- The bags have the same counts.
+abbrev pub SameCounts : List Counts → List Counts → Type 0
+SameCounts old new = (list : ℕ) (row : List Value) → count_in row (entries_at new list) ≡ count_in row (entries_at old list)
 
 -- ---- counts
 
--- With nothing to add a count is as it is.
+-- Without changes to add, a count is unchanged.
 pub count_plain : (bags : List Counts) (list : ℕ) (row : List Value) → count_with bags [] list row ≡ pos (count_in row (entries_at bags list))
 count_plain bags list row = ap (λ n. pos n) (add-zero (count_in row (entries_at bags list)))
 
--- Bags with the same entries have the same counts, ..
-pub same_now : (old new : Lists) → entries_of new.bags ≡ entries_of old.bags → (list : ℕ) (row : List Value)
+-- Bags with the same counts have the same current counts, ..
+pub same_now : (old new : Lists) → SameCounts old.bags new.bags → (list : ℕ) (row : List Value)
     → count_now new list row ≡ count_now old list row
-same_now old new same list row = ap (λ es. pos (count_in row (slice_index_or es list []))) same
+same_now old new same list row = ap (λ n. pos n) (same list row)
 
--- .. at each mark too, where they have the same log.
-pub same_at : (old new : Lists) → entries_of new.bags ≡ entries_of old.bags → new.log ≡ old.log → (mark list : ℕ) (row : List Value)
+-- .. and the same at each mark, if they have the same log.
+pub same_at : (old new : Lists) → SameCounts old.bags new.bags → new.log ≡ old.log → (mark list : ℕ) (row : List Value)
     → count_at mark list row new ≡ count_at mark list row old
 same_at old new same log mark list row =
-    λ i. pos (count_in row (slice_index_or (same i) list [])) +ℤ sum_over (row_change list row) (drop mark (log i))
+    λ i. pos (same list row i) +ℤ sum_over (row_change list row) (drop mark (log i))
 
--- Where all that a log has is counted in, a count is the one now.
+-- If a mark is at the end of the log, a count at it is the current one.
 pub count_last : (lists : Lists) (mark : ℕ) → drop mark lists.log ≡ [] → (list : ℕ) (row : List Value)
     → count_at mark list row lists ≡ count_now lists list row
 count_last lists mark none list row = ap (λ cs. count_with lists.bags cs list row) none ∙ count_plain lists.bags list row
@@ -54,38 +54,38 @@ length_taken [] (suc n) within = absurd (omega arith)
 length_taken (x ∷ xs) zero within = refl
 length_taken (x ∷ xs) (suc n) within = ap (λ m. suc m) (length_taken xs n (omega arith))
 
--- Counts that stay are those of the same queries over the same rows.
+-- Unchanged counts are those of the same queries over the same rows.
 pub counts_still : (f g : ℕ → List Value → ℤ) (rows : RowsByPlace) (old new : List StandingQuery) → new ≡ old
     → ((list : ℕ) (row : List Value) → g list row ≡ f list row) → AreCounts f rows old → AreCounts g rows new
 counts_still f g rows old new same equal are =
     λ list standing there row. equal list row ∙ are list standing (subst (λ (qs : List StandingQuery). slice_get qs list ≡ Some standing) same there) row
 
--- ---- changes that are made
+-- ---- applied changes
 
 module _ (old mid new : Lists) (made : Made mid.bags mid.prepared mid.log new.bags [] new.log) where
-  -- At each mark each list is what it was.
-  pub undone_made : entries_of mid.bags ≡ entries_of old.bags → mid.log ≡ old.log → (mark : ℕ) → mark ≤ length old.log → (list : ℕ) (row : List Value)
+  -- At each mark each list is unchanged.
+  pub undone_made : SameCounts old.bags mid.bags → mid.log ≡ old.log → (mark : ℕ) → mark ≤ length old.log → (list : ℕ) (row : List Value)
       → count_at mark list row new ≡ count_at mark list row old
   undone_made entries log mark within list row =
-      made.undone mark (subst (λ (cs : List ListChange). mark ≤ length cs) (sym log) within) list row ∙ same_at old mid entries log mark list row
+      made.undone mark (subst (λ (cs : List RowChange). mark ≤ length cs) (sym log) within) list row ∙ same_at old mid entries log mark list row
 
   pub older_made : mid.log ≡ old.log → length old.log ≤ length new.log
-  older_made log = subst (λ (cs : List ListChange). length cs ≤ length new.log) log made.older
+  older_made log = subst (λ (cs : List RowChange). length cs ≤ length new.log) log made.older
 
-  -- What was ready for some rows is there for them.
+  -- What was prepared for some rows is the list of them once it is applied.
   pub fit_made : (rows : RowsByPlace) → FitPrepared rows mid → new.queries ≡ mid.queries → FitNow rows new
   fit_made rows fits queries =
       counts_still _ (count_now new) rows mid.queries new.queries queries (λ list row. sym (count_plain new.bags list row) ∙ made.counts list row) fits
 
-  -- Where nothing was ready nothing changes.
-  pub none_made : entries_of mid.bags ≡ entries_of old.bags → mid.prepared ≡ [] → (list : ℕ) (row : List Value) → count_now new list row
+  -- If nothing was prepared, nothing changes.
+  pub none_made : SameCounts old.bags mid.bags → mid.prepared ≡ [] → (list : ℕ) (row : List Value) → count_now new list row
       ≡ count_now old list row
   none_made entries none list row =
       sym (count_plain new.bags list row) ∙ made.counts list row
-      ∙ ap (λ ps. count_with mid.bags (map (λ p. p.done) ps) list row) none
+      ∙ ap (λ ps. count_with mid.bags ps list row) none
       ∙ count_plain mid.bags list row ∙ same_now old mid entries list row
 
--- ---- tables that are as many
+-- ---- the same number of tables
 
 pub served_still : (store new : Tables) (old later : List StandingQuery) → length new.tables ≡ length store.tables → later ≡ old
     → AreServed store old → AreServed new later
@@ -113,7 +113,7 @@ entries_last : (bags : List Counts) (bag : Counts) → entries_at (bags ++ bag �
 entries_last [] bag = refl
 entries_last (b ∷ bs) bag = entries_last bs bag
 
--- One more list that fits, behind lists that do.
+-- One more list that fits, after lists that do.
 pub fit_behind : (rows : RowsByPlace) (queries : List StandingQuery) (bags : List Counts) (new : StandingQuery) (bag : Counts)
     → length queries ≡ length bags → AreCounts (λ list row. pos (count_in row (entries_at bags list))) rows queries
     → IsBagOf bag.entries (bag_over rows new)
@@ -130,7 +130,7 @@ fit_behind rows queries bags new bag many fits is list s at row =
 
 -- ---- one list less
 
--- A place in a list, once the element at another place is gone, counted in the list as it was.
+-- A place in a list after the element at another place was removed, as a place in the old list.
 skip : ℕ → ℕ → ℕ
 skip zero k = suc k
 skip (suc p) zero = zero
@@ -161,7 +161,7 @@ each_removed P (x ∷ xs) (suc p) all = (all.0, each_removed P xs p all.1)
 pub all_removed : {X : Type 0} (P : X → Type 0) (xs : List X) (p : ℕ) → All P xs → All P (remove xs p)
 all_removed P xs p all = All-from_recursion P (remove xs p) (each_removed P xs p (recursion_from_All P xs all))
 
--- The other lists fit still.
+-- The other lists still fit.
 pub fit_left : (rows : RowsByPlace) (queries : List StandingQuery) (bags : List Counts) (place : ℕ)
     → AreCounts (λ list row. pos (count_in row (entries_at bags list))) rows queries
     → AreCounts (λ list row. pos (count_in row (entries_at (remove bags place) list))) rows (remove queries place)

@@ -1,4 +1,4 @@
--- Rows of whole numbers, and queries over them.
+-- Rows of integers, and queries over them.
 use Rattle.std.proofs.Common.{◌≡◌, ℕ, zero, suc, pos, ◌==◌, Bool, true, false, cond, List, [], ◌∷◌, ◌++◌, Option, Some, None, filter, get_or, length, map, refl}
 use Rattle.std.proofs.Common.{replicate, slice_get, sym, ap, subst, ◌∙◌}
 use Rattle.std.specs.List.{All, AllByRecursion, filter_map, flat_map}
@@ -33,7 +33,7 @@ Row = List Value
 
 -- ---- queries
 
--- A row of two whole numbers reads as a whole number in each column.
+-- A row of two integers has an integer in each column.
 number_in : (row : Row) → HasTypes plain_types row → (column : ℕ) → type_of (value_in column row) ≡ type.Int
 number_in [] has column = cc
 number_in (a ∷ []) has column = cc
@@ -72,7 +72,7 @@ module _ (rows : RowsByPlace) (have : HaveNumbers rows) where
           (All-weaker AreNumbers (λ others. AreNumbers (row ∷ others)) (λ others are. (All-head (HasTypes plain_types) row rs has, are)) _ later))
           (each later rs (All-tail (HasTypes plain_types) row rs has))
 
-  -- A query over such rows gives rows of whole numbers.
+  -- The result of a query over such rows has rows of integers.
   pub gives_numbers : (standing : StandingQuery) → standing.types ≡ replicate (length standing.query.fields) type.Int → GivesTyped rows standing
   gives_numbers standing types =
       let query = standing.query in
@@ -86,7 +86,7 @@ module _ (rows : RowsByPlace) (have : HaveNumbers rows) where
 
 -- ---- edits
 
--- With the edits of one table made all rows are of whole numbers still.
+-- After the edits of one table all rows are still of integers.
 pub numbers_edited : (store : Tables) (table : ℕ) (edits : List Edit) → ArePlain store → HaveNumbers (before_at store)
     → AreFitAt store table edits → HaveNumbers (rows_edited store table edits)
 numbers_edited store table edits plain have fit place = by (table == place) refl

@@ -1,4 +1,4 @@
--- Rows that are staged change nothing of a case, and an edit of one of them fits its table.
+-- Staged rows do not change a case, and an edit of one of them fits its table.
 use Rattle.std.proofs.Common.{◌≡◌, ℕ, ◌<◌, true, List, [], ◌∷◌, length, refl, sym, ap, subst, ◌∙◌, arith}
 use Rattle.std.specs.List.{All}
 use Rattle.std.proofs.lemmas.List.Elements.{All-cons, All-nil}
@@ -41,7 +41,7 @@ module _ (table : ℕ) (old new : Tables) (within : table < length old.tables) (
   pub rows_staged : before_at new ≡ before_at old
   rows_staged = rows_kept old new table within kept
 
-  -- A case is one still, ..
+  -- A case is still one, ..
   pub case_staged : (lists : Lists) → IsCase old lists → IsCase new lists
   case_staged lists was =
       case_still old new lists lists refl was (size_staged table old new within staged) (plain_staged table old new within staged was.plain)
@@ -60,7 +60,7 @@ module _ (table : ℕ) (old new : Tables) (within : table < length old.tables) (
     mark = mark_staged lists commands changes marked.mark;
   }
 
-  -- The table as it is now was another one before.
+  -- Each new table was a table before.
   was : (now : StoredRows) → IsAt new table now → (stored : StoredRows) × IsAt old table stored × KeepsSlots stored now
   was now here =
       let there = at_place old table within in
@@ -70,7 +70,7 @@ module _ (table : ℕ) (old new : Tables) (within : table < length old.tables) (
         subst (KeepsSlots there.0) (one_relation is.0 now (sym (staged_at table old new staged there.0 there.1) ∙ here)) is.2,
       )
 
-  -- A row that was staged is hidden.
+  -- A staged row is hidden.
   pub hidden_staged : (at : RowRef) (row : List Value)
       → ((stored now : StoredRows) → IsAt old table stored → IsAt new table now → IsStaged at row stored now) → HasTypes plain_types row
       → IsHiddenNumber new table at
@@ -93,7 +93,7 @@ one_fit stored edit fits typed = record {
   typed = typed;
 }
 
--- A row in use may be removed.
+-- A row in use may be deleted.
 pub deletion_fit : (store : Tables) (table : ℕ) (at : RowRef) → IsLiveAt store table at
     → AreFitAt store table (Delete at ∷ [])
 deletion_fit store table at live stored here = one_fit stored (Delete at) (live stored here) (All-nil (HasTypes stored.places.types))
@@ -106,18 +106,18 @@ module _ (store : Tables) (table : ℕ) (plain : ArePlain store) (other : RowRef
       All-cons (HasTypes stored.places.types) (row_at (slot_at stored.places) other) []
       (subst (HasTypes stored.places.types) (sym (ap row_in is.1)) (is.2 ∙ sym types)) (All-nil (HasTypes stored.places.types))
 
-  -- A hidden row of whole numbers may be added, ..
+  -- A hidden row of integers may be inserted, ..
   pub insertion_fit : AreFitAt store table (Insert other ∷ [])
   insertion_fit stored here =
       let is = hidden stored here in one_fit stored (Insert other) (is.0, is.1) (row_typed stored here)
 
   module _ (at : RowRef) (live : IsLiveAt store table at) where
-    -- .. or take the place of a row in use, ..
+    -- .. or replace a row in use, ..
     pub move_fit : AreFitAt store table (Move at other ∷ [])
     move_fit stored here =
         let is = hidden stored here in one_fit stored (Move at other) (live stored here, (is.0, is.1)) (row_typed stored here)
 
-    -- .. also of one with its key.
+    -- .. also one with the same key.
     pub update_fit : ((stored : StoredRows) → IsAt store table stored
         → same_in_column stored.key (row_at (slot_at stored.places) at) (row_at (slot_at stored.places) other) ≡ true)
         → AreFitAt store table (Update at other ∷ [])

@@ -36,19 +36,19 @@ rows_listed [] place = refl
 rows_listed (s ∷ ss) zero = refl
 rows_listed (s ∷ ss) (suc place) = rows_listed ss place
 
--- So are those of all places.
+-- So are those at all places.
 pub before_listed : (store : Tables) (rows : List (List (List Value))) → map (λ (s : StoredRows). rows_of s) store.tables ≡ rows
     → before_at store ≡ (λ (place : ℕ). slice_index_or rows place [])
 before_listed store rows are = λ i place. (rows_listed store.tables place ∙ ap (λ rs. slice_index_or rs place []) are) i
 
--- Tables with the same rows have the same at each place.
+-- Tables with the same rows have the same rows at each place.
 pub before_same : (old new : Tables) → map (λ (s : StoredRows). rows_of s) new.tables ≡ map (λ (s : StoredRows). rows_of s) old.tables
     → before_at new ≡ before_at old
 before_same old new same = before_listed new (map (λ (s : StoredRows). rows_of s) old.tables) same ∙ sym (before_listed old _ refl)
 
 module _ (store new : Tables) (table : ℕ) (within : table < length store.tables) (rows : StoredRows → List (List Value))
     (each : (stored : StoredRows) → IsAt store table stored → (x : StoredRows) × Turns store table x new × HasRows stored (rows stored) x) where
-  -- Where the rows at one place turn, those at each other place stay.
+  -- If the rows at one place change, those at each other place stay.
   pub rows_turned : (place : ℕ) → rows_at new.tables place ≡ cond (table == place) (option_map_or rows (slice_get store.tables place) [])
       (rows_at store.tables place)
   rows_turned place = rows_listed new.tables place ∙ ap (λ rs. slice_index_or rs place []) are ∙ by (table == place) refl
@@ -81,7 +81,7 @@ module _ (store new : Tables) (table : ℕ) (within : table < length store.table
           get_or-set_other (map (λ (s : StoredRows). rows_of s) store.tables) table place (rows found.0) [] (λ e. eqb-false table place other (sym e))
           ∙ sym (rows_listed store.tables place)
 
--- Where the relation at a place keeps its rows, all rows are as before.
+-- If the relation at a place keeps its rows, all rows are unchanged.
 pub rows_kept : (store new : Tables) (table : ℕ) → table < length store.tables
     → ((stored : StoredRows) → IsAt store table stored → (x : StoredRows) × Turns store table x new × HasRows stored (rows_of stored) x)
     → before_at new ≡ before_at store
@@ -91,7 +91,7 @@ rows_kept store new table within each = λ i place. (rows_turned store new table
     by place true = refl
     by place false = refl
 
--- Where it has the rows with edits made, they are those with the edits made.
+-- If the relation has the rows after edits, all rows are those after the edits.
 pub rows_made : (store new : Tables) (table : ℕ) → table < length store.tables → (edits : List Edit)
     → ((stored : StoredRows) → IsAt store table stored → (x : StoredRows) × Turns store table x new × HasRows stored (rows_after stored edits) x)
     → before_at new ≡ rows_edited store table edits
@@ -99,7 +99,7 @@ rows_made store new table within edits each = λ i place. rows_turned store new 
 
 -- ---- the edits of one table
 
--- The rows after a change of one table are those with its edits made.
+-- The rows after a change of one table are those after its edits.
 pub after_is : (store : Tables) (change : TableChange) → after_at store (change ∷ []) ≡ rows_edited store change.table change.edits.now
 after_is store change = λ i place. by (change.table == place) (slice_get store.tables place) i
   where
@@ -113,7 +113,7 @@ after_is store change = λ i place. by (change.table == place) (slice_get store.
 fit_none : (stored : StoredRows) → AreReady stored []
 fit_none stored = record { fits = λ k d within. absurd (omega (arith, within)); apart = λ i j d below within. absurd (omega (arith, within)) }
 
--- Edits that fit their table may be made in each.
+-- Edits that fit their table may be made in each table.
 pub fit_each : (store : Tables) (change : TableChange) → AreFitAt store change.table change.edits.now → EachFit store (change ∷ [])
 fit_each store change fit = λ place stored there. by place stored there (change.table == place) refl
   where
@@ -153,7 +153,7 @@ type_tested store changes queries whole = λ k d within.
 
 -- ---- queries over no rows
 
--- Where the first table has no rows no combination fits.
+-- If the first table has no rows, no combination matches.
 none_from : (query : BoundQuery) (first : List (List Value)) (others : List (List (List Value))) → first ≡ [] → bag_of query (first ∷ others) ≡ []
 none_from query first others none = ap (λ f. bag_of query (f ∷ others)) none
 
@@ -161,7 +161,7 @@ nothing : {X : Type 0} (xs : List X) → length xs ≡ 0 → xs ≡ []
 nothing [] none = refl
 nothing (x ∷ xs) none = absurd (omega arith)
 
--- A table that has so many rows as 0 has none.
+-- A table with 0 rows has none.
 pub no_rows : (store : Tables) (place n : ℕ) → n ≡ 0 → ((stored : StoredRows) → IsAt store place stored → n ≡ length (rows_of stored))
     → rows_at store.tables place ≡ []
 no_rows store place n none told = by (slice_get store.tables place) told
@@ -170,7 +170,7 @@ no_rows store place n none told = by (slice_get store.tables place) told
     by None counted = refl
     by (Some stored) counted = nothing (rows_of stored) (sym (counted stored refl) ∙ none)
 
--- Two stores of which the first table has no rows give the same rows for a query over both tables: none.
+-- Two stores whose first tables have no rows have the same result of a query over both tables: no rows.
 pub none_from_both : (query : BoundQuery) (tables : List ℕ) (a b : List StoredRows) → tables ≡ 0 ∷ 1 ∷ [] → rows_at a 0 ≡ [] → rows_at b 0 ≡ []
     → bag_of query (map (rows_at a) tables) ≡ bag_of query (map (rows_at b) tables)
 none_from_both query tables a b are first second =

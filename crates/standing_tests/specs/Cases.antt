@@ -1,4 +1,4 @@
--- Tables with lists of standing queries over them, and marks to which both can go back.
+-- Tables with lists of standing queries over them, and marks to which both can be rolled back.
 use Rattle.std.specs.Prelude.{◌≡◌, ◌==◌, ℕ, ◌≤◌, Bool, true, false, if◌then◌else◌, List, [], length, replicate, slice_get, slice_index_or}
 use Rattle.std.specs.List.{All, list_all}
 use Rattle.std.specs.Option.{option_map_or}
@@ -35,7 +35,7 @@ adds_none (Shifted field by) = false
 abbrev pub is_unshifted : BoundQuery → Bool
 is_unshifted query = list_all (λ (atom : Atom FieldPlace). adds_none atom.right) query.atoms
 
--- The standing query has a place for each table of its FROM, no atom of it adds a number, and all its fields are of whole numbers.
+-- The standing query has a place for each table of its FROM, no atom of it adds a number, and all its fields are of integers.
 pub record IsWhole (standing : StandingQuery) : Type 0 where
   pub whole : length standing.tables ≡ length standing.query.from
   pub unshifted : is_unshifted standing.query ≡ true
@@ -43,16 +43,16 @@ pub record IsWhole (standing : StandingQuery) : Type 0 where
 
 -- ---- rows
 
--- The rows of the table at each place once the edits of the one at a place are made.
+-- The rows of the table at each place after the edits of the table at one place.
 abbrev pub rows_edited : Tables → ℕ → List Edit → RowsByPlace
 rows_edited store table edits place =
     if table == place then option_map_or (λ (stored : StoredRows). rows_after stored edits) (slice_get store.tables place) [] else rows_at store.tables place
 
--- Each row of each table is of two whole numbers.
+-- Each row of each table consists of two integers.
 abbrev pub HaveNumbers : RowsByPlace → Type 0
 HaveNumbers rows = (place : ℕ) → All (HasTypes plain_types) (rows place)
 
--- The rows of the table at each place when the log of the tables had so many records.
+-- The rows of the table at each place when the log of the tables had this length.
 abbrev pub rows_then : ℕ → Tables → RowsByPlace
 rows_then commands store place = slice_index_or (rows_at_mark commands store) place []
 
@@ -60,14 +60,14 @@ rows_then commands store place = slice_index_or (rows_at_mark commands store) pl
 abbrev pub AreFitAt : Tables → ℕ → List Edit → Type 0
 AreFitAt store table edits = (stored : StoredRows) → IsAt store table stored → AreFit stored edits
 
--- A slot of a table has a hidden row of two whole numbers.
+-- A slot of a table has a hidden row of two integers.
 abbrev pub IsHiddenNumber : Tables → ℕ → RowRef → Type 0
 IsHiddenNumber store table at =
     (stored : StoredRows) → IsAt store table stored → (row : List Value) × (slot_at stored.places at ≡ Hidden row) × HasTypes plain_types row
 
 -- ---- cases
 
--- There are two tables of two columns, and their rows are of whole numbers; and the lists have the rows of their queries.
+-- There are two tables of two columns, their rows are of integers, and the lists have the rows of their queries.
 pub record IsCase (store : Tables) (lists : Lists) : Type 0 where
   pub two : length store.tables ≡ 2
   pub plain : ArePlain store
@@ -77,15 +77,14 @@ pub record IsCase (store : Tables) (lists : Lists) : Type 0 where
   pub fits : FitNow (before_at store) lists
   pub ready : lists.prepared ≡ []
 
--- Both can go back to when the log of the tables had so many records, and that of the lists so many changes. Then the lists had the rows
--- of their queries, and all rows were of whole numbers.
+-- Both logs can be undone to these lengths. At that point the lists had the rows of their queries, and all rows were of integers.
 pub record IsMark (store : Tables) (lists : Lists) (commands changes : ℕ) : Type 0 where
   pub commands_there : marks.IsMark store commands
   pub changes_there : changes ≤ length lists.log
   pub typed : HaveNumbers (rows_then commands store)
   pub fits : FitAt changes (rows_then commands store) lists
 
--- A case that can go back to its start and to a mark.
+-- A case that can be rolled back to its start and to a mark.
 pub record IsMarked (store : Tables) (lists : Lists) (commands changes : ℕ) : Type 0 where
   pub case : IsCase store lists
   pub start : IsMark store lists 0 0

@@ -17,8 +17,7 @@ use mm_value::Refusal;
 use std::alloc::Global;
 use std::marker::Model;
 
-/// Two tables with the lists of standing queries over them, which fit the rows; what was changed since the last settlement can be
-/// taken back.
+/// Two tables with the lists of standing queries over them, which fit the rows. The changes since the last settlement can be undone.
 #[derive(Drop)]
 pub struct Case {
     store: Store,
@@ -26,14 +25,14 @@ pub struct Case {
     mark: Mark,
 }
 
-/// How many records the log of the tables and how many changes that of the lists had.
+/// The lengths of the log of the tables and of the log of the lists.
 #[derive(Clone, Copy)]
 struct Mark {
     commands: usize,
     changes: usize,
 }
 
-/// Where nothing can be taken back.
+/// The mark from which nothing can be undone.
 const START: Mark = Mark {
     commands: 0,
     changes: 0,
@@ -51,7 +50,7 @@ impl Model for Case {
 }
 
 impl Case {
-    /// Two tables with no rows and no standing queries. With `indexed` the numbers of the first have a HASH index.
+    /// Returns two tables without rows and without standing queries. If `indexed`, the numbers of the first have a HASH index.
     pub fn new(alloc: Global, indexed: bool) -> Result<Case, Refusal> {
         let store = tables(alloc, indexed)?;
         let _now = store.mark();
@@ -62,7 +61,7 @@ impl Case {
         })
     }
 
-    /// Adds a row to a table. `NoSuchTable` where no table stands at the place; what else refuses a change.
+    /// Inserts a row into a table. Fails with `NoSuchTable` if there is no table at the place, and with the other refusals of a change.
     pub fn add(
         &mut self,
         alloc: Global,
@@ -83,8 +82,8 @@ impl Case {
         )
     }
 
-    /// Removes the row of a key from a table. `NoSuchTable` where no table stands at the place; `NoTargetRow` where no row has the
-    /// key; what else refuses a change.
+    /// Deletes the row of a key from a table. Fails with `NoSuchTable` if there is no table at the place, with `NoTargetRow` if no row has
+    /// the key, and with the other refusals of a change.
     pub fn remove(&mut self, alloc: Global, table: usize, key: i64) -> Result<(), Refusal> {
         if table >= 2 {
             return Err(Refusal::NoSuchTable);
@@ -92,8 +91,8 @@ impl Case {
         remove(alloc, &mut self.store, &mut self.standing, table, key)
     }
 
-    /// Makes the addition of a row ready, and drops it. `NoSuchTable` where no table stands at the place; what else refuses the
-    /// lists of a change. Where it is refused, what is ready is made, which is nothing.
+    /// Prepares the insert of a row, and drops it. Fails with `NoSuchTable` if there is no table at the place, and with the refusals of the
+    /// lists. If the insert is refused, applies what is prepared, which is nothing.
     pub fn prepare_and_drop(
         &mut self,
         alloc: Global,
@@ -114,9 +113,9 @@ impl Case {
         )
     }
 
-    /// Keeps a standing query over tables that stand at these places. What was changed is settled first. `NoSuchTable` where no
-    /// table stands at one of the places; `TooMany` for more than 4 of them; `WrongNumberOfValues` unless there are as many as in
-    /// FROM; `ArithmeticOutOfRange` where an atom adds a number; what else refuses a standing query.
+    /// Creates a standing query over the tables at these places. Settles earlier changes first. Fails with `NoSuchTable` if there is no
+    /// table at one of the places, and with `TooMany` for more than 4 of them. Fails with `WrongNumberOfValues` unless there are as many
+    /// places as tables in FROM, with `ArithmeticOutOfRange` if an atom adds a number, and with the other refusals of a standing query.
     pub fn watch(
         &mut self,
         alloc: Global,
@@ -136,8 +135,8 @@ impl Case {
         )
     }
 
-    /// Keeps a standing query over both tables, whose list was found over those of another case. What was changed is settled first.
-    /// `NotInTransaction` unless the first table is empty in both, since the list would not fit; else the refusals of `watch`.
+    /// Creates a standing query over both tables, with a list computed over those of another case. Settles earlier changes first. Fails
+    /// with `NotInTransaction` unless the first table is empty in both cases, since the list would not fit, and otherwise as `watch` does.
     pub fn watch_elsewhere(
         &mut self,
         alloc: Global,
@@ -158,7 +157,7 @@ impl Case {
         )
     }
 
-    /// Refuses a query that is not for the tables of a case at these places, and any unless the first table is empty in both cases.
+    /// Refuses a query that is not for the tables of a case at these places, and any query unless the first table is empty in both cases.
     fn refuse_elsewhere(
         &self,
         other: &Case,
@@ -179,12 +178,12 @@ impl Case {
         Ok(())
     }
 
-    /// How many rows were read when the last change was prepared.
+    /// Returns the number of rows that were read when the last change was prepared.
     pub fn reads(&self) -> u64 {
         self.standing.reads()
     }
 
-    /// Makes a mark of the rows and the lists as they are.
+    /// Sets a mark at the current rows and lists.
     pub fn set_mark(&mut self) {
         self.mark = Mark {
             commands: self.store.mark(),
@@ -192,25 +191,25 @@ impl Case {
         };
     }
 
-    /// Takes back what was changed since the mark.
+    /// Undoes the changes since the mark.
     pub fn go_back(&mut self) {
         let Mark { commands, changes } = self.mark;
         go_back(&mut self.store, &mut self.standing, commands, changes);
     }
 
-    /// Takes back what was changed since the last settlement. The mark goes.
+    /// Undoes the changes since the last settlement, and drops the mark.
     pub fn go_back_to_start(&mut self) {
         self.mark = START;
         self.go_back();
     }
 
-    /// Makes what was changed final. The mark goes.
+    /// Commits the changes, and drops the mark.
     pub fn settle(&mut self) {
         self.mark = START;
         settle(&mut self.store, &mut self.standing);
     }
 
-    /// Drops the standing query at a place, if there is one. What was changed is settled first.
+    /// Drops the standing query at a place, if there is one. Settles earlier changes first.
     pub fn unwatch(&mut self, place: usize) {
         self.mark = START;
         settle(&mut self.store, &mut self.standing);
@@ -220,8 +219,8 @@ impl Case {
         }
     }
 
-    /// Puts another number into the row of a key. `NoSuchTable` where no table stands at the place; `NoTargetRow` where no row of it has
-    /// the key; what else refuses a change.
+    /// Changes the number of the row of a key. Fails with `NoSuchTable` if there is no table at the place, with `NoTargetRow` if none of
+    /// its rows has the key, and with the other refusals of a change.
     pub fn renumber(
         &mut self,
         alloc: Global,
@@ -242,7 +241,7 @@ impl Case {
         )
     }
 
-    /// How many rows the list at a place shows. `NoSuchStandingQuery` where there is none.
+    /// Returns the number of rows that the list at a place shows. Fails with `NoSuchStandingQuery` if there is no such list.
     pub fn count(&self, place: usize) -> Result<usize, Refusal> {
         if place >= self.standing.len() {
             return Err(Refusal::NoSuchStandingQuery);
@@ -250,8 +249,8 @@ impl Case {
         Ok(self.standing.count(place))
     }
 
-    /// Whether the list at a place shows just these rows, in this order. `NoSuchStandingQuery` where there is none; `Memory` where
-    /// it is refused.
+    /// Returns whether the list at a place shows exactly these rows, in this order. Fails with `NoSuchStandingQuery` if there is no such
+    /// list, and with `Memory` if an allocation fails.
     pub fn shows(&self, alloc: Global, place: usize, rows: &[&[i64]]) -> Result<bool, Refusal> {
         if place >= self.standing.len() {
             return Err(Refusal::NoSuchStandingQuery);
@@ -260,8 +259,8 @@ impl Case {
         Ok(are_shown(&shown, rows))
     }
 
-    /// By how much the count of each row of a query over tables that stand at these places changes with a row more in a table.
-    /// `NoSuchTable` where no table stands at the place; else the refusals of `watch`.
+    /// Returns the changes of the counts of the rows of a query, over the tables at these places, by the insert of a row into a table.
+    /// Fails with `NoSuchTable` if there is no table at the place, and otherwise as `watch` does.
     pub fn changes_of(
         &mut self,
         alloc: Global,
@@ -287,8 +286,8 @@ impl Case {
         Ok(changes)
     }
 
-    /// How many combinations of rows fit a query over tables that stand at these places. The refusals are those of `watch`, but
-    /// for `ResultTooLarge` in place of `StandingListTooLarge`.
+    /// Returns the number of combinations of rows that match a query over the tables at these places. Fails as `watch` does, but with
+    /// `ResultTooLarge` instead of `StandingListTooLarge`.
     pub fn combinations(
         &self,
         alloc: Global,

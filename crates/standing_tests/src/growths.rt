@@ -1,8 +1,7 @@
-//! Each growth of memory that a call asks for is refused in turn: then what the call could have changed is as before, and the
-//! call given again answers as it should.
+//! Each allocation of a call fails in turn. Then everything that the call could have changed is as before, and the call succeeds when it is
+//! repeated.
 //!
-//! A run refuses one growth. Where that is one in front of the call or behind it a test ends, since other runs refuse those of the
-//! call.
+//! One allocation fails in each run. If it is before or after the call, the test ends, since other runs fail those of the call.
 ghost use Rattle.std.specs.Prelude.{◌≡◌};
 ghost use Rattle.mm_partition.specs.Types.{HasTypes};
 ghost use Rattle.store_tests.specs.SampleStore.{plain_types};
@@ -21,18 +20,18 @@ use std::io;
 use std::process::Abort;
 use std::test::Fail;
 
-/// Tells that a call is given again. A run that refuses growths looks for the line.
+/// Writes that a call is repeated. A run with failed allocations looks for this line.
 fn asked_again(rt: &impl Print) -> io::Result<()> {
     rt.println("refused")
 }
 
-/// Asserts that it was memory that a call was refused, and tells that the call is given again.
+/// Asserts that a call failed with `Memory`, and writes that it is repeated.
 fn memory_was_refused(rt: &(impl Abort + Print), refusal: Refusal) -> io::Result<()> {
     assert_same(rt, refusal, Refusal::Memory);
     asked_again(rt)
 }
 
-/// Asserts that a call on the sample was refused memory, and that the lists are as they were.
+/// Asserts that a call on the sample failed with `Memory`, and that the lists are as before.
 fn assert_unchanged(
     rt: &(impl Abort + AllocGlobal + Print),
     case: &Case,
@@ -43,14 +42,14 @@ fn assert_unchanged(
     Ok(())
 }
 
-/// Asserts that a list shows just these rows, unless memory is refused.
+/// Asserts that a list shows exactly these rows, unless an allocation fails.
 fn look(rt: &(impl Abort + AllocGlobal), case: &Case, place: usize, rows: &[&[i64]]) {
     if let Ok(is_shown) = case.shows(rt.alloc(), place, rows) {
         assert_that(rt, is_shown);
     }
 }
 
-/// Keeps a standing query, again where memory is refused, and looks at its list.
+/// Creates a standing query, again if an allocation fails, and checks its list.
 fn watch_again(rt: &(impl Abort + AllocGlobal + Print), case: &mut Case) -> Result<(), Fail> {
     if let Err(refusal) = watch_joined(case, rt.alloc(), [0, 1]) {
         assert_unchanged(rt, case, refusal)?;
@@ -69,7 +68,7 @@ fn watch_growths(rt: HostRuntime) -> Result<(), Fail> {
     watch_again(&rt, &mut case)
 }
 
-/// Makes an addition ready and drops it, again where memory is refused, and looks at the lists.
+/// Prepares an insert and drops it, again if an allocation fails, and checks the lists.
 fn prepare_again(rt: &(impl Abort + AllocGlobal + Print), case: &mut Case) -> Result<(), Fail> {
     if let Err(refusal) = case.prepare_and_drop(rt.alloc(), 0, 3, 5) {
         assert_unchanged(rt, case, refusal)?;
@@ -89,7 +88,7 @@ fn prepare_growths(rt: HostRuntime) -> Result<(), Fail> {
     prepare_again(&rt, &mut case)
 }
 
-/// Adds a row, again where memory is refused, and looks at a list.
+/// Inserts a row, again if an allocation fails, and checks a list.
 fn add_again(rt: &(impl Abort + AllocGlobal + Print), case: &mut Case) -> Result<(), Fail> {
     if let Err(refusal) = case.add(rt.alloc(), 0, 3, 5) {
         assert_unchanged(rt, case, refusal)?;
@@ -107,7 +106,7 @@ fn change_growths(rt: HostRuntime) -> Result<(), Fail> {
     add_again(&rt, &mut case)
 }
 
-/// Looks at a list, again where memory is refused.
+/// Checks a list, again if an allocation fails.
 fn look_again(rt: &(impl Abort + AllocGlobal + Print), case: &Case) -> Result<(), Fail> {
     let rows: &[&[i64]] = &[&[1, 1], &[2, 1]];
     match case.shows(rt.alloc(), 0, rows) {
@@ -128,7 +127,7 @@ fn list_growths(rt: HostRuntime) -> Result<(), Fail> {
     look_again(&rt, &case)
 }
 
-/// Whether the only change is that of the count of a row of these two numbers, by 1.
+/// Returns whether the only change is that of the count of a row with these two numbers, by 1.
 fn is_one_more(changes: &[Signed], numbers: &[i64]) -> bool {
     match changes {
         [change] => change.count == 1 && is_row_of(&change.row, numbers),
@@ -136,13 +135,13 @@ fn is_one_more(changes: &[Signed], numbers: &[i64]) -> bool {
     }
 }
 
-/// Whether an addition changes the count of one row alone, by 1.
+/// Returns whether an insert changes only the count of one row, by 1.
 fn adds_one_row(case: &mut Case, alloc: Global, query: &BoundQuery) -> Result<bool, Refusal> {
     let changes = case.changes_of(alloc, query, &[0, 1], 0, 3, 5)?;
     Ok(is_one_more(changes.as_slice(), &[3, 1]))
 }
 
-/// Asserts what an addition changes of the count of each row, asked for again where memory is refused.
+/// Asserts the changes of counts by an insert, which are computed again if an allocation fails.
 fn changes_again(
     rt: &(impl Abort + AllocGlobal + Print),
     case: &mut Case,
@@ -158,7 +157,7 @@ fn changes_again(
     Ok(())
 }
 
-/// Asserts the same of the pairs of keys of rows with the same number.
+/// Asserts the changes of counts by an insert, for the pairs of keys of rows with the same number.
 fn find_changes(rt: &(impl Abort + AllocGlobal + Print), case: &mut Case) -> Result<(), Fail> {
     let Ok(query) = joined(rt.alloc()) else {
         return Ok(());
@@ -174,7 +173,7 @@ fn delta_growths(rt: HostRuntime) -> Result<(), Fail> {
     find_changes(&rt, &mut case)
 }
 
-/// Counts the row of a key and a number up.
+/// Increments the count of the row of a key and a number.
 fn count_row(bag: &mut Bag, alloc: Global, key: i64, number: i64) -> Result<(), AllocError>
     requires { bag.old.types ≡ plain_types }
     ensures { bag.new.types ≡ plain_types }
@@ -182,7 +181,7 @@ fn count_row(bag: &mut Bag, alloc: Global, key: i64, number: i64) -> Result<(), 
     bag.count_up(row(alloc, key, number)?)
 }
 
-/// Counts a row of a key up once, and one of another key twice.
+/// Counts a row with one key once, and one with another key twice.
 fn count_rows(bag: &mut Bag, alloc: Global) -> Result<(), AllocError>
     requires { bag.old.types ≡ plain_types }
     ensures { bag.new.types ≡ plain_types }
@@ -192,14 +191,14 @@ fn count_rows(bag: &mut Bag, alloc: Global) -> Result<(), AllocError>
     count_row(bag, alloc, 2, 5)
 }
 
-/// A bag with a row of a key once and one of another key twice.
+/// Returns a bag with a row of one key once and one of another key twice.
 fn bag(alloc: Global) -> Result<Bag, AllocError> {
     let mut bag = Bag::new(alloc, TYPES)?;
     count_rows(&mut bag, alloc)?;
     Ok(bag)
 }
 
-/// Whether a bag has just these rows, with these counts, in this order.
+/// Returns whether a bag has exactly these rows, with these counts, in this order.
 fn has_rows(bag: &Bag, rows: &[(&[i64], usize)]) -> bool {
     let mut entries = bag.entries();
     for (numbers, count) in rows {
@@ -211,7 +210,7 @@ fn has_rows(bag: &Bag, rows: &[(&[i64], usize)]) -> bool {
     entries.next().is_none()
 }
 
-/// Counts a new row up in an empty bag, again where memory is refused.
+/// Counts a new row in an empty bag, again if an allocation fails.
 fn count_again(rt: &(impl Abort + AllocGlobal + Print), bag: &mut Bag, new: Row) -> Result<(), Fail>
     requires types { bag.old.types ≡ plain_types }
     requires typed { HasTypes plain_types new }
@@ -237,10 +236,10 @@ fn count_up_growths(rt: HostRuntime) -> Result<(), Fail> {
     }
 }
 
-/// What a bag of two rows and three counts has.
+/// The contents of a bag with two rows and three counts.
 const COUNTED: &[(&[i64], usize)] = &[(&[1, 5], 1), (&[2, 5], 2)];
 
-/// Reserves room in such a bag, again where memory is refused.
+/// Reserves capacity in such a bag, again if an allocation fails.
 fn reserve_again(rt: &(impl Abort + Print), bag: &mut Bag) -> Result<(), Fail> {
     if let Err(AllocError) = bag.reserve(100) {
         asked_again(rt)?;

@@ -1,7 +1,6 @@
-//! Tests of standing queries on worked examples: of how many rows a change reads, of what the lists show, and of what they do where
-//! memory is refused.
+//! Tests of standing queries on worked examples: the number of rows that a change reads, the rows of the lists, and failed allocations.
 //!
-//! They stand apart from the crates that they test, since a crate with tests is proved twice.
+//! The tests have a crate of their own, since a crate with tests is proved twice.
 #![tactic(auto)]
 
 #[cfg(test)]

@@ -1,4 +1,4 @@
-//! The most combinations of a query and of a standing query: 1,048,576, as 1,024 rows joined with themselves have.
+//! The limit of combinations of a query and of a standing query: 1,048,576, the number for 1,024 rows joined with themselves.
 use crate::assertions::assert_same;
 use crate::case::Case;
 use crate::samples::{key, query};
@@ -7,7 +7,7 @@ use std::alloc::Global;
 use std::process::Abort;
 use std::test::Fail;
 
-/// Adds so many rows to the first table.
+/// Inserts `count` rows into the first table.
 fn fill(case: &mut Case, alloc: Global, count: i64) -> Result<(), Refusal> {
     for key in 0..count {
         case.add(alloc, 0, key, key)?;
@@ -15,7 +15,7 @@ fn fill(case: &mut Case, alloc: Global, count: i64) -> Result<(), Refusal> {
     Ok(())
 }
 
-/// What refuses the first table joined with itself, as a query and as a standing query.
+/// Returns the refusals of the first table joined with itself, as a query and as a standing query.
 fn refusals(case: &mut Case, alloc: Global) -> Result<[Option<Refusal>; 2], Refusal> {
     let joined = query(alloc, 2, [key(0)])?;
     let of_query = case.combinations(alloc, &joined, &[0, 0]).err();
@@ -23,7 +23,7 @@ fn refusals(case: &mut Case, alloc: Global) -> Result<[Option<Refusal>; 2], Refu
     Ok([of_query, of_list])
 }
 
-/// Fills the first table by one row too many, and asserts that it joined with itself is refused.
+/// Fills the first table with one row too many, and asserts that the join with itself is refused.
 fn overfill(rt: &(impl Abort + AllocGlobal), case: &mut Case) -> Result<(), Fail> {
     fill(case, rt.alloc(), 1025)?;
     let refused = [

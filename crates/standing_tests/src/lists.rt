@@ -1,4 +1,4 @@
-//! What lists show, also once changes are taken back.
+//! The rows of lists, also after changes are undone.
 use crate::assertions::{assert_same, assert_that};
 use crate::case::Case;
 use crate::three_lists::{SAMPLED, sample, show};
@@ -7,12 +7,12 @@ use std::alloc::Global;
 use std::process::Abort;
 use std::test::Fail;
 
-/// How many rows the three lists show.
+/// Returns the numbers of rows of the three lists.
 fn counts(case: &Case) -> Result<[usize; 3], Refusal> {
     Ok([case.count(0)?, case.count(1)?, case.count(2)?])
 }
 
-/// Asserts that the three lists show just these rows.
+/// Asserts that the three lists show exactly these rows.
 fn assert_shown(
     rt: &(impl Abort + AllocGlobal),
     case: &Case,
@@ -22,7 +22,7 @@ fn assert_shown(
     Ok(())
 }
 
-/// Asserts how many rows the three lists of the sample show, and which.
+/// Asserts the numbers of rows and the rows of the three lists of the sample.
 fn count_and_show(rt: &(impl Abort + AllocGlobal), case: &Case) -> Result<(), Fail> {
     assert_same(rt, counts(case)?, [2, 2, 1]);
     assert_shown(rt, case, SAMPLED)
@@ -34,7 +34,7 @@ fn counts_with_and_without_distinct(rt: HostRuntime) -> Result<(), Fail> {
     count_and_show(&rt, &case)
 }
 
-/// Adds a row to the first table, and sets a mark. Then all rows of the sample go from there, and one comes in the second table.
+/// Inserts a row into the first table, and sets a mark. Then deletes all rows of the sample, and inserts one into the second table.
 fn turn(case: &mut Case, alloc: Global) -> Result<(), Refusal> {
     case.add(alloc, 0, 3, 7)?;
     case.set_mark();
@@ -43,13 +43,13 @@ fn turn(case: &mut Case, alloc: Global) -> Result<(), Refusal> {
     case.add(alloc, 1, 2, 7)
 }
 
-/// What the lists show at the mark of `turn`.
+/// The rows of the lists at the mark of `turn`.
 const AT_MARK: [&[&[i64]]; 3] = [&[&[1, 1], &[2, 1]], &[&[5], &[5], &[7]], &[&[5], &[7]]];
 
-/// What the lists show behind the changes of `turn`.
+/// The rows of the lists after the changes of `turn`.
 const TURNED: [&[&[i64]]; 3] = [&[&[3, 2]], &[&[7]], &[&[7]]];
 
-/// Makes the changes of `turn`, behind which no row of the count 0 is shown, and takes them back.
+/// Makes the changes of `turn`, after which no row with the count 0 is shown, and undoes them.
 fn turn_and_back(rt: &(impl Abort + AllocGlobal), case: &mut Case) -> Result<(), Fail> {
     turn(case, rt.alloc())?;
     assert_shown(rt, case, TURNED)?;
@@ -65,10 +65,10 @@ fn lists_go_back(rt: HostRuntime) -> Result<(), Fail> {
     turn_and_back(&rt, &mut case)
 }
 
-/// What the lists of the sample show without its first row.
+/// The rows of the sample's lists without its first row.
 const ONE_LEFT: [&[&[i64]]; 3] = [&[&[2, 1]], &[&[5]], &[&[5]]];
 
-/// Makes the removal of a row final, behind which nothing is taken back, and adds the row again.
+/// Commits the deletion of a row, which then cannot be undone, and inserts the row again.
 fn settle_and_add(rt: &(impl Abort + AllocGlobal), case: &mut Case) -> Result<(), Fail> {
     case.remove(rt.alloc(), 0, 1)?;
     case.settle();
@@ -84,7 +84,7 @@ fn settled_changes_stay(rt: HostRuntime) -> Result<(), Fail> {
     settle_and_add(&rt, &mut case)
 }
 
-/// Drops a change that is ready, and makes another.
+/// Drops a prepared change, and makes another.
 fn drop_and_add(rt: &(impl Abort + AllocGlobal), case: &mut Case) -> Result<(), Fail> {
     case.prepare_and_drop(rt.alloc(), 0, 3, 7)?;
     assert_shown(rt, case, SAMPLED)?;
@@ -99,7 +99,7 @@ fn discarded_changes_are_not_made(rt: HostRuntime) -> Result<(), Fail> {
     drop_and_add(&rt, &mut case)
 }
 
-/// Asserts that two lists show just these rows, and that there is no third.
+/// Asserts that two lists show exactly these rows, and that there is no third list.
 fn assert_two(
     rt: &(impl Abort + AllocGlobal),
     case: &Case,
@@ -112,7 +112,7 @@ fn assert_two(
     Ok(())
 }
 
-/// Drops the first standing query, and adds a row.
+/// Drops the first standing query, and inserts a row.
 fn unwatch_and_add(rt: &(impl Abort + AllocGlobal), case: &mut Case) -> Result<(), Fail> {
     case.unwatch(0);
     assert_two(rt, case, &[&[5], &[5]], &[&[5]])?;
@@ -138,18 +138,18 @@ fn grow_and_shrink(case: &mut Case, alloc: Global, first: i64, last: i64) -> Res
     Ok(())
 }
 
-/// What the lists show after they grew and shrank once.
+/// The rows of the lists after they grew and shrank once.
 const SHRUNK: [&[&[i64]]; 3] = [&[&[1, 1], &[2, 1]], &[&[5], &[5], &[29]], &[&[5], &[29]]];
 
-/// What the lists show after they grew and shrank twice.
+/// The rows of the lists after they grew and shrank twice.
 const SHRUNK_TWICE: [&[&[i64]]; 3] = [
     &[&[1, 1], &[2, 1]],
     &[&[5], &[5], &[29], &[59]],
     &[&[5], &[29], &[59]],
 ];
 
-/// Lets the lists grow and shrink in two transactions, of which the second uses slots of the first again. Asserts what the lists show
-/// within the first transaction, after it, and within the second one.
+/// Lets the lists grow and shrink in two transactions, the second of which reuses slots of the first. Asserts the rows of the lists within
+/// the first transaction, after it, and within the second one.
 fn shrink_twice(rt: &(impl Abort + AllocGlobal), case: &mut Case) -> Result<(), Fail> {
     grow_and_shrink(case, rt.alloc(), 10, 29)?;
     assert_same(rt, counts(case)?, [2, 3, 2]);

@@ -1,4 +1,4 @@
-//! How many rows a change reads.
+//! The number of rows that a change reads.
 use crate::assertions::{assert_same, assert_that};
 use crate::case::Case;
 use crate::samples::{key, number, numbers_compare, pairs};
@@ -9,10 +9,10 @@ use std::alloc::Global;
 use std::process::Abort;
 use std::test::Fail;
 
-/// Where no value lies between the new row's number and the bound, a checked cycle shows it, and no row beside the new one is read.
+/// If no value is between the new row's number and the bound, a checked cycle shows this, and only the new row is read.
 const READS_OF_IRRELEVANT_ROW: u64 = 1;
 
-/// The pairs of the rows 1, 2 and 3, and the row 4 beside itself.
+/// The pairs of the rows 1, 2 and 3, and of the row 4 with itself.
 const ALL_PAIRS: [&[i64]; 10] = [
     &[1, 1],
     &[1, 2],
@@ -26,7 +26,8 @@ const ALL_PAIRS: [&[i64]; 10] = [
     &[4, 4],
 ];
 
-/// Adds a row to the first table, and asserts that so many rows are read at most, and that the first list shows just these rows then.
+/// Inserts a row into the first table, and asserts that at most this many rows are read and that the first list then shows exactly these
+/// rows.
 fn assert_reads(
     rt: &(impl Abort + AllocGlobal),
     case: &mut Case,
@@ -64,7 +65,8 @@ fn reads_are_few_without_an_index(rt: HostRuntime) -> Result<(), Fail> {
     join_with_itself(&rt, &mut case, 8)
 }
 
-/// Adds a row of the key 1 and the number 9 to the second table, and of the number 4 elsewhere. Then it keeps a list that is found there.
+/// Inserts a row with the key 1 into the second table, with the number 9 here and 4 in the other case. Then creates a standing query here,
+/// with a list computed over the other case.
 fn watch_elsewhere(case: &mut Case, elsewhere: &mut Case, alloc: Global) -> Result<(), Refusal> {
     elsewhere.add(alloc, 1, 1, 4)?;
     case.add(alloc, 1, 1, 9)?;
@@ -72,7 +74,7 @@ fn watch_elsewhere(case: &mut Case, elsewhere: &mut Case, alloc: Global) -> Resu
     case.watch_elsewhere(alloc, elsewhere, query)
 }
 
-/// Asserts that a row goes with one that stands in the view, and not where the list was found.
+/// Asserts that a new row is combined with a row in the view, and not with one of the case over which the list was computed.
 fn follow_the_view(
     rt: &(impl Abort + AllocGlobal),
     case: &mut Case,
@@ -83,7 +85,7 @@ fn follow_the_view(
     assert_reads(rt, case, (1, 9), 2, &[&[1]])
 }
 
-/// Asserts the same of a new case, whose list is found over the tables of another.
+/// Asserts that changes follow the view in a new case whose list was computed over the tables of another one.
 fn follow_from(rt: &(impl Abort + AllocGlobal), elsewhere: &mut Case) -> Result<(), Fail> {
     let mut case = Case::new(rt.alloc(), false)?;
     follow_the_view(rt, &mut case, elsewhere)
@@ -95,7 +97,7 @@ fn lists_follow_the_view(rt: HostRuntime) -> Result<(), Fail> {
     follow_from(&rt, &mut elsewhere)
 }
 
-/// The keys of the first table whose number is less than one of the second that is less than 5.
+/// Returns a query for the keys of the first table whose number is less than one of the second that is less than 5.
 fn below_5(alloc: Global) -> Result<BoundQuery, Refusal> {
     let below_5 = Atom {
         left: number(1),
@@ -106,13 +108,13 @@ fn below_5(alloc: Global) -> Result<BoundQuery, Refusal> {
     pairs(alloc, [key(0)], atoms)
 }
 
-/// Keeps those keys as a standing query.
+/// Creates a standing query for those keys.
 fn watch_below_5(case: &mut Case, alloc: Global) -> Result<(), Refusal> {
     let tables = vec![in alloc; 0, 1]?;
     case.watch(alloc, below_5(alloc)?, tables)
 }
 
-/// Asserts how few rows an irrelevant row reads, and how few one that goes with the only row of the second table.
+/// Asserts the number of rows read for an irrelevant row, and for one that matches the only row of the second table.
 fn leave_out(rt: &(impl Abort + AllocGlobal), case: &mut Case) -> Result<(), Fail> {
     case.add(rt.alloc(), 1, 1, 4)?;
     watch_below_5(case, rt.alloc())?;
@@ -126,7 +128,7 @@ fn irrelevant_rows_are_not_combined(rt: HostRuntime) -> Result<(), Fail> {
     leave_out(&rt, &mut case)
 }
 
-/// Keeps the pairs of rows with the same key as a standing query, which reads no number.
+/// Creates a standing query for the pairs of rows with the same key, which reads no number.
 fn watch_keys(case: &mut Case, alloc: Global) -> Result<(), Refusal> {
     let same_key = Atom {
         left: key(0),
@@ -138,7 +140,7 @@ fn watch_keys(case: &mut Case, alloc: Global) -> Result<(), Refusal> {
     case.watch(alloc, query, tables)
 }
 
-/// Asserts that a row whose number changes is read itself, and none that it is combined with.
+/// Asserts that a row whose number changes is read, and no row that it is combined with.
 fn renumber_unread(rt: &(impl Abort + AllocGlobal), case: &mut Case) -> Result<(), Fail> {
     put(case, rt.alloc(), &[(0, 1, 5), (1, 1, 6)])?;
     watch_keys(case, rt.alloc())?;

@@ -10,17 +10,17 @@ use mm_templist::ShownRows;
 use mm_value::{Few, Refusal, Row, Value, ValueRef, compare};
 use std::alloc::{AllocError, Global};
 
-/// The key of the row at a place.
+/// Returns the field of the key of the row at a place.
 pub fn key(place: usize) -> FieldPlace {
     FieldPlace { place, column: 0 }
 }
 
-/// The number of the row at a place.
+/// Returns the field of the number of the row at a place.
 pub fn number(place: usize) -> FieldPlace {
     FieldPlace { place, column: 1 }
 }
 
-/// The atom that compares the numbers of the rows at the first two places.
+/// Returns the atom that compares the numbers of the rows at the first two places.
 pub fn numbers_compare(comparison: Comparison) -> Atom<FieldPlace> {
     Atom {
         left: number(0),
@@ -29,7 +29,7 @@ pub fn numbers_compare(comparison: Comparison) -> Atom<FieldPlace> {
     }
 }
 
-/// A FROM of so many tables of one name.
+/// Returns a FROM of `tables` tables with one name.
 fn from_tables(alloc: Global, tables: usize) -> Result<Vec<FromItem>, Refusal> {
     let name = Name::new(b"t").ok_or(Refusal::Syntax)?;
     let mut from = Vec::new(alloc);
@@ -42,7 +42,7 @@ fn from_tables(alloc: Global, tables: usize) -> Result<Vec<FromItem>, Refusal> {
     Ok(from)
 }
 
-/// A query with these fields over so many tables, for all combinations of rows.
+/// Returns a query with these fields over `tables` tables, for all combinations of rows.
 pub fn query<const N: usize>(
     alloc: Global,
     tables: usize,
@@ -59,7 +59,7 @@ pub fn query<const N: usize>(
     })
 }
 
-/// A query over two tables for the combinations for which some atoms hold.
+/// Returns a query over two tables for the combinations that satisfy some atoms.
 pub fn pairs<const N: usize, const M: usize>(
     alloc: Global,
     fields: [FieldPlace; N],
@@ -71,7 +71,7 @@ pub fn pairs<const N: usize, const M: usize>(
     Ok(query)
 }
 
-/// The pairs of keys of rows with the same number, of the first table and of the second.
+/// Returns a query for the pairs of keys of rows with the same number, of the first table and of the second.
 pub fn joined(alloc: Global) -> Result<BoundQuery, Refusal> {
     pairs(
         alloc,
@@ -80,7 +80,7 @@ pub fn joined(alloc: Global) -> Result<BoundQuery, Refusal> {
     )
 }
 
-/// The row of a key and a number. `AllocError` where memory is refused.
+/// Returns the row of a key and a number. Fails with `AllocError` if an allocation fails.
 pub fn row(alloc: Global, key: i64, number: i64) -> Result<Row, AllocError>
     ensures { IfOk result (HasTypes plain_types) }
 {
@@ -88,7 +88,7 @@ pub fn row(alloc: Global, key: i64, number: i64) -> Result<Row, AllocError>
     Ok(Row::new(values))
 }
 
-/// Whether the values of a shown row are these numbers.
+/// Returns whether the values of a shown row are these numbers.
 fn has_numbers(row: &[ValueRef<'_>], numbers: &[i64]) -> bool {
     row.len() == numbers.len()
         && row.iter().zip(numbers.iter()).all(|(value, number)| compare(
@@ -97,7 +97,7 @@ fn has_numbers(row: &[ValueRef<'_>], numbers: &[i64]) -> bool {
         ).is_eq())
 }
 
-/// Whether just these rows are shown, in this order.
+/// Returns whether exactly these rows are shown, in this order.
 pub fn are_shown(shown: &ShownRows<'_>, rows: &[&[i64]]) -> bool {
     if shown.len() != rows.len() {
         return false;
@@ -110,7 +110,7 @@ pub fn are_shown(shown: &ShownRows<'_>, rows: &[&[i64]]) -> bool {
     true
 }
 
-/// Whether a row has just these numbers.
+/// Returns whether a row has exactly these numbers.
 pub fn is_row_of(row: &Row, numbers: &[i64]) -> bool {
     row.values().len() == numbers.len()
         && row.values().iter().zip(numbers.iter()).all(|(value, number)| compare(
@@ -119,7 +119,7 @@ pub fn is_row_of(row: &Row, numbers: &[i64]) -> bool {
         ).is_eq())
 }
 
-/// Whether a row, read where it stands, has just these numbers.
+/// Returns whether a row, read in place, has exactly these numbers.
 pub fn is_view_of(row: RowView<'_>, numbers: &[i64]) -> bool {
     if row.len() != numbers.len() {
         return false;

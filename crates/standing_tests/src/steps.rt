@@ -1,6 +1,7 @@
-//! What is done to two tables and to the lists of standing queries over them.
+//! Steps on two tables and on the lists of standing queries over them.
 ghost use Rattle.std.specs.Prelude.{◌≡◌, ℕ, ◌<◌, ◌≤◌, All, List, [], ◌∷◌, length, map, true, IfOk, IfSome, OnErr, OnOk};
-ghost use Rattle.mm_multiset.specs.Counts.{Counts};
+ghost use Rattle.mm_multiset.specs.Counts.{count_in};
+ghost use Rattle.mm_standing.specs.Bags.{entries_at};
 ghost use Rattle.mm_delta.specs.Edited.{before_at};
 ghost use Rattle.mm_query.specs.Queries.{bag_of};
 ghost use Rattle.mm_standing.specs.State.{AreServed, FitNow, FitPrepared, count_at, count_now};
@@ -23,7 +24,7 @@ use std::alloc::{AllocError, Global};
 /// The types of the two columns of each table.
 pub const TYPES: &[ColType] = &[ColType::Int, ColType::Int];
 
-/// Two tables of two columns with no rows. With `indexed` the numbers of the first have a HASH index.
+/// Returns two tables of two columns without rows. If `indexed`, the numbers of the first have a HASH index.
 pub fn tables(alloc: Global, indexed: bool) -> Result<Store, Refusal>
     ensures two { IfOk result (λ store. length store.tables ≡ 2) }
     ensures plain { IfOk result ArePlain }
@@ -39,7 +40,7 @@ pub fn tables(alloc: Global, indexed: bool) -> Result<Store, Refusal>
     Ok(store)
 }
 
-/// Adds a HASH index on the second column of the first of two tables.
+/// Appends a HASH index on the second column of the first of two tables.
 fn add_index(alloc: Global, store: &mut Store) -> Result<(), AllocError>
     requires two { length store.old.tables ≡ 2 }
     requires plain { ArePlain store.old }
@@ -54,7 +55,7 @@ fn add_index(alloc: Global, store: &mut Store) -> Result<(), AllocError>
     Ok(())
 }
 
-/// Stages the row of a key and a number. `AllocError` where memory is refused; then there is no such row.
+/// Stages the row of a key and a number. Fails with `AllocError` if an allocation fails; then no row is staged.
 fn stage(
     alloc: Global,
     store: &mut Store,
@@ -72,7 +73,7 @@ fn stage(
     Ok(store.stage(table, &mut values))
 }
 
-/// The addition of the row of a key and a number, which is staged.
+/// Returns the edit that inserts the row of a key and a number, which is staged.
 fn addition(
     alloc: Global,
     store: &mut Store,
@@ -88,7 +89,7 @@ fn addition(
     Ok(Edit::Insert(stage(alloc, store, table, key, number)?))
 }
 
-/// The removal of the row of a key. `NoTargetRow` where no row of the table has it.
+/// Returns the edit that deletes the row of a key. Fails with `NoTargetRow` if no row of the table has the key.
 fn removal(store: &Store, table: usize, key: i64) -> Result<Edit, Refusal>
     requires there { table < length store.now.tables }
     ensures fit { IfOk result (λ edit. AreFitAt store.now table (edit ∷ [])) }
@@ -99,7 +100,7 @@ fn removal(store: &Store, table: usize, key: i64) -> Result<Edit, Refusal>
     }
 }
 
-/// The edit that puts another number into the row of a key: the row with it is staged. `NoTargetRow` where no row of the table has
+/// Returns the edit that changes the number of the row of a key; the new row is staged. Fails with `NoTargetRow` if no row of the table has
 /// the key.
 fn replacement(
     alloc: Global,
@@ -124,7 +125,7 @@ fn replacement(
     }
 }
 
-/// Whether the row of a reference has a key.
+/// Returns whether the row of a reference has a key.
 fn has_key(store: &Store, table: usize, at: RowRef, key: i64) -> bool
     requires there { table < length store.now.tables }
     requires live { IsLiveAt store.now table at }
@@ -136,7 +137,7 @@ fn has_key(store: &Store, table: usize, at: RowRef, key: i64) -> bool
     }
 }
 
-/// The reference of the row of a key, found by a walk along the keys.
+/// Returns the reference of the row of a key, found by a walk along the keys.
 fn at_key(store: &Store, table: usize, key: i64) -> Option<RowRef>
     requires { table < length store.now.tables }
     ensures { IfSome result (IsLiveAt store.now table) }
@@ -150,7 +151,7 @@ fn at_key(store: &Store, table: usize, key: i64) -> Option<RowRef>
     None
 }
 
-/// Adds the row of a key and a number to a table, or changes nothing of rows and lists.
+/// Inserts the row of a key and a number into a table, or changes no row and no list.
 pub fn add(
     alloc: Global,
     store: &mut Store,
@@ -168,7 +169,7 @@ pub fn add(
     make_edit(alloc, store, standing, table, edit)
 }
 
-/// Removes the row of a key from a table, or changes nothing of rows and lists.
+/// Deletes the row of a key from a table, or changes no row and no list.
 pub fn remove(
     alloc: Global,
     store: &mut Store,
@@ -185,7 +186,7 @@ pub fn remove(
     make_edit(alloc, store, standing, table, edit)
 }
 
-/// Puts another number into the row of a key, or changes nothing of rows and lists.
+/// Changes the number of the row of a key, or changes no row and no list.
 pub fn renumber(
     alloc: Global,
     store: &mut Store,
@@ -203,7 +204,7 @@ pub fn renumber(
     make_edit(alloc, store, standing, table, edit)
 }
 
-/// Makes an edit of a table, and of each list what it changes of it, or neither.
+/// Makes an edit of a table and the changes of the lists, or neither.
 fn make_edit(
     alloc: Global,
     store: &mut Store,
@@ -220,7 +221,7 @@ fn make_edit(
     let edits = [edit];
     let prepared = prepare(alloc, store, standing, table, &edits);
     let mark = store.mark();
-    // The refusal of the rows comes before that of the lists.
+    // The refusal of the rows takes precedence over that of the lists.
     if let Err(refusal) = store.make(alloc, table, &edits).and(prepared) {
         store.revert(mark);
         standing.discard();
@@ -230,8 +231,8 @@ fn make_edit(
     Ok(())
 }
 
-/// Makes ready what the addition of a row changes of the lists, and drops it. Where that is refused nothing is ready, so that nothing
-/// comes of making what is.
+/// Prepares the changes of the lists for the insert of a row, and drops them. If this is refused, nothing is prepared, so applying what is
+/// prepared has no effect.
 pub fn prepare_and_drop(
     alloc: Global,
     store: &mut Store,
@@ -249,7 +250,8 @@ pub fn prepare_and_drop(
     drop_prepared(alloc, store, standing, table, edit)
 }
 
-/// Makes ready what an edit of a table changes of the lists, and drops it. Where that is refused, what is ready is made, which is nothing.
+/// Prepares the changes of the lists for an edit of a table, and drops them. If this is refused, applies what is prepared, which is
+/// nothing.
 fn drop_prepared(
     alloc: Global,
     store: &Store,
@@ -279,7 +281,7 @@ fn drop_prepared(
     Ok(())
 }
 
-/// Makes ready what edits of a table change of the lists.
+/// Prepares the changes of the lists for edits of a table.
 fn prepare(
     alloc: Global,
     store: &Store,
@@ -296,7 +298,8 @@ fn prepare(
     requires ready { standing.old.prepared ≡ [] }
     ensures ok { OnOk result (FitPrepared (rows_edited store.now table edits.now) standing.new) }
     ensures err { OnErr result (standing.new.prepared ≡ []) }
-    ensures entries { map (λ (bag : Counts). bag.entries) standing.new.bags ≡ map (λ (bag : Counts). bag.entries) standing.old.bags }
+    ensures counts { (list : ℕ) (row : List Val)
+        → count_in row (entries_at standing.new.bags list) ≡ count_in row (entries_at standing.old.bags list) }
     ensures queries { standing.new.queries ≡ standing.old.queries }
     ensures log { standing.new.log ≡ standing.old.log }
 {
@@ -305,7 +308,7 @@ fn prepare(
     standing.prepare(alloc, &mut view, &changes)
 }
 
-/// By how much the count of each row of a query changes with the addition of a row to a table, which is not made.
+/// Returns the changes of the counts of a query's rows by the insert of a row into a table, which is not made.
 pub fn changes_of_addition(
     alloc: Global,
     store: &mut Store,
@@ -327,7 +330,7 @@ pub fn changes_of_addition(
     changes_of(alloc, store, query, tables, table, &[edit])
 }
 
-/// By how much the count of each row of a query changes with edits of a table.
+/// Returns the changes of the counts of a query's rows by edits of a table.
 fn changes_of(
     alloc: Global,
     store: &Store,
@@ -347,7 +350,7 @@ fn changes_of(
     delta(alloc, &mut view, query, tables, &changes)
 }
 
-/// Takes back what was changed since a mark.
+/// Undoes the changes since a mark.
 pub fn go_back(store: &mut Store, standing: &mut Standing, commands: usize, changes: usize)
     requires case { IsCase store.old standing.old }
     requires mark { IsMark store.old standing.old commands changes }
@@ -358,7 +361,7 @@ pub fn go_back(store: &mut Store, standing: &mut Standing, commands: usize, chan
     standing.revert(changes);
 }
 
-/// Makes what was changed final.
+/// Commits the changes.
 pub fn settle(store: &mut Store, standing: &mut Standing)
     requires case { IsCase store.old standing.old }
     ensures case { IsCase store.new standing.new }
@@ -372,8 +375,8 @@ pub fn settle(store: &mut Store, standing: &mut Standing)
     let _now = store.mark();
 }
 
-/// Keeps a standing query, which comes last, with the rows that it gives over the tables of a store. They are those that it gives
-/// over the tables of the case. All its fields are of whole numbers, as all columns are.
+/// Appends a standing query with its rows over the tables of `source`. Requires that its rows over the tables of `store` are the same. All
+/// its fields are of integers, as all columns are.
 pub fn watch(
     alloc: Global,
     store: &Store,
@@ -401,7 +404,7 @@ pub fn watch(
     Ok(())
 }
 
-/// Whether the first of two tables has no rows.
+/// Returns whether the first of two tables has no rows.
 pub fn is_first_empty(store: &Store) -> bool
     requires { length store.now.tables ≡ 2 }
     ensures { result ≡ true → rows_at store.now.tables 0 ≡ [] }
@@ -409,14 +412,14 @@ pub fn is_first_empty(store: &Store) -> bool
     store.view().len_of(0) == 0
 }
 
-/// Whether each of the places is 0 or 1.
+/// Returns whether each of the places is 0 or 1.
 pub fn are_there(tables: &[usize]) -> bool
     ensures { result ≡ true → All (λ table. table < 2) tables.now }
 {
     tables.iter().all(|table| *table < 2)
 }
 
-/// Whether no atom of a query adds a number to a value.
+/// Returns whether no atom of a query adds a number to a value.
 pub fn is_unshifted(query: &BoundQuery) -> bool
     ensures { result ≡ is_unshifted query.now }
 {
@@ -427,7 +430,7 @@ pub fn is_unshifted(query: &BoundQuery) -> bool
         .all(|atom| adds_none(&atom.right))
 }
 
-/// Whether an operand adds no number to a value.
+/// Returns whether an operand adds no number to a value.
 fn adds_none(operand: &Operand<FieldPlace>) -> bool
     ensures { result ≡ adds_none operand.now }
 {

@@ -1,4 +1,4 @@
--- What the tests do to plain tables leaves them plain.
+-- The changes of the tests leave plain tables plain.
 use Rattle.std.proofs.Common.{◌≡◌, ℕ, ◌<◌, ◌≤◌, ◌⊎◌, inl, inr, List, Some, None, length, slice_get, get_or, sym, ap, ◌∙◌, subst, arith}
 use Rattle.std.proofs.lemmas.List.{length-set}
 use Rattle.std.proofs.lemmas.List.Elements.{All-get_or, All-same, All-set}
@@ -21,24 +21,24 @@ in_case items place within (inr (past, none)) = absurd (omega (arith, within, pa
 pub at_place : (view : Tables) (place : ℕ) → place < length view.tables → (stored : StoredRows) × IsAt view place stored
 at_place view place within = in_case view.tables place within (slice_get_cases view.tables place).1
 
--- each of them is plain
+-- each table is plain
 pub plain_at : (view : Tables) (place : ℕ) → ArePlain view → (stored : StoredRows) → IsAt view place stored → IsPlain stored
 plain_at view place plain stored at = subst IsPlain (get_or_from_slice_get view.tables place stored stored at)
     (All-get_or IsPlain view.tables place stored (slice_get_within view.tables place stored at) plain)
 
--- with a plain table in the place of one they are plain, and as many
+-- after one table is replaced by a plain one, all are plain, and as many
 pub still_plain : (old new : Tables) (place : ℕ) (x : StoredRows) → ArePlain old → Turns old place x new → IsPlain x → ArePlain new
 still_plain old new place x plain turned fits = All-same IsPlain new.tables _ turned (All-set IsPlain old.tables place x fits plain)
 
 pub as_many : (old new : Tables) (place : ℕ) (x : StoredRows) → Turns old place x new → length new.tables ≡ length old.tables
 as_many old new place x turned = ap (λ (ts : List StoredRows). length ts) turned ∙ length-set old.tables place x
 
--- what keeps the forms of all tables leaves them plain
+-- a change that keeps the forms of all tables leaves them plain
 pub plain_formed : (old new : Tables) → EachTurns SameForm old.tables new.tables → ArePlain old → ArePlain new
 plain_formed old new forms plain =
     All-turned SameForm IsPlain IsPlain old.tables new.tables forms (λ x y is same. record { types = same.types ∙ is.types }) plain
 
--- and a further index
+-- so does one more index
 pub plain_indexed : (old new : Tables) (place column : ℕ) (kind : IndexKind) → place < length old.tables → ArePlain old
     → ((stored : StoredRows) → IsAt old place stored → (x : StoredRows) × Turns old place x new × (x ≡ record stored { indexes = x.indexes })
     × AddsIndex column kind stored.indexes x.indexes)

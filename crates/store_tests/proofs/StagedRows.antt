@@ -1,4 +1,4 @@
--- Rows that are staged, and the edits that bring them.
+-- Staged rows, and the edits that bring them into use.
 use Rattle.std.proofs.Common.{◌≡◌, ◌≢◌, ℕ, ◌+◌, ◌*◌, ◌<◌, ◌≤◌, true, List, [], ◌∷◌, Some, None, get_or, length, refl, sym, ap, ◌∙◌, subst, arith}
 use Rattle.std.proofs.lemmas.List.Elements.{All-cons, All-nil}
 use Rattle.mm_indexed.specs.Kept.{StoredRows}
@@ -36,18 +36,18 @@ fewer_rows rows fewer table store few can = record {
 
 -- ---- edits
 
--- No edits may be made.
+-- An empty list of edits may be made.
 pub none_ready : (store : Tables) (table : ℕ) → AreReadyAt store table []
 none_ready store table stored at = record {
   fits = All-nil (Fits stored.key (slot_at stored.places));
   apart = λ i j d before within. absurd (omega arith);
 }
 
--- An edit that replaces no row has none that others would have to leave.
+-- An edit that replaces no row has no old row that others would have to leave.
 pub none_replaced : (e : Edit) (es : List Edit) → old_slot e ≡ None → (at : RowRef) → old_slot e ≡ Some at → LeaveRow es at
 none_replaced e es none at is = let both : None ≡ Some at = sym none ∙ is in absurd (let no : ⊥ = cc in no)
 
--- The edit of a row that was staged may be made ..
+-- The edit of a staged row may be made ..
 pub first_ready : (table : ℕ) (old new : Tables) (e : Edit) → Brings table e old new → AreReadyAt new table (e ∷ [])
 first_ready table old new e more = more.ready [] (none_ready old table) (λ at is. All-nil (λ (f : Edit). old_slot f ≢ Some at))
 
@@ -68,7 +68,7 @@ names_none es r leave k d within at is same = leave k d within (is ∙ ap (λ (a
 -- ---- rows of a table were staged
 
 module _ (table : ℕ) (old new : Tables) (within : table < length old.tables) (staged : HasStaged table old new) where
-  -- the table as it is now was another one before
+  -- each new table was a table before
   was : (now : StoredRows) → IsAt new table now → (stored : StoredRows) × IsAt old table stored × KeepsSlots stored now
   was now here =
       let there = at_place old table within in
@@ -93,7 +93,7 @@ module _ (table : ℕ) (old new : Tables) (within : table < length old.tables) (
       let is = staged.kept there.0 there.1 in
       still_plain old new table is.0 plain is.1 (record { types = is.2.types ∙ (plain_at old table plain there.0 there.1).types })
 
-  -- what could be undone can be undone
+  -- a log that could be undone can be undone
   pub mark_staged : (mark : ℕ) → IsMark old mark → IsMark new mark
   mark_staged mark is = (staged.marks mark is.within).kept is
 
@@ -104,7 +104,7 @@ module _ (table : ℕ) (old new : Tables) (within : table < length old.tables) (
       let row = live before.0 before.1 in
       (row.0, before.2.taken at (ap holds_row row.1) ∙ row.1)
 
-  -- an edit brings what was staged
+  -- an edit brings the staged row into use
   pub brings : (e : Edit) → ((now : StoredRows) → IsAt new table now → Fits now.key (slot_at now.places) e)
       → ((at : RowRef) → new_slot e ≡ Some at → (stored : StoredRows) → IsAt old table stored → slot_at stored.places at ≡ Free)
       → ((at : RowRef) → old_slot e ≡ Some at → IsLiveAt old table at) → ((rows : ℕ) → CanStage (rows + 1) table old → CanStage rows table new)

@@ -16,11 +16,12 @@ IsLiveAt store table at = (stored : StoredRows) → IsAt store table stored → 
 abbrev pub AreReadyAt : Tables → ℕ → List Edit → Type 0
 AreReadyAt store table edits = (stored : StoredRows) → IsAt store table stored → AreReady stored edits
 
--- None of the edits takes the row of this reference away, or replaces it.
+-- None of the edits deletes or replaces the row of this reference.
 abbrev pub LeaveRow : List Edit → RowRef → Type 0
 LeaveRow edits at = All (λ e. old_slot e ≢ Some at) edits
 
--- A row was staged, and the edit brings it. Edits that were ready are so together with this one, if they leave the row that it replaces.
+-- A row was staged, and the edit brings it into use. Edits that were ready remain ready together with this one, if they leave the row that
+-- it replaces.
 pub record Brings (table : ℕ) (edit : Edit) (old new : Tables) : Type 0 where
   pub staged : HasStaged table old new
   pub room : (rows : ℕ) → CanStage (rows + 1) table old → CanStage rows table new

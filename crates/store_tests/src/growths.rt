@@ -1,9 +1,9 @@
-//! Each growth of memory that a call asks for is refused in turn: then what the call could have changed is as before, and the
-//! call given again answers as it should.
+//! Each allocation of a call fails in turn. Then everything that the call could have changed is as before, and the call succeeds when it is
+//! repeated.
 //!
-//! A run refuses one growth, or that one and those behind it until a line is written, since some calls ask once more. Where it is in
-//! front of the call or behind it a test ends there: other runs refuse those of the call.
-//! A call that only hands its arguments on is tested with the one that does so.
+//! One allocation fails in each run, or it and all later ones until a line is written, since some calls try again. If it is before or after
+//! the call, the test ends, since other runs fail those of the call. A call that only passes its arguments on is tested with the call that
+//! does so.
 mod changes;
 mod definitions;
 mod reads;
@@ -11,7 +11,7 @@ mod shows;
 
 use std::io;
 
-/// Tells that a call was refused memory and is given again. A run that refuses growths looks for the line.
+/// Writes that an allocation of a call failed and the call is repeated. A run with failed allocations looks for this line.
 pub fn asked_again(rt: &impl Print) -> io::Result<()> {
     rt.println("refused")
 }

@@ -1,6 +1,6 @@
-//! Tests of the store: of what no contract says.
+//! Tests of the store, for what no contract states.
 //!
-//! They are in a crate of their own, since a crate with tests is proved twice. Tests of the crates above stage rows by the same calls.
+//! The tests have a crate of their own, since a crate with tests is proved twice. Tests of the crates above stage rows by the same calls.
 #![tactic(auto)]
 
 #[cfg(test)]

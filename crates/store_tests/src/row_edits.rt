@@ -1,4 +1,4 @@
-//! Rows of tables whose two columns are whole numbers, a key and a value: they are staged, and edits bring them.
+//! Rows of tables whose two columns are integers, a key and a value: staged rows and their edits.
 ghost use Rattle.std.specs.Prelude.{◌≡◌, ℕ, ◌+◌, ◌<◌, ◌∷◌, [], IfOk, None, Some, length};
 ghost use Rattle.mm_indexed.specs.Kept.{StoredRows};
 ghost use Rattle.mm_store.specs.Edits.{old_slot};
@@ -45,7 +45,8 @@ fn insertion(store: &mut Store, table: usize, key: i64, value: i64) -> Edit
     Edit::Insert(stage(store, table, key, value))
 }
 
-/// Stages a row of a key and a value, for which there is capacity, and returns the edit that replaces a row in use by it. Allocates nothing.
+/// Stages a row of a key and a value, for which there is capacity, and returns the edit that replaces a row in use by it.
+/// Allocates nothing.
 pub fn replacement(store: &mut Store, table: usize, at: RowRef, key: i64, value: i64) -> Edit
     requires there { table < length store.old.tables }
     requires plain { ArePlain store.old }

@@ -1,4 +1,5 @@
-//! What no clause says: that ample memory is never refused. And two tables with real rows, of which one may refer to the other.
+//! Tests for what no clause states: that ample memory is never refused. Also two tables with real rows, one of which may refer to the
+//! other.
 ghost use Rattle.std.specs.Prelude.{◌≡◌, ℕ, ◌<◌, ◌≤◌, [], ◌∷◌, length, All, Contains, IfOk, IfSome, OnOk};
 ghost use Rattle.mm_base.specs.Columns.{IsFrom};
 ghost use Rattle.mm_indexed.specs.Kept.{StoredRows};
@@ -25,7 +26,7 @@ use std::test::Fail;
 /// The types of the two columns of each table.
 pub const TYPES: &[ColType] = &[ColType::Int, ColType::Int];
 
-/// Adds an index on the second column of a table.
+/// Appends an index on the second column of a table.
 pub fn add_index(
     store: &mut Store,
     alloc: Global,
@@ -43,8 +44,8 @@ pub fn add_index(
     Ok(())
 }
 
-/// Adds two tables of two columns each to none, with a TREE and a HASH index on the second column of both, and these references
-/// from the second table.
+/// Appends two tables of two columns each to none, with a TREE and a HASH index on the second column of both, and these references from the
+/// second table.
 fn add_both(store: &mut Store, alloc: Global, references: &[Reference]) -> Result<(), AllocError>
     requires none { store.old.tables ≡ [] }
     requires links { store.old.links ≡ [] }
@@ -63,8 +64,8 @@ fn add_both(store: &mut Store, alloc: Global, references: &[Reference]) -> Resul
     add_index(store, alloc, 1, IndexKind::Hash)
 }
 
-/// Two tables of two columns each, with no rows, a TREE and a HASH index on the second column of both, and these references from
-/// the second table.
+/// Returns two tables of two columns each, without rows, with a TREE and a HASH index on the second column of both, and these references
+/// from the second table.
 fn sample(alloc: Global, references: &[Reference]) -> Result<Store, AllocError>
     requires { All (IsFrom 1 2) references.now }
     ensures two { IfOk result (λ store. length store.tables ≡ 2) }
@@ -77,7 +78,7 @@ fn sample(alloc: Global, references: &[Reference]) -> Result<Store, AllocError>
     Ok(store)
 }
 
-/// The same where memory is refused once at most.
+/// Returns the tables of `sample`. Tries again once if an allocation fails.
 fn sample_again(alloc: Global, references: &[Reference]) -> Result<Store, AllocError>
     requires { All (IsFrom 1 2) references.now }
     ensures two { IfOk result (λ store. length store.tables ≡ 2) }
@@ -91,7 +92,7 @@ fn sample_again(alloc: Global, references: &[Reference]) -> Result<Store, AllocE
     }
 }
 
-/// The rows of keys, each with its last decimal digit as its value.
+/// Returns rows with these keys, each with its last decimal digit as its value.
 fn rows_of(alloc: Global, keys: &[i64]) -> Result<Vec<(i64, i64)>, AllocError> {
     let mut rows = Vec::with_capacity(alloc, keys.len())?;
     for key in keys {
@@ -100,7 +101,7 @@ fn rows_of(alloc: Global, keys: &[i64]) -> Result<Vec<(i64, i64)>, AllocError> {
     Ok(rows)
 }
 
-/// The whole number that a row has in a column, if it has one there.
+/// Returns the integer of a row in a column, if it has one there.
 pub fn number_of(row: RowView<'_>, column: usize) -> Option<i64> {
     match row.get(column) {
         Some(ValueRef::Int(number)) => Some(number),
@@ -108,7 +109,7 @@ pub fn number_of(row: RowView<'_>, column: usize) -> Option<i64> {
     }
 }
 
-/// The same of the row of a reference.
+/// Returns the integer of the row of a reference in a column, if it has one there.
 fn number_at(store: &Store, table: usize, at: RowRef, column: usize) -> Option<i64>
     requires there { table < length store.now.tables }
     requires live { (stored : StoredRows) → IsAt store.now table stored → IsLive stored.places at }
@@ -117,7 +118,7 @@ fn number_at(store: &Store, table: usize, at: RowRef, column: usize) -> Option<i
     number_of(view.row(table, at), column)
 }
 
-/// The reference of the row of a key, found by a walk along the keys.
+/// Returns the reference of the row with a key, found by a walk along the keys.
 pub fn at_key(store: &Store, table: usize, key: i64) -> Option<RowRef>
     requires { table < length store.now.tables }
     ensures { IfSome result (λ at. (stored : StoredRows) → IsAt store.now table stored → IsLive stored.places at) }
@@ -131,23 +132,23 @@ pub fn at_key(store: &Store, table: usize, key: i64) -> Option<RowRef>
     None
 }
 
-/// A change of one row, or the addition of rows.
+/// A change of rows of a table.
 #[derive(Clone, Copy)]
 pub enum Step<'a> {
-    /// A row for each key.
+    /// Inserts a row for each key.
     Put(&'a [i64]),
-    /// The row of a key gets another second value.
+    /// Changes the value of the row with a key.
     Turn(i64, i64),
-    /// The row of a key goes.
+    /// Deletes the row with a key.
     Remove(i64),
-    /// The rows of two keys exchange them.
+    /// Exchanges the keys of two rows.
     Exchange(i64, i64),
 }
 
-/// A step in a table, and whether it is made.
+/// A step in a table, and whether it must succeed.
 type Trial<'a> = (usize, Step<'a>, bool);
 
-/// Stages a row of a key and a value, and returns the edits by which it replaces the row of the key, none where there is no such row.
+/// Stages a row with a key and a value, and returns the edits that replace the row with the key by it, or `None` if there is no such row.
 fn turn(
     store: &mut Store,
     alloc: Global,
@@ -168,7 +169,7 @@ fn turn(
     Ok(Some(vec![in alloc; edit]?))
 }
 
-/// Stages rows, and returns the edits by which the rows of two keys exchange them, none where there are no two such rows.
+/// Stages rows, and returns the edits that exchange the keys of two rows, or `None` unless both rows exist.
 fn exchange(
     store: &mut Store,
     alloc: Global,
@@ -196,7 +197,7 @@ fn exchange(
     Ok(Some(vec![in alloc; of_first, of_second]?))
 }
 
-/// Stages the rows of a step in a table, and returns its edits, none where there is no row of the key.
+/// Stages the rows of a step in a table, and returns its edits, or `None` if there is no row with the key.
 fn edits_of(
     store: &mut Store,
     alloc: Global,
@@ -225,8 +226,8 @@ fn edits_of(
     }
 }
 
-/// Stages the rows of a step in a table and makes its edits, and says that it did, unless there is no row of the key. If the step is
-/// refused, some of the rows may stay staged.
+/// Stages the rows of a step in a table and makes its edits, and returns whether it did: false if there is no row with the key. If the step
+/// is refused, some of the rows may stay staged.
 fn make_edits(store: &mut Store, alloc: Global, table: usize, step: Step) -> Result<bool, Refusal>
     requires there { table < length store.old.tables }
     requires plain { ArePlain store.old }
@@ -242,8 +243,8 @@ fn make_edits(store: &mut Store, alloc: Global, table: usize, step: Step) -> Res
     Ok(true)
 }
 
-/// Makes a step in a table, and says that it did, unless there is no row of the key. If the step is refused, what was staged for it is
-/// undone.
+/// Makes a step in a table, and returns whether it did: false if there is no row with the key. If the step is refused, the rows that were
+/// staged for it are undone.
 fn apply(store: &mut Store, alloc: Global, table: usize, step: Step) -> Result<bool, Refusal>
     requires there { table < length store.old.tables }
     requires plain { ArePlain store.old }
@@ -262,7 +263,7 @@ fn apply(store: &mut Store, alloc: Global, table: usize, step: Step) -> Result<b
     }
 }
 
-/// Makes a step in a table, and says that it did, unless there is no row of the key or the step is refused.
+/// Makes a step in a table, and returns whether it did: false if there is no row with the key or the step is refused.
 fn try_step(store: &mut Store, alloc: Global, table: usize, step: Step) -> Result<bool, AllocError>
     requires there { table < length store.old.tables }
     requires plain { ArePlain store.old }
@@ -278,7 +279,7 @@ fn try_step(store: &mut Store, alloc: Global, table: usize, step: Step) -> Resul
     }
 }
 
-/// The same where memory is refused once at most.
+/// Makes a step in a table as `try_step` does. Tries again once if an allocation fails.
 fn make_step(store: &mut Store, alloc: Global, table: usize, one: Step) -> Result<bool, AllocError>
     requires there { table < length store.old.tables }
     requires plain { ArePlain store.old }
@@ -293,7 +294,7 @@ fn make_step(store: &mut Store, alloc: Global, table: usize, one: Step) -> Resul
     }
 }
 
-/// Adds a row for each key to a table for good, and says that it did, unless that is refused.
+/// Inserts a row for each key into a table and commits, and returns whether it did: false if that is refused.
 pub fn put(store: &mut Store, alloc: Global, table: usize, keys: &[i64]) -> Result<bool, AllocError>
     requires there { table < length store.old.tables }
     requires plain { ArePlain store.old }
@@ -307,7 +308,7 @@ pub fn put(store: &mut Store, alloc: Global, table: usize, keys: &[i64]) -> Resu
     Ok(done)
 }
 
-/// Whether a table has a row of a key.
+/// Returns whether a table has a row with a key.
 fn has_key(store: &Store, table: usize, key: i64) -> bool
     requires { table < length store.now.tables }
 {
@@ -321,7 +322,7 @@ fn starts_empty(rt: HostRuntime) -> Result<(), Fail> {
     Ok(())
 }
 
-/// Adds rows to two tables, and says which are taken. A key is taken in its own table alone.
+/// Inserts rows into two tables, and returns which are accepted. A key is taken only in its own table.
 fn put_apart(store: &mut Store, alloc: Global) -> Result<[bool; 4], AllocError>
     requires two { length store.old.tables ≡ 2 }
     requires plain { ArePlain store.old }
@@ -337,7 +338,7 @@ fn put_apart(store: &mut Store, alloc: Global) -> Result<[bool; 4], AllocError>
     ])
 }
 
-/// Drops the first of two tables. The second moves up, with its rows.
+/// Drops the first of two tables. The second moves forward, with its rows.
 fn drop_first(rt: &impl Abort, store: &mut Store)
     requires two { length store.old.tables ≡ 2 }
     requires none { store.old.links ≡ [] }
@@ -352,7 +353,7 @@ fn drop_first(rt: &impl Abort, store: &mut Store)
     );
 }
 
-/// How many rows each of two tables has.
+/// Returns the numbers of rows of two tables.
 fn lengths(store: &Store) -> [usize; 2]
     requires { length store.now.tables ≡ 2 }
 {
@@ -360,7 +361,7 @@ fn lengths(store: &Store) -> [usize; 2]
     [view.len_of(0), view.len_of(1)]
 }
 
-/// Adds rows to two tables, and drops the first.
+/// Inserts rows into two tables, and drops the first.
 fn keep_apart(rt: &(impl Abort + AllocGlobal), store: &mut Store) -> Result<(), Fail>
     requires two { length store.old.tables ≡ 2 }
     requires none { store.old.links ≡ [] }
@@ -380,14 +381,14 @@ fn keeps_tables_apart(rt: HostRuntime) -> Result<(), Fail> {
     keep_apart(&rt, &mut store)
 }
 
-/// The second column of the second table refers to the first.
+/// The second column of the second table refers to the first table.
 const LAST_DIGIT: Reference = Reference {
     from: 1,
     column: 1,
     to: 0,
 };
 
-/// What stands in the second column beside a key, and none where no row has the key.
+/// Returns the value of the row with a key, or `None` if no row has the key.
 pub fn value_at(store: &Store, table: usize, key: i64) -> Option<i64>
     requires { table < length store.now.tables }
 {
@@ -395,7 +396,7 @@ pub fn value_at(store: &Store, table: usize, key: i64) -> Option<i64>
     number_at(store, table, at, 1)
 }
 
-/// The row that the row of a key of the second table refers to.
+/// Returns the row that the row with a key of the second table refers to.
 fn target_of(store: &Store, key: i64) -> Option<RowRef>
     requires two { length store.now.tables ≡ 2 }
     requires link { Contains store.now.links (record { from = 1; column = 1; to = 0 }) }
@@ -404,7 +405,7 @@ fn target_of(store: &Store, key: i64) -> Option<RowRef>
     Some(store.view().follow(1, 1, at))
 }
 
-/// How many rows of a table have a value in the second column, by its TREE index.
+/// Returns the number of rows of a table that have a value in the second column, by its TREE index.
 fn count_by_tree(
     store: &Store,
     alloc: Global,
@@ -423,7 +424,7 @@ fn count_by_tree(
     Ok(found.len())
 }
 
-/// The same by its HASH index.
+/// Returns the number of rows of a table that have a value in the second column, by its HASH index.
 fn count_by_hash(
     store: &Store,
     alloc: Global,
@@ -442,7 +443,7 @@ fn count_by_hash(
     Ok(found.len())
 }
 
-/// How many rows of a table have a value in a column, by the first index on the column, if it has one.
+/// Returns the number of rows of a table that have a value in a column, by the first index on the column, if it has one.
 fn count_by_first(
     store: &Store,
     alloc: Global,
@@ -461,7 +462,7 @@ fn count_by_first(
     Ok(Some(found.len()))
 }
 
-/// How many keys of a table lie between two, these included.
+/// Returns the number of keys of a table between two, both included.
 fn count_between(
     store: &Store,
     alloc: Global,
@@ -485,7 +486,7 @@ fn count_between(
     Ok(found.len())
 }
 
-/// How many rows a table has, and the one that a walk along its keys meets first.
+/// Returns the number of rows of a table, and the first row of a walk along its keys.
 fn count_and_first(store: &Store, table: usize) -> (usize, Option<RowRef>)
     requires { table < length store.now.tables }
 {
@@ -494,7 +495,7 @@ fn count_and_first(store: &Store, table: usize) -> (usize, Option<RowRef>)
     (view.len_of(table), walk.next())
 }
 
-/// The rows of a key in two tables, what stands beside the key, and the row to which that of the second table refers.
+/// The rows with a key in two tables, the value of each, and the row that the one of the second table refers to.
 #[derive(PartialEq, Clone, Copy)]
 struct AtKey {
     first: Option<RowRef>,
@@ -515,7 +516,7 @@ fn look_at_key(store: &Store, key: i64) -> AtKey
     }
 }
 
-/// What two tables show of each key below 30, and how many rows of the second have each digit, by its TREE and its HASH index.
+/// The contents of two tables for each key below 30, and how many rows of the second have each digit, by its TREE and its HASH index.
 #[derive(PartialEq, Drop)]
 struct Shown {
     rows: Vec<AtKey>,
@@ -538,7 +539,7 @@ fn try_look(store: &Store, alloc: Global) -> Result<Shown, AllocError>
     Ok(Shown { rows, counts })
 }
 
-/// Two tables of which the second refers to the first, and a mark to which they can be reverted.
+/// Two tables, the second of which refers to the first, and a mark to which they can be reverted.
 #[derive(Drop)]
 pub struct Case {
     pub store: Store,
@@ -557,7 +558,7 @@ impl Model for Case {
 }
 
 impl Case {
-    /// Rows of these keys in the two tables.
+    /// Returns a case with rows with these keys in the two tables.
     pub fn new(alloc: Global, first: &[i64], second: &[i64]) -> Result<Case, AllocError> {
         let mut store = sample_again(alloc, &[LAST_DIGIT])?;
         put(&mut store, alloc, 0, first)?;
@@ -566,7 +567,7 @@ impl Case {
         Ok(Case { store, mark })
     }
 
-    /// Makes a step in a table, and says that it did, unless there is no such table or the step is refused.
+    /// Makes a step in a table, and returns whether it did: false if there is no such table or the step is refused.
     pub fn step(&mut self, alloc: Global, table: usize, step: Step) -> Result<bool, AllocError> {
         if table >= self.store.len() {
             return Ok(false);
@@ -574,13 +575,13 @@ impl Case {
         make_step(&mut self.store, alloc, table, step)
     }
 
-    /// Makes a step of the second table, and says that it did, unless there is no row of the key. If the step is refused, what was staged
-    /// for it is undone.
+    /// Makes a step of the second table, and returns whether it did: false if there is no row with the key. If the step is refused, the
+    /// rows that were staged for it are undone.
     pub fn apply(&mut self, alloc: Global, step: Step) -> Result<bool, Refusal> {
         apply(&mut self.store, alloc, 1, step)
     }
 
-    /// Tries steps one after the other, each in a table, and says whether just those were made that are told to be.
+    /// Tries steps one after another, each in a table, and returns whether exactly those succeed that must.
     fn goes_as(&mut self, alloc: Global, trials: &[Trial]) -> Result<bool, AllocError> {
         let mut all = true;
         for (table, step, made) in trials {
@@ -589,7 +590,7 @@ impl Case {
         Ok(all)
     }
 
-    /// The same, and then whether all is as it was once they are undone.
+    /// Tries steps as `goes_as` does and undoes them, and returns whether also everything is then as before.
     fn comes_back(&mut self, alloc: Global, trials: &[Trial]) -> Result<bool, AllocError> {
         let shown = self.look(alloc)?;
         self.set_mark();
@@ -598,7 +599,8 @@ impl Case {
         Ok(told && self.shows(alloc, &shown)?)
     }
 
-    /// Tries steps of a transaction and then more of them, undoes these and then those, and says whether all is as it was each time.
+    /// Tries steps of a transaction and then more of them, undoes the latter and then the former, and returns whether everything is as
+    /// before each time.
     fn comes_back_twice(
         &mut self,
         alloc: Global,
@@ -611,13 +613,13 @@ impl Case {
         Ok(told && self.shows(alloc, &shown)?)
     }
 
-    /// Sets the mark, and returns the number of records that the log has.
+    /// Sets the mark, and returns the length of the log.
     pub fn set_mark(&mut self) -> usize {
         self.mark = self.store.mark();
         self.mark
     }
 
-    /// Undoes what was made since the mark.
+    /// Undoes the changes since the mark.
     pub fn go_back(&mut self) {
         self.store.revert(self.mark);
     }
@@ -634,22 +636,22 @@ impl Case {
         self.mark = self.store.mark();
     }
 
-    /// The row of a key of the first table.
+    /// Returns the row with a key of the first table.
     pub fn first(&self, key: i64) -> Option<RowRef> {
         at_key(&self.store, 0, key)
     }
 
-    /// The row of a key of the second table.
+    /// Returns the row with a key of the second table.
     pub fn second(&self, key: i64) -> Option<RowRef> {
         at_key(&self.store, 1, key)
     }
 
-    /// The row to which that of a key of the second table refers.
+    /// Returns the row that the one with a key of the second table refers to.
     pub fn target(&self, key: i64) -> Option<RowRef> {
         target_of(&self.store, key)
     }
 
-    /// Whether references of the second table are those of the rows of these keys, in this order.
+    /// Returns whether references of the second table are those of the rows with these keys, in this order.
     pub fn are_of(&self, refs: &[RowRef], keys: &[i64]) -> bool {
         for (at, key) in refs.iter().zip(keys) {
             if self.second(*key) != Some(*at) {
@@ -659,13 +661,13 @@ impl Case {
         refs.len() == keys.len()
     }
 
-    /// Whether the row of a key of the second table refers to that of a key of the first, and both are there.
+    /// Returns whether the row with a key of the second table refers to that with a key of the first, and both exist.
     fn refers(&self, key: i64, to: i64) -> bool {
         let target = self.target(key);
         target.is_some() && target == self.first(to)
     }
 
-    /// What the tables show.
+    /// Returns the contents of the tables.
     fn look(&self, alloc: Global) -> Result<Shown, AllocError> {
         match try_look(&self.store, alloc) {
             Ok(shown) => Ok(shown),
@@ -673,19 +675,19 @@ impl Case {
         }
     }
 
-    /// How many rows of the second table have a value in a column, by the first index on the column, if it has one.
+    /// Returns the number of rows of the second table that have a value in a column, by the first index on the column, if it has one.
     fn count(&self, alloc: Global, column: usize, value: i64) -> Result<Option<usize>, AllocError> {
         count_by_first(&self.store, alloc, 1, column, value)
     }
 
-    /// Whether the tables show what they showed.
+    /// Returns whether the tables have the same contents as before.
     fn shows(&self, alloc: Global, shown: &Shown) -> Result<bool, AllocError> {
         let now = self.look(alloc)?;
         Ok(now == *shown)
     }
 
-    /// Adds a row for each key below a number, which all refer to the row of key 0, each by a command of its own, and then lets
-    /// all refer to that of key 1.
+    /// Inserts a row for each key below a number, each by a command of its own. All of them refer first to the row with key 0, and then to
+    /// that with key 1.
     fn turn_many(&mut self, alloc: Global, count: u32) -> Result<bool, AllocError> {
         let mut all = true;
         for n in 0..count {
@@ -696,7 +698,7 @@ impl Case {
         Ok(all)
     }
 
-    /// The same, and then whether all is as it was once they are undone.
+    /// Makes the changes of `turn_many` and undoes them, and returns whether everything is then as before.
     fn many_come_back(&mut self, alloc: Global, count: u32) -> Result<bool, AllocError> {
         let shown = self.look(alloc)?;
         let all = self.turn_many(alloc, count)?;
@@ -711,7 +713,7 @@ const REFERRING: [Trial; 2] = [
     (1, Step::Put(&[13, 23]), true),
 ];
 
-/// A target stays until the last of its rows goes.
+/// A target stays until the last row that refers to it is deleted.
 const LEAVING: [Trial; 5] = [
     (0, Step::Remove(3), false),
     (1, Step::Remove(13), true),
@@ -720,7 +722,7 @@ const LEAVING: [Trial; 5] = [
     (0, Step::Remove(3), true),
 ];
 
-/// Adds rows that refer to others, and takes both out.
+/// Inserts rows that refer to others, and deletes both.
 fn keep_targets(rt: &(impl Abort + AllocGlobal), case: &mut Case) -> Result<(), Fail> {
     let alloc = rt.alloc();
     assert_that(rt, case.goes_as(alloc, &REFERRING)?);
@@ -735,7 +737,7 @@ fn keeps_targets_of_references(rt: HostRuntime) -> Result<(), Fail> {
     keep_targets(&rt, &mut case)
 }
 
-/// Columns, values, and how many rows have the value in the column, none where the column has no index.
+/// Columns, values, and the number of rows with the value in the column, `None` if the column has no index.
 const COUNTS: [(usize, i64, Option<usize>); 4] = [
     (0, 22, Some(1)),
     (0, 23, Some(0)),
@@ -743,7 +745,7 @@ const COUNTS: [(usize, i64, Option<usize>); 4] = [
     (2, 2, None),
 ];
 
-/// Counts the rows of the second table that have a value in a column, those between two keys, and all, and finds the first.
+/// Counts the rows of the second table with a value in a column, those between two keys, and all, and finds the first.
 fn look_up(rt: &(impl Abort + AllocGlobal), case: &Case) -> Result<(), Fail> {
     let alloc = rt.alloc();
     for (column, value, count) in &COUNTS {
@@ -763,7 +765,7 @@ fn looks_values_up(rt: HostRuntime) -> Result<(), Fail> {
 /// A new target, and a row that refers to it.
 const FIRST_STEPS: [Trial; 2] = [(0, Step::Put(&[4]), true), (1, Step::Turn(11, 4), true)];
 
-/// The row of key 1 is referred to no more, that of key 2 once its last referrer has gone.
+/// The row with key 1 is no longer referred to, that with key 2 once its last referrer is deleted.
 const MORE_STEPS: [Trial; 7] = [
     (0, Step::Remove(1), true),
     (0, Step::Remove(2), false),
@@ -774,7 +776,7 @@ const MORE_STEPS: [Trial; 7] = [
     (1, Step::Turn(23, 5), false),
 ];
 
-/// Makes steps and more of them, and takes all back.
+/// Makes steps and more of them, and undoes all.
 fn go_back_twice(rt: &(impl Abort + AllocGlobal), case: &mut Case) -> Result<(), Fail> {
     assert_that(
         rt,
@@ -790,7 +792,7 @@ fn goes_back_to_marks(rt: HostRuntime) -> Result<(), Fail> {
     go_back_twice(&rt, &mut case)
 }
 
-/// Makes steps, takes them back, makes them again for good, and looks at a target.
+/// Makes steps, undoes them, makes and commits them again, and checks a target.
 fn make_again(rt: &(impl Abort + AllocGlobal), case: &mut Case) -> Result<(), Fail> {
     let alloc = rt.alloc();
     assert_that(rt, case.comes_back(alloc, &FIRST_STEPS)?);
@@ -806,15 +808,15 @@ fn makes_again_what_was_taken_back(rt: HostRuntime) -> Result<(), Fail> {
     make_again(&rt, &mut case)
 }
 
-/// A row goes, and another comes behind it.
+/// A row is deleted, and another is inserted after it.
 const REPLACING: [Trial; 2] = [(1, Step::Remove(12), true), (1, Step::Put(&[22]), true)];
 
-/// Takes a row out, adds one behind it, and one more once that is final.
+/// Deletes a row, inserts one after it, and one more after the commit.
 fn give_out_again(rt: &(impl Abort + AllocGlobal), case: &mut Case) -> Result<(), Fail> {
     let alloc = rt.alloc();
     let place = case.second(12);
 
-    // The place of a hidden row is not given out until the command is final.
+    // The slot of a hidden row is not reused before the commit.
     assert_that(rt, case.goes_as(alloc, &REPLACING)?);
     assert_that(rt, case.second(22) != place);
     case.finish();
@@ -832,7 +834,7 @@ fn gives_places_out_again(rt: HostRuntime) -> Result<(), Fail> {
 /// No row refers to the targets any more.
 const FREED: [Trial; 2] = [(0, Step::Remove(0), true), (0, Step::Remove(1), true)];
 
-/// Makes many changes and takes them back, and takes the targets out.
+/// Makes many changes and undoes them, and deletes the targets.
 fn take_many_back(rt: &(impl Abort + AllocGlobal), case: &mut Case) -> Result<(), Fail> {
     let alloc = rt.alloc();
     assert_that(rt, case.many_come_back(alloc, 2000)?);
@@ -846,7 +848,7 @@ fn takes_many_changes_back(rt: HostRuntime) -> Result<(), Fail> {
     take_many_back(&rt, &mut case)
 }
 
-/// The rows of two keys exchange them, of which one comes and goes in the same transaction.
+/// Pairs of rows exchange their keys. One of the rows is inserted in the same transaction.
 const EXCHANGES: [Trial; 4] = [
     (1, Step::Exchange(13, 21), true),
     (1, Step::Put(&[32]), true),
@@ -854,10 +856,10 @@ const EXCHANGES: [Trial; 4] = [
     (1, Step::Exchange(21, 32), true),
 ];
 
-/// What stands beside the keys then: each row kept its own value.
+/// The values then: each row kept its own.
 const EXCHANGED: [(i64, Option<i64>); 3] = [(13, Some(2)), (21, Some(1)), (32, Some(3))];
 
-/// Exchanges keys, undoes that, and does it again.
+/// Exchanges keys, undoes this, and exchanges them again.
 fn exchange_keys(rt: &(impl Abort + AllocGlobal), case: &mut Case) -> Result<(), Fail> {
     let alloc = rt.alloc();
     assert_that(rt, case.comes_back(alloc, &EXCHANGES)?);
@@ -878,7 +880,7 @@ fn exchanges_keys_of_rows(rt: HostRuntime) -> Result<(), Fail> {
     exchange_keys(&rt, &mut case)
 }
 
-/// Two new rows of one key, a new row with the key of an old one, no row, and a row of a new key.
+/// Two new rows with one key, a new row with the key of an old one, no row, and a row with a new key.
 const DUPLICATES: [Trial; 4] = [
     (1, Step::Put(&[31, 23, 31]), false),
     (1, Step::Put(&[31, 21]), false),
@@ -886,7 +888,7 @@ const DUPLICATES: [Trial; 4] = [
     (1, Step::Put(&[31]), true),
 ];
 
-/// Adds rows of which two would have one key, and others.
+/// Inserts rows two of which would have one key, and others.
 fn refuse_duplicates(rt: &(impl Abort + AllocGlobal), case: &mut Case) -> Result<(), Fail> {
     assert_that(rt, case.goes_as(rt.alloc(), &DUPLICATES)?);
     assert_same(rt, lengths(&case.store), [3, 3]);
@@ -899,7 +901,7 @@ fn refuses_duplicates(rt: HostRuntime) -> Result<(), Fail> {
     refuse_duplicates(&rt, &mut case)
 }
 
-/// A thousand keys in an order that looks random: the multiples of 619 modulo the prime 1,009 go round all numbers.
+/// Returns a thousand keys in an order that looks random: the multiples of 619 modulo the prime 1,009 cover all numbers.
 fn shuffled_keys(alloc: Global) -> Result<Vec<i64>, AllocError> {
     let mut keys = Vec::new(alloc);
     for k in 0..1000u32 {
@@ -908,7 +910,7 @@ fn shuffled_keys(alloc: Global) -> Result<Vec<i64>, AllocError> {
     Ok(keys)
 }
 
-/// Adds a thousand rows by one command, and deletes each by a command of its own.
+/// Inserts a thousand rows by one command, and deletes each by a command of its own.
 fn come_and_go(rt: &(impl Abort + AllocGlobal), case: &mut Case) -> Result<(), Fail> {
     let alloc = rt.alloc();
     let keys = shuffled_keys(alloc)?;

@@ -1,4 +1,4 @@
-//! What a view tells of a table: its key and its indexes, the prefixes of its columns, and walks and ranges along its trees.
+//! The results of a view of a table: its key and its indexes, the prefixes of its columns, and walks and ranges along its trees.
 ghost use Rattle.std.specs.Prelude.{◌<◌, length};
 
 use crate::assertions::{assert_same, assert_that};
@@ -9,12 +9,12 @@ use std::alloc::{AllocError, Global};
 use std::process::Abort;
 use std::test::Fail;
 
-/// Targets, and rows that refer to them: of the keys 12, 13, 22 and 31, with the values 2, 3, 2 and 1.
+/// Returns a case with targets, and rows that refer to them: with the keys 12, 13, 22 and 31 and the values 2, 3, 2 and 1.
 fn case(alloc: Global) -> Result<Case, AllocError> {
     Case::new(alloc, &[1, 2, 3], &[12, 13, 22, 31])
 }
 
-/// Looks at the key of the second table, and at the indexes on its columns and on one that it does not have.
+/// Asserts the key of the second table, and the indexes on its columns and on one that it does not have.
 fn has_its_indexes(rt: &impl Abort, store: &Store)
     requires { 1 < length store.now.tables }
 {
@@ -35,8 +35,8 @@ fn tells_the_indexes_of_columns(rt: HostRuntime) -> Result<(), Fail> {
     Ok(())
 }
 
-/// The prefixes of what the row of a key of the second table has in its first three columns, `None` if the view returns none, and
-/// the number of reads that are counted for them.
+/// Returns the prefixes of the row with a key of the second table in its first three columns, `None` for each that the view does not
+/// return, and the number of reads counted for them.
 fn prefixes_at(store: &Store, key: i64) -> Option<([Option<u64>; 3], u64)>
     requires { 1 < length store.now.tables }
 {
@@ -50,13 +50,13 @@ fn prefixes_at(store: &Store, key: i64) -> Option<([Option<u64>; 3], u64)>
     Some((prefixes, view.reads()))
 }
 
-/// The prefix of a whole number.
+/// Returns the prefix of an integer.
 fn prefix(number: i64) -> Option<u64> {
     Some(order_prefix(&Value::Int(number)))
 }
 
-/// Compares the prefixes of a row: the view returns those of both columns, since these have numbers, and counts two reads. There is
-/// no third column.
+/// Asserts the prefixes of a row: the view returns those of both columns, since these have numbers, and counts two reads. There is no third
+/// column.
 fn has_prefixes(rt: &impl Abort, store: &Store)
     requires { 1 < length store.now.tables }
 {
@@ -72,7 +72,7 @@ fn counts_the_prefixes_that_it_gives(rt: HostRuntime) -> Result<(), Fail> {
     Ok(())
 }
 
-/// The references of the rows of the second table along the tree on a column, none where it has no tree.
+/// Returns the references of the rows of the second table along the tree on a column; none if it has no tree.
 fn along(store: &Store, alloc: Global, column: usize) -> Result<Vec<RowRef>, AllocError>
     requires { 1 < length store.now.tables }
 {
@@ -83,7 +83,7 @@ fn along(store: &Store, alloc: Global, column: usize) -> Result<Vec<RowRef>, All
     }
 }
 
-/// Goes along the trees of the second table.
+/// Asserts the walks along the trees of the second table.
 fn goes_along_trees(rt: &(impl Abort + AllocGlobal), case: &Case) -> Result<(), Fail> {
     let by_key = along(&case.store, rt.alloc(), 0)?;
     assert_that(rt, case.are_of(by_key.as_slice(), &[12, 13, 22, 31]));
@@ -98,7 +98,7 @@ fn walks_along_trees(rt: HostRuntime) -> Result<(), Fail> {
     goes_along_trees(&rt, &case)
 }
 
-/// The end of a range at a number, if there is one.
+/// Returns the end of a range at a number, if there is one.
 fn end_at<'v>(number: Option<i64>) -> Option<ValueRef<'v>> {
     match number {
         Some(number) => Some(ValueRef::Int(number)),
@@ -106,7 +106,7 @@ fn end_at<'v>(number: Option<i64>) -> Option<ValueRef<'v>> {
     }
 }
 
-/// The references of the rows of the second table between two ends along the tree on a column, none where it has no tree.
+/// Returns the references of the rows of the second table between two ends along the tree on a column; none if it has no tree.
 fn between(
     store: &Store,
     alloc: Global,
@@ -125,10 +125,10 @@ fn between(
     Ok(found)
 }
 
-/// Two ends of a range along the tree on a column, and the keys of the rows between them.
+/// The column of a tree, two ends of a range along it, and the keys of the rows between them.
 type Range<'a> = (usize, Option<i64>, Option<i64>, &'a [i64]);
 
-/// The ends are included, and one that is not given leaves its side open.
+/// The ends are included, and a missing one leaves its side open.
 const RANGES: [Range; 5] = [
     (0, Some(13), Some(22), &[13, 22]),
     (0, Some(23), None, &[31]),
@@ -152,7 +152,7 @@ fn finds_ranges_along_trees(rt: HostRuntime) -> Result<(), Fail> {
     finds_ranges(&rt, &case)
 }
 
-/// How many rows are counted before, and after a look at the row of a key of the second table.
+/// Returns the number of rows counted before and after reading the row with a key of the second table.
 fn counted_at(store: &Store, key: i64) -> Option<[u64; 2]>
     requires { 1 < length store.now.tables }
 {
@@ -163,7 +163,7 @@ fn counted_at(store: &Store, key: i64) -> Option<[u64; 2]>
     Some([before, view.reads()])
 }
 
-/// Looks at a row.
+/// Reads a row, and asserts that it is counted.
 fn counts_a_row(rt: &impl Abort, store: &Store)
     requires { 1 < length store.now.tables }
 {

@@ -1,4 +1,4 @@
--- What other rows refer to, where the target of one row changed.
+-- The targets of other rows after the target of one row changed.
 use Rattle.std.proofs.Common.{◌≡◌, ◌≢◌, Option, ap, ◌∙◌}
 use Rattle.mm_value.specs.declared.row_ref.RowRef.{RowRef}
 use Rattle.mm_foreign_key.specs.Ties.{Ties, target_at, ChangesTarget}

@@ -1,4 +1,4 @@
--- The order that most tests go by.
+-- The order of most tests.
 use Rattle.std.specs.Prelude.{List}
 use Rattle.std.specs.Ordering.{nat_cmp}
 use Rattle.std.specs.declared.cmp.Ordering.{Ordering}
@@ -9,6 +9,6 @@ use Rattle.mm_order.specs.Order.{IsOrdered}
 abbrev pub by_place : RowRef → RowRef → Ordering
 by_place a b = nat_cmp a.slot b.slot
 
--- The references of a list rise by their places.
+-- The references of a list are in ascending order of their slots.
 abbrev pub IsByPlace : List RowRef → Type 0
 IsByPlace refs = IsOrdered (λ _. Unit {0}) by_place refs

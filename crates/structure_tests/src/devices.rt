@@ -1,4 +1,4 @@
-//! Readers and writers that fail, take little or are interrupted.
+//! Readers and writers that fail, accept few bytes or are interrupted.
 use crate::assertions::{assert_same, assert_that};
 use mm_value::{Watched, put_all};
 use std::alloc::Global;
@@ -7,7 +7,7 @@ use std::io::{Read, Write};
 use std::process::Abort;
 use std::test::Fail;
 
-// Takes up to 3 bytes a call and 4 in all, and then answers an error, or takes 0 where it is `silent`.
+// Accepts up to 3 bytes per call and 4 in all, and then fails, or accepts 0 bytes if `silent`.
 #[derive(Drop)]
 struct Narrow {
     taken: Vec<u8>,
@@ -39,7 +39,7 @@ fn narrow_device(alloc: Global, is_silent: bool) -> Narrow {
     }
 }
 
-/// Asserts that a device that fails has taken the front of what it was given.
+/// Asserts that a failing device accepted a prefix of the bytes passed to it.
 fn assert_takes_a_front(rt: &impl Abort, device: &mut Narrow) {
     let mut writer = Watched::new(device);
     assert_that(rt, put_all(&mut writer, b"abcdefgh").is_err());
@@ -78,7 +78,7 @@ fn readers_are_watched(rt: HostRuntime) -> Result<(), Fail> {
     Ok(())
 }
 
-// Takes two bytes a call, after `times` interruptions in a row.
+// Accepts two bytes per call, after `times` interruptions in a row.
 #[derive(Drop)]
 struct Hesitant {
     taken: Vec<u8>,

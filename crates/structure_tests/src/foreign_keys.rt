@@ -10,7 +10,7 @@ use std::alloc::Global;
 use std::process::Abort;
 use std::test::Fail;
 
-/// Makes a key grow, whose memory may be refused once.
+/// Reserves capacity in a foreign key. Tries again once if an allocation fails.
 fn grow(alloc: Global, key: &mut ForeignKey, referrers: usize, targets: usize) -> Result<(), Fail>
     ensures referrers { OnOk result (referrers ≤ length key.new.targets) }
     ensures extent { OnOk result (targets ≤ key.new.extent) }
@@ -22,7 +22,7 @@ fn grow(alloc: Global, key: &mut ForeignKey, referrers: usize, targets: usize) -
     Ok(())
 }
 
-/// A key with entries for this many rows of either table, of which none refers to any.
+/// Returns a foreign key with entries for these numbers of rows of both tables, none of which refers to a row.
 fn key_of(alloc: Global, referrers: usize, targets: usize) -> Result<ForeignKey, Fail>
     ensures referrers { IfOk result (λ key. referrers ≤ length key.targets) }
     ensures extent { IfOk result (λ key. targets ≤ key.extent) }
@@ -33,7 +33,7 @@ fn key_of(alloc: Global, referrers: usize, targets: usize) -> Result<ForeignKey,
     Ok(key)
 }
 
-/// Ties the first row to one that lies behind, and unties it.
+/// Ties the first row to a later one, and unties it.
 fn tie_and_untie(rt: &impl Abort, key: &mut ForeignKey)
     requires referrers { 1 ≤ length key.old.targets }
     requires extent { 200 ≤ key.old.extent }
@@ -61,7 +61,7 @@ fn follows_a_reference(rt: HostRuntime) -> Result<(), Fail> {
     Ok(())
 }
 
-/// Ties three rows and unties them, the last to tie it to another row.
+/// Ties three rows and unties them, and ties the last one to another row.
 fn untie_in_turn(rt: &impl Abort, key: &mut ForeignKey)
     requires referrers { 100 ≤ length key.old.targets }
     requires extent { 2 ≤ key.old.extent }
@@ -83,7 +83,7 @@ fn untie_in_turn(rt: &impl Abort, key: &mut ForeignKey)
     assert_that(rt, key.is_referred(beside));
     assert_same(rt, key.target(three), Some(beside));
 
-    // A row may refer to another one later, and be referred to again.
+    // A row may refer to another row later, and be referred to again.
     key.untie(three);
     key.tie(three, to);
     assert_that(rt, key.is_referred(to));
@@ -97,7 +97,7 @@ fn a_row_is_referred_to_until_the_last_referrer_goes(rt: HostRuntime) -> Result<
     Ok(())
 }
 
-/// Ties a row, makes the key grow, and ties a row behind.
+/// Ties a row, reserves capacity, and ties a later row.
 fn tie_and_grow(rt: &(impl Abort + AllocGlobal), key: &mut ForeignKey) -> Result<(), Fail>
     requires referrers { 1 ≤ length key.old.targets }
     requires extent { 1 ≤ key.old.extent }
@@ -123,7 +123,7 @@ fn keeps_references_when_it_grows(rt: HostRuntime) -> Result<(), Fail> {
     tie_and_grow(&rt, &mut key)
 }
 
-/// Asserts that a key of 64 rows of either table knows none past them, and takes no more than 2^32 - 1.
+/// Asserts that a foreign key for 64 rows of both tables has no ties past them, and that at most 2^32 - 1 entries can be reserved.
 fn ask_past_its_entries(rt: &(impl Abort + AllocGlobal), key: &mut ForeignKey) {
     let alloc = rt.alloc();
     let past = RowRef { slot: u32::MAX };

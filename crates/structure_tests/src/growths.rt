@@ -1,7 +1,7 @@
-//! Calls whose growths of memory are refused, as `tests/refused_growths.py` does: in each run of a test one growth, or
-//! all from one to the line that tells of a refused call. Then the call has changed nothing, and is given again.
+//! Calls whose allocations fail, as `tests/refused_growths.py` lets them: in each run of a test one allocation, or all from one to the line
+//! that reports a failed call. Then the call has changed nothing, and is repeated.
 //!
-//! So whatever else may be refused before that line ends the test, as passed.
+//! Any other allocation that fails before that line ends the test, as passed.
 mod foreign_keys;
 mod hash_tables;
 mod orders;
@@ -12,7 +12,7 @@ mod values;
 
 use std::io;
 
-/// Tells on standard output that a tested call was refused. All that the rest of the run asks for is granted.
+/// Writes to standard output that a tested call failed. All later allocations of the run succeed.
 pub fn asked_again(rt: &impl Print) -> io::Result<()> {
     rt.println("refused")
 }

@@ -1,4 +1,4 @@
-//! Bags of references by hash.
+//! Multisets of references by hash.
 ghost use Rattle.mlhash.specs.Bag.{IsSmall};
 
 use crate::assertions::{assert_same, assert_that};
@@ -9,7 +9,7 @@ use std::alloc::{AllocError, Global};
 use std::process::Abort;
 use std::test::Fail;
 
-/// A reference to one of the first slots.
+/// Returns a reference to one of the first slots.
 pub fn slot(slot: u8) -> RowRef
     ensures { IsSmall result }
 {
@@ -18,7 +18,7 @@ pub fn slot(slot: u8) -> RowRef
     }
 }
 
-/// Inserts where there is room, and fails the test where there is none.
+/// Inserts a reference if there is capacity, and otherwise fails the test.
 fn insert(rt: &impl Abort, refs: &mut HashRefs, hash: u64, reference: RowRef)
     requires { IsSmall reference }
 {
@@ -26,24 +26,29 @@ fn insert(rt: &impl Abort, refs: &mut HashRefs, hash: u64, reference: RowRef)
     refs.insert(hash, reference);
 }
 
-/// A bag with two references of the hash 4 and one of the hash 8.
+/// Inserts two references of the hash 4 and one of the hash 8.
+fn insert_three(rt: &impl Abort, refs: &mut HashRefs) {
+    insert(rt, refs, 4, slot(1));
+    insert(rt, refs, 4, slot(2));
+    insert(rt, refs, 8, slot(3));
+}
+
+/// Returns a hash table with two references of the hash 4 and one of the hash 8.
 fn of_three(rt: &impl Abort, alloc: Global) -> Result<HashRefs, AllocError> {
     let mut refs = HashRefs::new(alloc);
     refs.reserve(alloc, 3)?;
-    insert(rt, &mut refs, 4, slot(1));
-    insert(rt, &mut refs, 4, slot(2));
-    insert(rt, &mut refs, 8, slot(3));
+    insert_three(rt, &mut refs);
     Ok(refs)
 }
 
-/// Whether a bag finds these references of a hash, in whatever order.
+/// Returns whether a hash table finds these references of a hash, in any order.
 fn finds(alloc: Global, refs: &HashRefs, hash: u64, wanted: &[RowRef]) -> Result<bool, AllocError> {
     let mut found = Vec::new(alloc);
     refs.matches(alloc, hash, &mut found)?;
     Ok(are(&found, wanted))
 }
 
-/// Whether a bag has these references and no more.
+/// Returns whether a hash table has exactly these references.
 fn has(alloc: Global, refs: &HashRefs, wanted: &[RowRef]) -> Result<bool, AllocError> {
     let mut found = Vec::new(alloc);
     refs.copy_all(alloc, &mut found)?;
@@ -65,7 +70,7 @@ fn finds_by_hash(rt: HostRuntime) -> Result<(), Fail> {
     find_three(&rt, &refs)
 }
 
-/// Takes one of the two references of the hash 4 out.
+/// Removes one of the two references of the hash 4.
 fn remove_one(rt: &(impl Abort + AllocGlobal), refs: &mut HashRefs) -> Result<(), Fail> {
     let alloc = rt.alloc();
     assert_that(rt, refs.remove(4, slot(1)));
@@ -82,13 +87,25 @@ fn removes_one_of_its_hash(rt: HostRuntime) -> Result<(), Fail> {
 }
 
 #[test]
+fn clears(rt: HostRuntime) -> Result<(), Fail> {
+    let mut refs = of_three(&rt, rt.alloc())?;
+    let room = refs.spare().wrapping_add(3);
+    refs.clear();
+    assert_same(&rt, (refs.len(), refs.spare()), (0, room));
+    assert_that(&rt, has(rt.alloc(), &refs, &[])?);
+    insert_three(&rt, &mut refs);
+    find_three(&rt, &refs)
+}
+
+#[test]
 fn an_empty_bag_has_no_room(rt: HostRuntime) -> Result<(), Fail> {
     let refs = HashRefs::new(rt.alloc());
     assert_same(&rt, (refs.len(), refs.spare()), (0, 0));
     Ok(())
 }
 
-/// Puts 20 references into a bag, five of each of the hashes below 4. Room for one may be refused once, which changes nothing.
+/// Inserts 20 references into a hash table, five of each of the hashes below 4. Tries again once if a reservation fails, which changes
+/// nothing.
 fn fill(rt: &impl Abort, alloc: Global, refs: &mut HashRefs) -> Result<(), AllocError> {
     for hash in 0..20u8 {
         if refs.reserve(alloc, 1).is_err() {
@@ -100,7 +117,7 @@ fn fill(rt: &impl Abort, alloc: Global, refs: &mut HashRefs) -> Result<(), Alloc
     Ok(())
 }
 
-/// Appends the references of each hash below 4, which may be refused once and then appends nothing.
+/// Appends the references of each hash below 4. Tries again once if an allocation fails; then nothing is appended.
 fn append_by_hash(
     rt: &impl Abort,
     alloc: Global,
@@ -118,7 +135,7 @@ fn append_by_hash(
     Ok(())
 }
 
-/// Appends all references, which may be refused once and then appends nothing.
+/// Appends all references. Tries again once if an allocation fails; then nothing is appended.
 fn append_all(
     rt: &impl Abort,
     alloc: Global,
@@ -133,7 +150,7 @@ fn append_all(
     Ok(())
 }
 
-/// Takes the references of `fill` out again.
+/// Removes the references of `fill`.
 fn drain(rt: &impl Abort, refs: &mut HashRefs) {
     for hash in 0..20u8 {
         let held = refs.remove(u64::from(hash % 4), slot(hash));
@@ -160,7 +177,7 @@ fn find_twice(rt: &impl Abort, alloc: Global, refs: &HashRefs) -> Result<(), All
     Ok(())
 }
 
-// Where the run refuses one allocation, the refused call has changed nothing, and the next one answers.
+// If one allocation of the run fails, the failed call has changed nothing, and the next one succeeds.
 #[test]
 fn a_refused_call_can_be_given_again(rt: HostRuntime) -> Result<(), Fail> {
     let alloc = rt.alloc();

@@ -1,6 +1,6 @@
-//! Tests of values, orders, partitions, foreign keys, T-trees and hash tables: of what no contract says.
+//! Tests of values, orders, partitions, foreign keys, T-trees and hash tables, for what no contract states.
 //!
-//! They stand apart from the crates that they test, since a crate with tests is proved twice.
+//! The tests have a crate of their own, since a crate with tests is proved twice.
 #![tactic(auto)]
 
 #[cfg(test)]

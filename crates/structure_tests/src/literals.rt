@@ -1,4 +1,4 @@
-//! Literals and what they are read as.
+//! Literals and their readings.
 use crate::assertions::{assert_same, assert_that};
 use crate::samples::{is_equal, text};
 use mm_value::{Refusal, Value, literals_are_exact, read_literal};
@@ -6,14 +6,14 @@ use std::alloc::Global;
 use std::process::Abort;
 use std::test::Fail;
 
-/// Asserts that bytes are read as a number.
+/// Asserts that the bytes of a literal read as a number.
 fn assert_number(rt: &(impl Abort + AllocGlobal), bytes: &[u8], want: i64) -> Result<(), Refusal> {
     let value = read_literal(rt.alloc(), bytes)?;
     assert!(rt; is_equal(&value, &Value::Int(want)), "{want}");
     Ok(())
 }
 
-/// Asserts that literals of numbers are read.
+/// Asserts the readings of numbers.
 fn assert_numbers(rt: &(impl Abort + AllocGlobal)) -> Result<(), Refusal> {
     for (bytes, want) in [
         (b"-00".as_slice(), 0i64),
@@ -42,7 +42,7 @@ fn literals_are_read(rt: HostRuntime) -> Result<(), Fail> {
     Ok(())
 }
 
-/// Whether bytes are read as the text of others.
+/// Returns whether bytes read as the text of other bytes.
 fn is_text_of(alloc: Global, bytes: &[u8], want: &[u8]) -> Result<bool, Refusal> {
     let value = read_literal(alloc, bytes)?;
     Ok(is_equal(&value, &text(alloc, want)?))
@@ -51,7 +51,7 @@ fn is_text_of(alloc: Global, bytes: &[u8], want: &[u8]) -> Result<bool, Refusal>
 /// Sixty-four letters in quotes.
 const LONGEST: &[u8] = b"'xxxxxxxxxxxxxxxxxxxxxxxxxxxxxxxxxxxxxxxxxxxxxxxxxxxxxxxxxxxxxxxx'";
 
-/// The same with one quote behind it, and with two.
+/// Sixty-four letters in quotes, followed by one quote, and by two.
 const ONE_QUOTE_BEHIND: &[u8] =
     b"'xxxxxxxxxxxxxxxxxxxxxxxxxxxxxxxxxxxxxxxxxxxxxxxxxxxxxxxxxxxxxxxx''";
 

@@ -1,4 +1,4 @@
-//! Ordered lists of references, and counted searches.
+//! Ordered lists of references, and searches that count their comparisons.
 ghost use Rattle.std.specs.Prelude.{◌≡◌, []};
 ghost use Rattle.structure_tests.specs.Orders.{IsByPlace};
 
@@ -23,7 +23,7 @@ pub fn append_all<R: OrderedRefs>(
     refs.copy_range(alloc, &ByPlace, &Anywhere, &Anywhere, out)
 }
 
-/// Appends those references of a list that lie in a partition.
+/// Appends the references of a list in a partition.
 pub fn append_part<R: OrderedRefs>(
     alloc: Global,
     refs: &R,
@@ -36,7 +36,7 @@ pub fn append_part<R: OrderedRefs>(
     refs.copy_range(alloc, &ByPlace, &probe, &probe, out)
 }
 
-/// Copies all references into an empty list, again where memory is refused; then the list is still empty.
+/// Appends copies of all references to an empty list, again if an allocation fails; then the list is still empty.
 fn copy_all(
     rt: &impl Abort,
     alloc: Global,
@@ -70,7 +70,7 @@ fn assert_up_to_17(rt: &impl Abort, alloc: Global, refs: &SortedRefs) -> Result<
     Ok(())
 }
 
-/// Puts the references 1 to 17 into an empty list.
+/// Inserts the references 1 to 17 into an empty list.
 fn put_17(rt: &impl Abort, alloc: Global, refs: &mut SortedRefs) -> Result<(), AllocError>
     requires { refs.old.refs ≡ [] }
     ensures { IsByPlace refs.new.refs }
@@ -82,7 +82,7 @@ fn put_17(rt: &impl Abort, alloc: Global, refs: &mut SortedRefs) -> Result<(), A
     Ok(())
 }
 
-/// Asserts that a list has the references 1 to 17 in order, and takes the last out.
+/// Asserts that a list has the references 1 to 17 in order, and removes the last one.
 fn take_last(rt: &impl Abort, alloc: Global, refs: &mut SortedRefs) -> Result<(), AllocError>
     requires { IsByPlace refs.old.refs }
 {
@@ -103,7 +103,7 @@ fn holds_references_in_order(rt: HostRuntime) -> Result<(), Fail> {
     Ok(())
 }
 
-/// Copies the references of a partition behind others, again where memory is refused; then the others are as before.
+/// Appends copies of the references of a partition to others, again if an allocation fails; then the others are as before.
 fn copy_part(
     rt: &impl Abort,
     alloc: Global,
@@ -121,7 +121,7 @@ fn copy_part(
     Ok(())
 }
 
-/// Copies the references of the first three partitions into an empty list, which are the references 3 and 70.
+/// Appends copies of the references of the first three partitions to an empty list: the references 3 and 70.
 fn copy_parts(
     rt: &impl Abort,
     alloc: Global,
@@ -137,7 +137,7 @@ fn copy_parts(
     Ok(())
 }
 
-/// Puts the references 3 and 70 into an empty list.
+/// Inserts the references 3 and 70 into an empty list.
 fn put_two(rt: &impl Abort, alloc: Global, refs: &mut SortedRefs) -> Result<(), AllocError>
     requires { refs.old.refs ≡ [] }
     ensures { IsByPlace refs.new.refs }

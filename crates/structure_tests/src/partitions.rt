@@ -1,4 +1,4 @@
-//! Rows in partitions, and what tells them apart by a column.
+//! Rows in partitions, and the sort keys of a column.
 ghost use Rattle.std.specs.Prelude.{◌≡◌, ◌≢◌, ◌≤◌, ◌+◌, ◌∷◌, [], List, IfOk, OnOk};
 ghost use Rattle.mm_value.specs.declared.col_type.ColType.TheVariants.{Int, Text as OfText};
 ghost use Rattle.mm_value.specs.declared.row_ref.RowRef.{RowRef};
@@ -12,7 +12,7 @@ use std::alloc::Global;
 use std::process::Abort;
 use std::test::Fail;
 
-/// Partitions of columns of these types, for which memory may be refused once.
+/// Returns partitions with columns of these types. Tries again once if an allocation fails.
 fn partitions_of(alloc: Global, types: &[ColType]) -> Result<Partitions, Fail>
     ensures { IfOk result (λ rows. rows.types ≡ types.now) }
 {
@@ -22,7 +22,7 @@ fn partitions_of(alloc: Global, types: &[ColType]) -> Result<Partitions, Fail>
     }
 }
 
-/// The row of this number, whose memory may be refused once.
+/// Returns the row of this number. Tries again once if an allocation fails.
 fn row_of(alloc: Global, number: i64) -> Result<Row, Fail>
     ensures { IfOk result (HasTypes (Int ∷ [])) }
 {
@@ -34,7 +34,7 @@ fn row_of(alloc: Global, number: i64) -> Result<Row, Fail>
     Ok(Row::new(values))
 }
 
-/// Makes room for rows, for which memory may be refused once.
+/// Reserves capacity for rows. Tries again once if an allocation fails.
 fn reserve(alloc: Global, rows: &mut Partitions, n: usize) -> Result<(), Fail>
     ensures room { OnOk result (n ≤ rows.new.room) }
     ensures rows { IsUnchanged rows.old rows.new }
@@ -46,7 +46,7 @@ fn reserve(alloc: Global, rows: &mut Partitions, n: usize) -> Result<(), Fail>
     Ok(())
 }
 
-/// Places the row of this number.
+/// Inserts the row of this number.
 fn place_row(alloc: Global, rows: &mut Partitions, number: i64) -> Result<RowRef, Fail>
     requires room { 1 ≤ rows.old.room }
     requires types { rows.old.types ≡ Int ∷ [] }
@@ -61,7 +61,7 @@ fn place_row(alloc: Global, rows: &mut Partitions, number: i64) -> Result<RowRef
     Ok(rows.place(row.into_values().as_mut_slice()))
 }
 
-/// The number in a row of one number.
+/// Returns the number in a row of one number.
 fn number_in(row: &impl AsRow) -> Option<i64> {
     if row.len() != 1 {
         return None;
@@ -84,7 +84,7 @@ fn hide_and_show(rt: &impl Abort, rows: &mut Partitions, at: RowRef)
     rows.release(at);
 }
 
-/// Places a row, replaces it, hides and shows it, and releases it.
+/// Inserts a row, replaces it, hides and shows it, and releases it.
 fn keep_a_row(rt: &(impl Abort + AllocGlobal), rows: &mut Partitions) -> Result<(), Fail>
     requires { rows.old.types ≡ Int ∷ [] }
 {
@@ -106,7 +106,7 @@ fn keeps_a_row_by_its_reference(rt: HostRuntime) -> Result<(), Fail> {
     keep_a_row(&rt, &mut rows)
 }
 
-/// Places the rows of 1 and 2 at two references.
+/// Inserts the rows of 1 and 2 at two references.
 fn place_two(
     rt: &(impl Abort + AllocGlobal),
     rows: &mut Partitions,
@@ -134,7 +134,7 @@ fn assert_two(rt: &impl Abort, rows: &Partitions, one: RowRef, two: RowRef)
     assert_same(rt, numbers, [Some(1), Some(2)]);
 }
 
-/// Places 200 rows behind those of 1 and 2, past the end of the first partition.
+/// Inserts 200 rows after those of 1 and 2, past the end of the first partition.
 fn place_behind(
     rt: &(impl Abort + AllocGlobal),
     rows: &mut Partitions,
@@ -174,7 +174,7 @@ fn free(rows: &mut Partitions, at: RowRef)
     rows.release(at);
 }
 
-/// Places two rows, frees their slots, and places two others.
+/// Inserts two rows, frees their slots, and inserts two others.
 fn free_two(rt: &(impl Abort + AllocGlobal), rows: &mut Partitions) -> Result<(), Fail>
     requires { rows.old.types ≡ Int ∷ [] }
 {
@@ -183,7 +183,7 @@ fn free_two(rt: &(impl Abort + AllocGlobal), rows: &mut Partitions) -> Result<()
     free(rows, one);
     free(rows, two);
 
-    // The last one freed comes first.
+    // The slot freed last is used first.
     assert_same(rt, place_row(alloc, rows, 3)?, two);
     assert_same(rt, place_row(alloc, rows, 4)?, one);
     Ok(())
@@ -195,7 +195,7 @@ fn gives_freed_slots_again_before_new_ones(rt: HostRuntime) -> Result<(), Fail> 
     free_two(&rt, &mut rows)
 }
 
-/// Places a row behind one that is hidden, and one more once that is released.
+/// Inserts a row after a hidden one, and one more after the hidden row was released.
 fn hide_one(rt: &(impl Abort + AllocGlobal), rows: &mut Partitions) -> Result<(), Fail>
     requires { rows.old.types ≡ Int ∷ [] }
 {
@@ -209,7 +209,7 @@ fn hide_one(rt: &(impl Abort + AllocGlobal), rows: &mut Partitions) -> Result<()
     rows.unhide(one);
     assert_two(rt, rows, one, two);
 
-    // Once it is released it is the next.
+    // The released slot is used next.
     free(rows, one);
     assert_same(rt, place_row(alloc, rows, 3)?, one);
     Ok(())
@@ -221,7 +221,7 @@ fn leaves_a_hidden_slot_alone(rt: HostRuntime) -> Result<(), Fail> {
     hide_one(&rt, &mut rows)
 }
 
-/// Places 130 rows.
+/// Inserts 130 rows.
 fn fill_partitions(rt: &(impl Abort + AllocGlobal), rows: &mut Partitions) -> Result<(), Fail>
     requires { rows.old.types ≡ Int ∷ [] }
 {
@@ -243,7 +243,7 @@ fn finds_each_row_of_several_partitions(rt: HostRuntime) -> Result<(), Fail> {
     fill_partitions(&rt, &mut rows)
 }
 
-/// The row of this number and this text, whose memory may be refused once.
+/// Returns the row of this number and this text. Tries again once if an allocation fails.
 fn row_with_text(alloc: Global, number: i64, text: &[u8]) -> Result<Row, Fail>
     ensures { IfOk result (HasTypes (Int ∷ OfText ∷ [])) }
 {
@@ -256,7 +256,7 @@ fn row_with_text(alloc: Global, number: i64, text: &[u8]) -> Result<Row, Fail>
     Ok(Row::new(values))
 }
 
-/// Tracks a column, for which memory may be refused once.
+/// Tracks a column. Tries again once if an allocation fails.
 fn track(alloc: Global, rows: &mut Partitions, column: usize) -> Result<(), Fail>
     ensures { rows.new ≡ rows.old }
 {
@@ -266,7 +266,7 @@ fn track(alloc: Global, rows: &mut Partitions, column: usize) -> Result<(), Fail
     Ok(())
 }
 
-/// The numbers of a column, if it has any.
+/// Returns the numbers of a column, if it has any.
 fn numbers_in(rows: &Partitions, column: usize) -> Option<&[i64]> {
     match rows.keys(column) {
         ColumnKeys::Numbers(numbers) => Some(numbers),
@@ -274,7 +274,7 @@ fn numbers_in(rows: &Partitions, column: usize) -> Option<&[i64]> {
     }
 }
 
-/// The prefixes of a column, if they are kept.
+/// Returns the prefixes of a column, if they are kept.
 fn prefixes_in(rows: &Partitions, column: usize) -> Option<&[u64]> {
     match rows.keys(column) {
         ColumnKeys::Prefixes(prefixes) => Some(prefixes),
@@ -282,12 +282,12 @@ fn prefixes_in(rows: &Partitions, column: usize) -> Option<&[u64]> {
     }
 }
 
-/// Whether nothing tells rows apart by a column.
+/// Returns whether neither numbers nor prefixes of a column are kept.
 fn has_no_keys(rows: &Partitions, column: usize) -> bool {
     matches!(rows.keys(column), ColumnKeys::None)
 }
 
-/// Places the row of this number and this text.
+/// Inserts the row of this number and this text.
 fn place_with_text(
     alloc: Global,
     rows: &mut Partitions,
@@ -305,7 +305,7 @@ fn place_with_text(
     Ok(rows.place(row.into_values().as_mut_slice()))
 }
 
-/// Tracks a column of texts, one row before and one behind.
+/// Tracks a column of texts, with one row inserted before and one after.
 fn track_texts(rt: &(impl Abort + AllocGlobal), rows: &mut Partitions) -> Result<(), Fail>
     requires { rows.old.types ≡ Int ∷ OfText ∷ [] }
 {
@@ -329,7 +329,7 @@ fn keeps_the_prefixes_of_tracked_texts(rt: HostRuntime) -> Result<(), Fail> {
     track_texts(&rt, &mut rows)
 }
 
-/// Replaces a row, and places one in the slot that it gives up.
+/// Replaces a row, and inserts one into the slot that it frees.
 fn overwrite(rt: &(impl Abort + AllocGlobal), rows: &mut Partitions) -> Result<(), Fail>
     requires { rows.old.types ≡ Int ∷ OfText ∷ [] }
 {
@@ -341,7 +341,7 @@ fn overwrite(rt: &(impl Abort + AllocGlobal), rows: &mut Partitions) -> Result<(
     assert_same(rt, prefixes_in(rows, 1), Some(&[0xb100000000000000u64]));
     assert_same(rt, numbers_in(rows, 0), Some(&[6i64]));
 
-    // The freed slot is given out again.
+    // The freed slot is reused.
     free(rows, one);
     place_with_text(alloc, rows, 7, b"")?;
     assert_same(rt, prefixes_in(rows, 1), Some(&[0x8000000000000000u64]));
@@ -367,7 +367,7 @@ fn track_and_untrack(rt: &(impl Abort + AllocGlobal), rows: &mut Partitions) -> 
         rows.untrack(column);
     }
     assert_that(rt, has_no_keys(rows, 1));
-    // The numbers of a column are there in any case, and no column is past the last one.
+    // The numbers of a column are kept in any case, and there is no column past the last one.
     assert_that(rt, numbers_in(rows, 0).is_some());
     assert_that(rt, has_no_keys(rows, 2));
     Ok(())
@@ -379,7 +379,7 @@ fn forgets_a_column_that_is_not_tracked_any_more(rt: HostRuntime) -> Result<(), 
     track_and_untrack(&rt, &mut rows)
 }
 
-/// Tracks a column of texts, and places 130 rows.
+/// Tracks a column of texts, and inserts 130 rows.
 fn track_and_fill(rt: &(impl Abort + AllocGlobal), rows: &mut Partitions) -> Result<(), Fail>
     requires { rows.old.types ≡ Int ∷ OfText ∷ [] }
 {

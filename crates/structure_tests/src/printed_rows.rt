@@ -15,14 +15,14 @@ fn push_four(alloc: Global, values: &mut Vec<Value>) -> Result<(), Refusal> {
     Ok(())
 }
 
-/// The row of two numbers and two texts with quotes.
+/// Returns the row of two numbers and two texts with quotes.
 fn row_of_four(alloc: Global) -> Result<Row, Refusal> {
     let mut values = Vec::new(alloc);
     push_four(alloc, &mut values)?;
     Ok(Row::new(values))
 }
 
-/// Asserts that a row is written as these bytes.
+/// Asserts the bytes of a row's text.
 fn assert_written(rt: &(impl Abort + AllocGlobal), row: &Row, want: &[u8]) {
     let mut out = Vec::new(rt.alloc());
     let mut writer = Watched::new(&mut out);
@@ -42,7 +42,7 @@ fn rows_are_written(rt: HostRuntime) -> Result<(), Fail> {
     Ok(())
 }
 
-/// Asserts that a name and a number are written from references to them, and that none are written as no values.
+/// Asserts the text of a name and a number that is written from references to them, and that no values have an empty text.
 fn assert_written_from_references(
     rt: &(impl Abort + AllocGlobal),
     name: &Value,

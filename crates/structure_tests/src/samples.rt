@@ -21,7 +21,7 @@ pub fn is_equal(a: &Value, b: &Value) -> bool {
     compare(a, b) == Ordering::Equal
 }
 
-/// References by their slots.
+/// The order of references by their slots.
 #[derive(Drop)]
 pub struct ByPlace;
 
@@ -37,7 +37,7 @@ impl RefOrder for ByPlace {
     }
 }
 
-/// The references of one partition.
+/// The probe for the references of one partition.
 #[derive(Drop)]
 pub struct InPartition(pub u32);
 
@@ -51,7 +51,7 @@ impl Probe for InPartition {
     }
 }
 
-/// The reference of a number.
+/// The probe for the reference of a number.
 #[derive(Drop)]
 pub struct At(pub u32);
 
@@ -65,7 +65,7 @@ impl Probe for At {
     }
 }
 
-/// Every reference.
+/// The probe for every reference.
 #[derive(Drop)]
 pub struct Anywhere;
 
@@ -79,7 +79,7 @@ impl Probe for Anywhere {
     }
 }
 
-/// Makes room for `n` more, for which memory may be refused once. A refused growth leaves the references.
+/// Reserves capacity for `n` more references. Tries again once if an allocation fails, which leaves the references unchanged.
 pub fn reserve<R: OrderedRefs>(
     rt: &impl Abort,
     refs: &mut R,

@@ -1,6 +1,6 @@
-//! The nodes of a T-tree: their turns, their entries, and the pool of free ones.
+//! The nodes of a T-tree: their rotations, their entries, and the pool of free nodes.
 ghost use Rattle.std.specs.Prelude.{◌≡◌, ◌^◌, ◌<◌, length, max, OnOk};
-ghost use Rattle.ttree_node.specs.Slide.{IsLeaf, child};
+ghost use Rattle.ttree_node.specs.Slide.{IsNextTo, child};
 ghost use Rattle.ttree_node.specs.Tree.{fork, height_of};
 
 use crate::assertions::{assert_same, assert_that};
@@ -10,7 +10,7 @@ use std::process::Abort;
 use std::test::Fail;
 use ttree_node::{Node, Side, Spares, Subtree};
 
-/// A pool of at least `n` nodes. A refused reservation leaves no fewer than before.
+/// Returns a pool of at least `n` nodes. A failed reservation leaves no fewer than before.
 fn reserve(rt: &impl Abort, alloc: Global, spares: &mut Spares, n: usize) -> Result<(), AllocError>
     ensures { OnOk result (spares.new ≡ max spares.old n) }
 {
@@ -23,7 +23,7 @@ fn reserve(rt: &impl Abort, alloc: Global, spares: &mut Spares, n: usize) -> Res
     Ok(())
 }
 
-/// Puts the entries 0 to 14 before those of a node.
+/// Inserts the entries 0 to 14 before those of a node.
 fn fill(rt: &impl Abort, node: &mut Subtree)
     ensures left { node.new.left ≡ node.old.left }
     ensures right { node.new.right ≡ node.old.right }
@@ -70,7 +70,7 @@ fn assert_four(rt: &impl Abort, alloc: Global, tree: &Subtree, root: u32) -> Res
     assert_numbers(rt, alloc, Some(tree.node()), &[1, 2, 3, 4])
 }
 
-/// Turns a tree of four of the free nodes to the left and back. It owns none of them where it may end early.
+/// Rotates a tree of four of the free nodes to the left and back. If the test may end early, it owns none of them.
 fn turn_four(rt: &impl Abort, alloc: Global, spares: &mut Spares) -> Result<(), AllocError>
     requires { spares.old ≡ 4 }
 {
@@ -98,9 +98,9 @@ fn rotations_keep_the_order(rt: HostRuntime) -> Result<(), Fail> {
     Ok(())
 }
 
-/// Fills a node and slides its entries to the leaf of 100 on a side.
+/// Fills a node and slides its entries to the child of 100 on a side.
 fn slide(rt: &impl Abort, alloc: Global, node: &mut Subtree, side: Side) -> Result<(), AllocError>
-    requires { IsLeaf (child side node.old) }
+    requires { IsNextTo side (child side node.old) }
 {
     fill(rt, node);
     node.slide(side);

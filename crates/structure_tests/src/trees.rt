@@ -1,4 +1,4 @@
-//! T-trees: which references they hold, how high they are, and where entries stand in the nodes.
+//! T-trees: their references, their height, and the places of entries in the nodes.
 ghost use Rattle.std.specs.Prelude.{◌≡◌, ◌≤◌, [], IfOk};
 ghost use Rattle.std.specs.Ordering.{nat_cmp};
 ghost use Rattle.structure_tests.specs.Orders.{IsByPlace};
@@ -16,8 +16,7 @@ use std::process::Abort;
 use std::test::Fail;
 use ttree::TTree;
 
-/// The reference of a number. It counts how often it is asked, and keeps the numbers of the first four references that it is asked
-/// about.
+/// The reference of a number. Counts the comparisons, and keeps the numbers of the first four references compared.
 #[derive(Drop)]
 struct Counting {
     number: u32,
@@ -52,7 +51,7 @@ fn counting_at(number: u32) -> Counting
     }
 }
 
-/// Takes the reference of 16 out of a tree of 17, in which it stands alone in a second node.
+/// Removes the reference of 16 from a tree of 17, where it is the only entry of a second node.
 fn empty_second_node(rt: &impl Abort, tree: &mut TTree)
     requires { IsByPlace tree.old.refs }
 {
@@ -64,7 +63,7 @@ fn empty_second_node(rt: &impl Abort, tree: &mut TTree)
     assert_same(rt, tree.spare(), 1);
 }
 
-/// Puts 17 references into an empty tree, and takes the last out again.
+/// Inserts 17 references into an empty tree, and removes the last one.
 fn fill_first_node(rt: &(impl Abort + AllocGlobal), tree: &mut TTree) -> Result<(), Fail>
     requires { tree.old.refs ≡ [] }
 {
@@ -84,7 +83,22 @@ fn height_follows_the_count(rt: HostRuntime) -> Result<(), Fail> {
     fill_first_node(&rt, &mut tree)
 }
 
-/// A tree of the references of the numbers below 2,000, of which the lower half was put in from the greatest to the least.
+/// Asserts that a tree without references has the nodes of 2,000.
+fn assert_cleared(rt: &impl Abort, tree: &TTree) {
+    assert_goes_over(rt, tree, &[]);
+    assert_same(rt, tree.height(), 0);
+    assert_that(rt, tree.spare() >= 600);
+}
+
+#[test]
+fn clears(rt: HostRuntime) -> Result<(), Fail> {
+    let mut tree = grown(&rt, rt.alloc())?;
+    tree.clear();
+    assert_cleared(&rt, &tree);
+    fill_first_node(&rt, &mut tree)
+}
+
+/// Returns a tree of the references of the numbers below 2,000, the lower half of which was inserted from the greatest to the least.
 fn grown(rt: &impl Abort, alloc: Global) -> Result<TTree, AllocError>
     ensures { IfOk result (λ tree. IsByPlace tree.refs) }
 {
@@ -100,7 +114,7 @@ fn grown(rt: &impl Abort, alloc: Global) -> Result<TTree, AllocError>
     Ok(tree)
 }
 
-/// Asserts that these are the references of so many numbers, in order from the first on.
+/// Asserts that these are the references of `count` numbers, in order from `first` on.
 fn assert_from(rt: &impl Abort, refs: &[RowRef], first: u32, count: usize) {
     assert_same(rt, refs.len(), count);
     for (i, held) in refs.iter().enumerate() {
@@ -108,7 +122,7 @@ fn assert_from(rt: &impl Abort, refs: &[RowRef], first: u32, count: usize) {
     }
 }
 
-/// Asserts that a tree has so many of the numbers up to the last, and that they are those from the first on.
+/// Asserts that a tree has `count` of the numbers up to `last`, and that they are those from `first` on.
 fn assert_up_to(
     rt: &impl Abort,
     alloc: Global,
@@ -125,7 +139,7 @@ fn assert_up_to(
     Ok(())
 }
 
-/// The reference of a number that a tree finds, if it finds one, and how many questions it asks.
+/// Returns the reference of a number that a tree finds, if it finds one, and the number of comparisons.
 fn found(tree: &TTree, number: u32) -> (Option<RowRef>, u64)
     requires { IsByPlace tree.now.refs }
 {
@@ -144,7 +158,7 @@ fn grows(rt: HostRuntime) -> Result<(), Fail> {
     Ok(())
 }
 
-/// Asserts that a tree is low enough for its 100 references, and finds them in few questions.
+/// Asserts that the height of a tree suits its 100 references, and that it finds them with few comparisons.
 fn assert_shrunk(rt: &impl Abort, tree: &TTree)
     requires { IsByPlace tree.now.refs }
 {
@@ -156,7 +170,7 @@ fn assert_shrunk(rt: &impl Abort, tree: &TTree)
     assert_same(rt, found(tree, 5).0, None);
 }
 
-/// Takes 1,900 of 2,000 references out.
+/// Removes 1,900 of 2,000 references.
 fn shrink(rt: &(impl Abort + AllocGlobal), tree: &mut TTree) -> Result<(), Fail>
     requires { IsByPlace tree.old.refs }
 {
@@ -174,45 +188,7 @@ fn shrinks(rt: HostRuntime) -> Result<(), Fail> {
     shrink(&rt, &mut tree)
 }
 
-/// Takes references out of a tree, several at once, and counts how often; none where the tree has not all of them.
-fn take_together(tree: &mut TTree, refs: &[RowRef]) -> Option<usize>
-    requires { IsByPlace tree.old.refs }
-    ensures { IsByPlace tree.new.refs }
-{
-    let mut rest = refs;
-    let mut times = 0usize;
-    while let Some((first, behind)) = rest.split_first() {
-        let along = tree.remove_along(&ByPlace, *first, behind)?;
-        rest = &behind[along..];
-        times = times.saturating_add(1);
-    }
-    Some(times)
-}
-
-/// Takes 1,900 of 2,000 references out, mostly those of a whole node at once, and one that is not there.
-fn shrink_together(
-    rt: &(impl Abort + AllocGlobal),
-    tree: &mut TTree,
-    refs: &[RowRef],
-) -> Result<(), Fail>
-    requires { IsByPlace tree.old.refs }
-{
-    let times = take_together(tree, refs);
-    assert_that(rt, times.unwrap_or(usize::MAX) <= 300);
-    assert_shrunk(rt, tree);
-    assert_up_to(rt, rt.alloc(), tree, 1949, 1900, 50)?;
-    assert_same(rt, tree.remove_along(&ByPlace, numbered(5), refs), None);
-    Ok(())
-}
-
-#[test]
-fn shrinks_by_many_at_once(rt: HostRuntime) -> Result<(), Fail> {
-    let mut tree = grown(&rt, rt.alloc())?;
-    let refs = ascending(rt.alloc(), 1900)?;
-    shrink_together(&rt, &mut tree, refs.as_slice())
-}
-
-/// Takes a reference out where it is in, and puts it in where it is not.
+/// Removes a reference if the list has it, and inserts it otherwise.
 fn toggle<R: OrderedRefs>(refs: &mut R, alloc: Global, toggled: RowRef) -> Result<(), AllocError>
     requires { IsByPlace (R.refs refs.old) }
     ensures { IsByPlace (R.refs refs.new) }
@@ -225,7 +201,7 @@ fn toggle<R: OrderedRefs>(refs: &mut R, alloc: Global, toggled: RowRef) -> Resul
     Ok(())
 }
 
-/// How many references a range of a tree has.
+/// Returns the number of references of a tree in a range.
 fn count_between(
     alloc: Global,
     tree: &TTree,
@@ -239,9 +215,9 @@ fn count_between(
     Ok(out.len())
 }
 
-/// Asserts that a tree has three nodes, of which these are the numbers of the first and the last entry: those of the root, of
-/// its left side and of its right. A range over all asks about the ends of the root to see that it meets it, and then about those
-/// of each node to see that it lies in it.
+/// Asserts that a tree has three nodes, and that these are the numbers of the first and the last entry of the root, of its left child and
+/// of its right child. A range over all references compares the ends of the root to see that they overlap, and then those of each node to
+/// see that the range contains it.
 fn assert_ends(
     rt: &impl Abort,
     alloc: Global,
@@ -261,7 +237,7 @@ fn assert_ends(
     Ok(())
 }
 
-/// All references of a list, in order.
+/// Returns all references of a list, in order.
 fn all_of<R: OrderedRefs>(alloc: Global, refs: &R) -> Result<Vec<RowRef>, AllocError>
     requires { IsByPlace (R.refs refs.now) }
 {
@@ -270,7 +246,7 @@ fn all_of<R: OrderedRefs>(alloc: Global, refs: &R) -> Result<Vec<RowRef>, AllocE
     Ok(all)
 }
 
-/// Asserts that references are of these numbers.
+/// Asserts the numbers of references.
 fn assert_each(rt: &impl Abort, refs: &[RowRef], want: &[u32]) {
     assert_same(rt, refs.len(), want.len());
     for (held, number) in refs.iter().zip(want) {
@@ -278,7 +254,7 @@ fn assert_each(rt: &impl Abort, refs: &[RowRef], want: &[u32]) {
     }
 }
 
-/// Asserts that the references of a tree are of these numbers.
+/// Asserts the numbers of the references of a tree.
 fn assert_numbers(
     rt: &impl Abort,
     alloc: Global,
@@ -292,7 +268,7 @@ fn assert_numbers(
     Ok(())
 }
 
-/// Asserts that a tree goes over these references, and no others.
+/// Asserts that a walk along a tree visits exactly these references.
 pub fn assert_goes_over(rt: &impl Abort, tree: &TTree, want: &[RowRef]) {
     assert_that(rt, tree.len() <= 1_048_576);
     assert_same(rt, [tree.len(), tree.iter().count()], [want.len(); 2]);
@@ -301,7 +277,7 @@ pub fn assert_goes_over(rt: &impl Abort, tree: &TTree, want: &[RowRef]) {
     }
 }
 
-/// Asserts that a tree holds these references in the same order, and goes over them.
+/// Asserts that a tree has these references in the same order, and that a walk visits them.
 fn assert_holds(
     rt: &impl Abort,
     alloc: Global,
@@ -316,7 +292,7 @@ fn assert_holds(
     Ok(())
 }
 
-/// Asserts that both hold the same references in the same order.
+/// Asserts that both have the same references in the same order.
 fn assert_alike(
     rt: &impl Abort,
     alloc: Global,
@@ -339,7 +315,7 @@ fn assert_low(rt: &impl Abort, tree: &TTree) {
     }
 }
 
-/// Puts the references of so many numbers into an empty tree, in order.
+/// Inserts the references of `count` numbers into an empty tree, in order.
 fn fill_in_order(
     rt: &impl Abort,
     alloc: Global,
@@ -367,7 +343,7 @@ fn ascending_references_fill_the_nodes(rt: HostRuntime) -> Result<(), Fail> {
     Ok(())
 }
 
-/// Asserts that a range over the numbers from 100 to 1,899 asks about few of the references of a tree.
+/// Asserts that a range over the numbers from 100 to 1,899 compares few of the references of a tree.
 fn assert_asks_few(rt: &impl Abort, alloc: Global, tree: &TTree) -> Result<(), AllocError>
     requires { IsByPlace tree.now.refs }
 {
@@ -375,7 +351,7 @@ fn assert_asks_few(rt: &impl Abort, alloc: Global, tree: &TTree) -> Result<(), A
     let high = counting_at(1899);
     let held = count_between(alloc, tree, &low, &high)?;
     assert_same(rt, held, 1800);
-    // Two questions a node of 16 are 225; the rest are of the nodes on the way to the two ends.
+    // Two comparisons for each node of 16 are 225; the others are in the nodes on the paths to the two ends.
     assert_that(rt, low.asked.get() <= 200);
     assert_that(rt, high.asked.get() <= 200);
     Ok(())
@@ -412,12 +388,12 @@ fn assert_rotated(rt: &impl Abort, alloc: Global, tree: &TTree) -> Result<(), Al
     requires { IsByPlace tree.now.refs }
 {
     assert_same(rt, tree.height(), 2);
-    // The list in order lies in the three nodes: 1 to 3, then 4 to 15 with 50 and 60, then 101 to 116.
+    // The list in order is in the three nodes: 1 to 3, then 4 to 15 with 50 and 60, then 101 to 116.
     assert_ends(rt, alloc, tree, [(4, 60), (1, 3), (101, 116)])?;
     assert_numbers(rt, alloc, tree, &ROTATED)
 }
 
-/// Puts references into an empty tree, of which the last turns two nodes.
+/// Inserts references into an empty tree, the last of which causes a rotation of two nodes.
 fn turn_twice(alloc: Global, tree: &mut TTree) -> Result<(), AllocError>
     requires { IsByPlace tree.old.refs }
     ensures { IsByPlace tree.new.refs }
@@ -437,7 +413,7 @@ fn double_rotation_fills_the_new_root(rt: HostRuntime) -> Result<(), Fail> {
     Ok(())
 }
 
-/// Toggles the same references in both, and asserts now and then that both hold the same.
+/// Toggles the same references in both, and asserts at intervals that both have the same.
 fn toggle_both(
     rt: &impl Abort,
     alloc: Global,
@@ -469,7 +445,7 @@ fn holds_what_the_sorted_list_holds(rt: HostRuntime) -> Result<(), Fail> {
     Ok(())
 }
 
-/// Asserts that a tree over the first so many references holds them all in order, and has this height.
+/// Asserts that a tree over the first `count` references has them all in order, and has this height.
 fn assert_built(
     rt: &impl Abort,
     alloc: Global,
@@ -548,8 +524,8 @@ fn a_list_in_order_fills_the_nodes(rt: HostRuntime) -> Result<(), Fail> {
     Ok(())
 }
 
-/// Takes 14 references out of the root of a tree of three full nodes. From the third on it borrows the greatest of its left side for
-/// each, so that it keeps 14.
+/// Removes 14 references from the root of a tree of three full nodes. From the third on, the root borrows the greatest entry of its left
+/// side for each, so that it keeps 14.
 fn drain_root(rt: &impl Abort, alloc: Global, tree: &mut TTree) -> Result<(), AllocError>
     requires { IsByPlace tree.old.refs }
 {
@@ -564,5 +540,53 @@ fn an_internal_node_keeps_14_entries(rt: HostRuntime) -> Result<(), Fail> {
     let alloc = rt.alloc();
     let mut tree = assert_built(&rt, alloc, 48, 2)?;
     drain_root(&rt, alloc, &mut tree)?;
+    Ok(())
+}
+
+/// Leaves one reference in the node left of the root of a tree of four full nodes, and none on the right. The node becomes the root, and
+/// receives entries of the old root, so that it has 14.
+fn drain_right_side(rt: &impl Abort, alloc: Global, tree: &mut TTree) -> Result<(), AllocError>
+    requires { IsByPlace tree.old.refs }
+{
+    for number in 16..31 {
+        assert_that(rt, tree.remove(&ByPlace, numbered(number)));
+    }
+    for number in 48..52 {
+        assert_that(rt, tree.remove(&ByPlace, numbered(number)));
+    }
+    assert_ends(rt, alloc, tree, [(31, 44), (0, 15), (45, 47)])
+}
+
+#[test]
+fn single_rotation_fills_the_new_root(rt: HostRuntime) -> Result<(), Fail> {
+    let alloc = rt.alloc();
+    let mut tree = assert_built(&rt, alloc, 52, 3)?;
+    drain_right_side(&rt, alloc, &mut tree)?;
+    Ok(())
+}
+
+/// Asserts that a tree of 48 references with capacity for `asked` more has capacity for `room` more.
+fn assert_room(
+    rt: &impl Abort,
+    tree: &mut TTree,
+    alloc: Global,
+    asked: usize,
+    room: usize,
+) -> Result<(), AllocError> {
+    tree.reserve(alloc, asked)?;
+    assert_same(rt, tree.spare(), room);
+    tree.trim_spares(0);
+    assert_same(rt, tree.spare(), 0);
+    Ok(())
+}
+
+#[test]
+fn room_for_many_takes_fewer_nodes(rt: HostRuntime) -> Result<(), Fail> {
+    let alloc = rt.alloc();
+    let mut tree = assert_built(&rt, alloc, 48, 2)?;
+    // One node each for a few; 22 and 212 nodes in all for more.
+    for (asked, room) in [(1, 1), (8, 8), (9, 9), (50, 54), (1000, 1004)] {
+        assert_room(&rt, &mut tree, alloc, asked, room)?;
+    }
     Ok(())
 }

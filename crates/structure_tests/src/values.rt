@@ -1,4 +1,4 @@
-//! Values: hashes and prefixes from outside, and copies.
+//! Values: hashes and prefixes computed elsewhere, and copies.
 use crate::assertions::{assert_same, assert_that};
 use crate::samples::{is_equal, text};
 use mm_value::{
@@ -74,7 +74,7 @@ fn prefixes_of_texts_have_eight_bytes(rt: HostRuntime) -> Result<(), Fail> {
         (b"\x00", 0x8000000000000000),
         (b"\x01", 0x8080000000000000),
         (b"abcdefgh", 0xb0b131b232b333b4),
-        // The last bit of the eighth byte is lost, and so is all behind it.
+        // The last bit of the eighth byte is lost, and so are all later bits.
         (b"abcdefgi", 0xb0b131b232b333b4),
         (b"abcdefgj", 0xb0b131b232b333b5),
         (b"abcdefghijkl", 0xb0b131b232b333b4),
@@ -86,13 +86,13 @@ fn prefixes_of_texts_have_eight_bytes(rt: HostRuntime) -> Result<(), Fail> {
     Ok(())
 }
 
-/// The longest text.
+/// Returns a text of the greatest length.
 fn longest(alloc: Global) -> Result<Text, Refusal> {
     let bytes = [b'x'; MAX_TEXT_BYTES];
     Text::new(alloc, &bytes)
 }
 
-/// Asserts that a text has 64 bytes, and a copy of it the same.
+/// Asserts that a text has 64 bytes, and that a copy of it has the same.
 fn assert_text_copied(rt: &(impl Abort + AllocGlobal), text: &Text) -> Result<(), Fail> {
     assert_same(rt, text.bytes().len(), 64);
     let copy = text.copy(rt.alloc())?;
@@ -106,7 +106,7 @@ fn a_copy_of_a_text_is_equal(rt: HostRuntime) -> Result<(), Fail> {
     assert_text_copied(&rt, &text)
 }
 
-/// Asserts that a value is a text, and a copy of it equal.
+/// Asserts that a value is a text, and that a copy of it is equal.
 fn assert_value_copied(rt: &(impl Abort + AllocGlobal), value: &Value) -> Result<(), Fail> {
     assert_that(rt, value.col_type() == ColType::Text);
     let copy = value.copy(rt.alloc())?;
@@ -120,7 +120,7 @@ fn a_copy_of_a_value_is_equal(rt: HostRuntime) -> Result<(), Fail> {
     assert_value_copied(&rt, &value)
 }
 
-/// The row of a number and the longest text.
+/// Returns the row of a number and the longest text.
 fn row_of_two(alloc: Global) -> Result<Row, Refusal> {
     let mut values = Vec::new(alloc);
     values.push(Value::Int(7))?;
@@ -136,7 +136,7 @@ fn assert_same_rows(rt: &impl Abort, row: &Row, copy: &Row) {
     }
 }
 
-/// Asserts that a copy of a row of two values has the same.
+/// Asserts that a copy of a row of two values has the same values.
 fn assert_row_copied(rt: &(impl Abort + AllocGlobal), row: &Row) -> Result<(), Fail> {
     let copy = row.copy(rt.alloc())?;
     assert_same_rows(rt, row, &copy);

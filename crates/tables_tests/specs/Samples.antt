@@ -12,7 +12,7 @@ pub record Heading : Type 0 where
 abbrev pub heading_of : Shape → Heading
 heading_of s = record { types = s.types; key = s.key }
 
--- two numbers, of which the first is the key
+-- two numbers, the first of which is the key
 abbrev pub numbers : Heading
 numbers = record { types = Int ∷ Int ∷ []; key = 0 }
 

@@ -6,18 +6,18 @@ ghost use Rattle.mm_indexed.specs.Twins.{AreApart};
 ghost use Rattle.mm_tables.specs.Commands.{IsCommand};
 ghost use Rattle.tables_tests.specs.Samples.{AreSample};
 
-use crate::assertions::assert_that;
+use crate::assertions::{assert_same, assert_that};
 use crate::plain::{PlainRow, assert_records, assert_rows};
-use crate::samples::{change, fits, stage, two_tables};
+use crate::samples::{add_index, change, fits, revert, stage, two_tables};
 use mm_indexed::IndexedRows;
-use mm_schema::MAX_ROWS;
+use mm_schema::{IndexKind, MAX_ROWS};
 use mm_tables::{Edit, Tables};
 use mm_value::RowRef;
 use std::alloc::AllocError;
 use std::process::Abort;
 use std::test::Fail;
 
-/// Whether no two rows have one key.
+/// Returns whether no two rows have one key.
 fn keys_are_apart(rows: &IndexedRows) -> bool
     ensures { OnTrue result (AreApart rows.now.key (slot_at rows.now.places)) }
 {
@@ -33,14 +33,14 @@ fn keys_are_apart(rows: &IndexedRows) -> bool
     true
 }
 
-/// Two rows that take each other's place: a row in use, and a hidden row.
+/// Two rows that are exchanged: a row in use, and a hidden row.
 #[derive(Clone, Copy)]
 struct Swap {
     at: RowRef,
     other: RowRef,
 }
 
-/// Whether two exchanges have no slot in common.
+/// Returns whether two exchanges have no slot in common.
 fn are_apart(one: Swap, two: Swap) -> bool
     ensures at { OnTrue result (one.at ≢ two.at) }
     ensures other { OnTrue result (one.other ≢ two.other) }
@@ -53,8 +53,8 @@ fn are_apart(one: Swap, two: Swap) -> bool
         && one.other.slot != two.at.slot
 }
 
-/// Makes two exchanges in the first table in one command, and returns whether they were made. A refusal undoes what is beyond the
-/// mark.
+/// Makes two exchanges in the first table in one command, and returns whether they were made. A refusal undoes all changes beyond the
+/// savepoint.
 fn make_two(
     rt: &(impl Abort + AllocGlobal),
     tables: &mut Tables,
@@ -76,7 +76,7 @@ fn make_two(
     Ok(tables.make(mark, 0, &edits))
 }
 
-/// Adds a row to the first table.
+/// Inserts a row into the first table.
 fn add(
     rt: &(impl Abort + AllocGlobal),
     tables: &mut Tables,
@@ -96,7 +96,7 @@ fn add(
     })
 }
 
-/// Gives the rows of two keys the keys `one` and `two` in one command, and returns whether it was made.
+/// Changes the keys of two rows to `one` and `two` in one command, and returns whether it was made.
 fn change_keys(
     rt: &(impl Abort + AllocGlobal),
     tables: &mut Tables,
@@ -121,7 +121,7 @@ fn change_keys(
     make_two(rt, tables, mark, one, two)
 }
 
-/// Asserts that a command raises the keys 1 and 2 by one.
+/// Asserts that a command increases the keys 1 and 2 by one.
 fn raise(
     rt: &(impl Abort + AllocGlobal),
     tables: &mut Tables,
@@ -156,7 +156,7 @@ fn raises_keys(rt: HostRuntime) -> Result<(), Fail> {
     Ok(())
 }
 
-/// Asserts that no command gives two rows the key 3, and what the refusal undoes.
+/// Asserts that no command changes the keys of two rows to 3, and what the refusal undoes.
 fn refuse(
     rt: &(impl Abort + AllocGlobal),
     tables: &mut Tables,
@@ -178,5 +178,82 @@ fn refuses_one_key(rt: HostRuntime) -> Result<(), Fail> {
     let one = add(&rt, &mut tables, 1, 5)?;
     let two = add(&rt, &mut tables, 2, 6)?;
     refuse(&rt, &mut tables, one, two)?;
+    Ok(())
+}
+
+/// Returns whether two references differ.
+fn differ(one: RowRef, two: RowRef) -> bool
+    ensures { OnTrue result (one ≢ two) }
+{
+    one.slot != two.slot
+}
+
+/// Deletes two rows of the first table in one command.
+fn delete_two(
+    rt: &(impl Abort + AllocGlobal),
+    tables: &mut Tables,
+    one: RowRef,
+    two: RowRef,
+) -> Result<bool, AllocError>
+    requires { AreSample tables.old }
+    ensures { AreSample tables.new }
+{
+    let edits = [Edit::Delete(one), Edit::Delete(two)];
+    tables.reserve_for(rt.alloc(), 0, &edits)?;
+    tables.reserve_log(2)?;
+    assert_that(rt, differ(one, two));
+    assert_that(rt, fits(tables.table(0), edits[0]));
+    assert_that(rt, fits(tables.table(0), edits[1]));
+    assert_that(rt, keys_are_apart(tables.table(0)));
+    let mark = tables.mark();
+    Ok(tables.make(mark, 0, &edits))
+}
+
+/// Deletes all rows of the first table, which has two, and inserts another one.
+fn replace_all(
+    rt: &(impl Abort + AllocGlobal),
+    tables: &mut Tables,
+    one: PlainRow,
+    two: PlainRow,
+) -> Result<(), AllocError>
+    requires { AreSample tables.old }
+    ensures { AreSample tables.new }
+{
+    let made = delete_two(rt, tables, one.at, two.at)?;
+    assert_that(rt, made);
+    assert_rows(rt, tables, &[]);
+    assert_records(rt, tables, 6);
+    let third = add(rt, tables, 1, 7)?;
+    assert_rows(rt, tables, &[third]);
+    Ok(())
+}
+
+/// Deletes all rows of the first table, reverts that, and deletes them again.
+fn delete_all(
+    rt: &(impl Abort + AllocGlobal),
+    tables: &mut Tables,
+    one: PlainRow,
+    two: PlainRow,
+) -> Result<(), AllocError>
+    requires { AreSample tables.old }
+{
+    let mark = tables.mark();
+    replace_all(rt, tables, one, two)?;
+    revert(rt, tables, mark);
+    assert_rows(rt, tables, &[one, two]);
+    replace_all(rt, tables, one, two)?;
+    tables.settle();
+    assert_same(rt, tables.table(0).len(), 1);
+    Ok(())
+}
+
+#[test]
+fn deletes_all_rows(rt: HostRuntime) -> Result<(), Fail> {
+    let mut tables = two_tables(rt.alloc())?;
+    add_index(&mut tables, rt.alloc(), 0, IndexKind::Tree)?;
+    add_index(&mut tables, rt.alloc(), 0, IndexKind::Hash)?;
+    let one = add(&rt, &mut tables, 1, 5)?;
+    let two = add(&rt, &mut tables, 2, 6)?;
+    delete_all(&rt, &mut tables, one, two)?;
     Ok(())
 }

@@ -1,5 +1,5 @@
-//! Calls whose allocations fail, as `tests/refused_growths.py` lets them: in each run of a test one allocation, or all from one to the
-//! line that tells of a failed call. Then the tables show what they showed, and the call is made again.
+//! Calls whose allocations fail, as `tests/refused_growths.py` lets them: in each run of a test one allocation, or all from one to the line
+//! that reports a failed call. Then the tables are unchanged, and the call is repeated.
 //!
 //! Any other allocation that fails before that line ends the test, as passed.
 ghost use Rattle.std.specs.Prelude.{IfOk};
@@ -15,7 +15,7 @@ use std::io;
 use std::process::Abort;
 use std::test::Fail;
 
-/// Tells on standard output that a tested call failed. All that the rest of the run allocates is granted.
+/// Writes to standard output that a tested call failed. All later allocations of the run succeed.
 fn asked_again(rt: &impl Print) -> io::Result<()> {
     rt.println("refused")
 }
@@ -37,7 +37,7 @@ fn fill(rt: &(impl Abort + AllocGlobal), tables: &mut Tables) -> Result<RowRef, 
     Ok(at)
 }
 
-/// A transaction that has inserted the row of key 1 into the first table.
+/// Returns a transaction that has inserted the row of key 1 into the first table.
 fn begin(rt: &(impl Abort + AllocGlobal)) -> Result<Begun, AllocError>
     ensures { IfOk result (λ begun. AreSample begun.tables) }
 {
@@ -60,7 +60,7 @@ fn assert_begun(rt: &impl Abort, begun: &Begun)
     assert_records(rt, &begun.tables, 2);
 }
 
-/// Undoes the transaction, after which there are no rows.
+/// Undoes the transaction, and asserts that no rows remain.
 fn undo(rt: &impl Abort, begun: &mut Begun)
     requires { AreSample begun.old.tables }
 {
@@ -69,7 +69,7 @@ fn undo(rt: &impl Abort, begun: &mut Begun)
     assert_records(rt, &begun.tables, 0);
 }
 
-/// Makes capacity for 200 rows and edits, again if an allocation fails.
+/// Reserves capacity for 200 rows and edits, again if an allocation fails.
 fn reserve_again(rt: &(impl Abort + AllocGlobal + Print), begun: &mut Begun) -> Result<(), Fail>
     requires { AreSample begun.old.tables }
     ensures { AreSample begun.new.tables }
@@ -93,7 +93,7 @@ fn reserve_growths(rt: HostRuntime) -> Result<(), Fail> {
     Ok(())
 }
 
-/// Makes capacity for 200 records of the log, again if the allocation fails.
+/// Reserves capacity for 200 records of the log, again if the allocation fails.
 fn reserve_log_again(rt: &(impl Abort + AllocGlobal + Print), begun: &mut Begun) -> Result<(), Fail>
     requires { AreSample begun.old.tables }
     ensures { AreSample begun.new.tables }

@@ -1,4 +1,4 @@
-//! Tests of the rows of all tables under one log: of what no contract says.
+//! Tests of the rows of all tables under one log, for what no contract states.
 #![tactic(auto)]
 
 #[cfg(test)]

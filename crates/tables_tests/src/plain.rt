@@ -1,4 +1,4 @@
-//! A plain list of the rows of two tables, and what the tables must show of it.
+//! A plain list of the rows of two tables, with which the tables must agree.
 ghost use Rattle.std.specs.Prelude.{◌<◌};
 ghost use Rattle.tables_tests.specs.Samples.{AreSample};
 
@@ -19,7 +19,7 @@ pub struct PlainRow {
 }
 
 impl PlainRow {
-    /// The table of the row.
+    /// Returns the table of the row.
     pub fn table(self) -> usize
         ensures { result < 2 }
     {
@@ -27,14 +27,14 @@ impl PlainRow {
     }
 }
 
-/// The first or the second table.
+/// Returns the first or the second table.
 pub fn table_of(second: bool) -> usize
     ensures { result < 2 }
 {
     if second { 1 } else { 0 }
 }
 
-/// The number of a row in a column, or `None` if the row is not in use.
+/// Returns the number of a row in a column, or `None` if the row is not in use.
 fn number_at(rows: &IndexedRows, at: RowRef, column: usize) -> Option<i64> {
     if !is_in_use(rows, at) {
         return None;
@@ -45,18 +45,18 @@ fn number_at(rows: &IndexedRows, at: RowRef, column: usize) -> Option<i64> {
     }
 }
 
-/// Asserts that a table shows a row.
+/// Asserts that a table has a row.
 fn assert_row(rt: &impl Abort, rows: &IndexedRows, row: PlainRow) {
     assert_same(rt, number_at(rows, row.at, 0), Some(row.key));
     assert_same(rt, number_at(rows, row.at, 1), Some(row.digit));
 }
 
-/// The number of rows of a table.
+/// Returns the number of rows of a table.
 fn count(rows: &[PlainRow], second: bool) -> usize {
     rows.iter().filter(|row| row.second == second).count()
 }
 
-/// Asserts that the tables show these rows and no others.
+/// Asserts that the tables have these rows and no others.
 pub fn assert_rows(rt: &impl Abort, tables: &Tables, rows: &[PlainRow])
     requires { AreSample tables.now }
 {
@@ -67,7 +67,7 @@ pub fn assert_rows(rt: &impl Abort, tables: &Tables, rows: &[PlainRow])
     }
 }
 
-/// Asserts that the log has so many records.
+/// Asserts the number of records of the log.
 pub fn assert_records(rt: &impl Abort, tables: &Tables, count: usize) {
     assert_same(rt, tables.records().len(), count);
     assert_that(rt, tables.mark() == count);

@@ -1,4 +1,4 @@
-//! Two tables of two numbers, and changes of them. Each call makes the capacity that it needs.
+//! Two tables of two numbers, and changes of them. Each call reserves the capacity that it needs.
 ghost use Rattle.std.specs.Prelude.{◌<◌, ◌≡◌, ◌∷◌, [], IfOk};
 ghost use Rattle.std.specs.Bool.{OnTrue};
 ghost use Rattle.mm_value.specs.declared.col_type.ColType.TheVariants.{Int};
@@ -15,7 +15,7 @@ use mm_value::{ColType, Row, RowRef, Value};
 use std::alloc::{AllocError, Global};
 use std::process::Abort;
 
-/// Two tables without rows, each of a key and a digit.
+/// Returns two tables without rows, each of a key and a digit.
 pub fn two_tables(alloc: Global) -> Result<Tables, AllocError>
     ensures { IfOk result AreSample }
 {
@@ -42,7 +42,7 @@ pub fn add_index(
     tables.add_index(alloc, table, 1, kind)
 }
 
-/// The row of a key and a digit.
+/// Returns the row of a key and a digit.
 fn row_of(alloc: Global, key: i64, digit: i64) -> Result<Row, AllocError>
     ensures { IfOk result (HasTypes (Int ∷ Int ∷ [])) }
 {
@@ -68,7 +68,7 @@ pub fn stage(
     Ok(tables.stage(table, row.into_values().as_mut_slice()))
 }
 
-/// Whether a row in use has this reference.
+/// Returns whether a row in use has this reference.
 pub fn is_in_use(rows: &IndexedRows, at: RowRef) -> bool
     ensures { OnTrue result (IsLive rows.now.places at) }
 {
@@ -83,7 +83,7 @@ pub fn is_in_use(rows: &IndexedRows, at: RowRef) -> bool
     false
 }
 
-/// Whether a row in use and a hidden row have these references.
+/// Returns whether a row in use and a hidden row have these references.
 fn can_exchange(rows: &IndexedRows, at: RowRef, other: RowRef) -> bool
     ensures live { OnTrue result (IsLive rows.now.places at) }
     ensures hidden { OnTrue result (IsHidden rows.now.places other) }
@@ -91,7 +91,7 @@ fn can_exchange(rows: &IndexedRows, at: RowRef, other: RowRef) -> bool
     is_in_use(rows, at) && rows.is_hidden(other)
 }
 
-/// Whether an edit fits the rows of a table.
+/// Returns whether an edit fits the rows of a table.
 pub fn fits(rows: &IndexedRows, edit: Edit) -> bool
     ensures { OnTrue result (Fits rows.now.key (slot_at rows.now.places) edit) }
 {
@@ -122,7 +122,7 @@ pub fn change(
     Ok(())
 }
 
-/// Undoes all changes beyond a mark.
+/// Undoes all changes beyond a savepoint.
 pub fn revert(rt: &impl Abort, tables: &mut Tables, mark: usize)
     requires { AreSample tables.old }
     ensures { AreSample tables.new }

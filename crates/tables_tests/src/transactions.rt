@@ -1,4 +1,4 @@
-//! Transactions of edits that look random, against a plain list of rows.
+//! Transactions of pseudorandom edits, compared with a plain list of rows.
 ghost use Rattle.std.specs.Prelude.{◌<◌};
 ghost use Rattle.tables_tests.specs.Samples.{AreSample};
 
@@ -11,14 +11,14 @@ use std::alloc::AllocError;
 use std::process::Abort;
 use std::test::Fail;
 
-/// Numbers that look random.
+/// Pseudorandom numbers.
 #[derive(Drop)]
 struct Dice {
     state: u64,
 }
 
 impl Dice {
-    /// A number below 32.
+    /// Returns a number below 32.
     fn roll(&mut self) -> u64
         ensures { result < 32 }
     {
@@ -29,18 +29,18 @@ impl Dice {
         (self.state >> 33) % 32
     }
 
-    /// Whether the next number is even.
+    /// Returns whether the next number is even.
     fn flip(&mut self) -> bool {
         self.roll() % 2 == 0
     }
 
-    /// A number below 32, as a value.
+    /// Returns a number below 32, as a value.
     fn number(&mut self) -> i64 {
         self.roll() as i64
     }
 }
 
-/// Adds a row.
+/// Inserts a row.
 fn insert(
     rt: &(impl Abort + AllocGlobal),
     tables: &mut Tables,
@@ -64,7 +64,7 @@ fn insert(
     Ok(())
 }
 
-/// Gives a row another digit, and mostly another key.
+/// Changes the digit of a row, and often its key.
 fn update(
     rt: &(impl Abort + AllocGlobal),
     tables: &mut Tables,
@@ -148,7 +148,7 @@ fn change_and_revert(
     Ok(())
 }
 
-/// A transaction: changes that stay, and changes that are undone.
+/// Runs a transaction: changes that stay, and changes that are undone.
 fn run(
     rt: &(impl Abort + AllocGlobal),
     tables: &mut Tables,

@@ -1,4 +1,4 @@
--- The entries between two probes, in an ordered list of three parts.
+-- Lemmas about the entries between two probes, in an ordered list of three parts.
 use Rattle.std.proofs.Common.{◌≡◌, ◌≢◌, Bool, true, false, ◌&&◌, ◌-◌, ◌≤◌, List, [], ◌++◌, length, get_or, take, refl, sym, ap, ◌∙◌, subst, arith}
 use Rattle.std.proofs.lemmas.List.{append_assoc, take-take, take_at, length-append}
 use Rattle.std.specs.Prelude.{Result, Ok, Err, OnErr}
@@ -22,7 +22,7 @@ and_false false = refl
 
 module _ (Covers : RowRef → Type 0) (cmp : RowRef → RowRef → Ordering) (left middle right : List RowRef) (was : IsOrdered Covers cmp (left ++ middle ++ right))
     (some : 1 ≤ length middle) (d : RowRef) where
-  -- where the least of the middle lies before the low place, nothing on the left is between
+  -- Lemma: if the least of the middle is before the low position, no entry on the left is in the range.
   pub nothing_left : (Reaches : RowRef → Type 0) (low : RowRef → Ordering) → IsMonotone Covers cmp Reaches low → low (get_or middle 0 d) ≡ Less
       → (high : RowRef → Ordering) → entries_between low high left ≡ []
   nothing_left Reaches low rises least high =
@@ -36,7 +36,7 @@ module _ (Covers : RowRef → Type 0) (cmp : RowRef → RowRef → Ordering) (le
       (rises.rises (get_or left k e) (get_or middle 0 d) (covered_left k e within) (covered_middle 0 d (omega arith)) (across k e within 0 d (omega arith)))) in
       ap (λ o. is_ge o && is_le (high (get_or left k e))) low_is)
 
-  -- where the greatest of the middle lies after the high place, nothing on the right is between
+  -- Lemma: if the greatest of the middle is after the high position, no entry on the right is in the range.
   pub nothing_right : (Reaches : RowRef → Type 0) (high : RowRef → Ordering) → IsMonotone Covers cmp Reaches high
       → high (get_or middle (length middle - 1) d) ≡ Greater → (low : RowRef → Ordering) → entries_between low high right ≡ []
   nothing_right Reaches high rises greatest low =
@@ -56,7 +56,7 @@ greater_from_test Less e = (cc)
 greater_from_test Equal e = (cc)
 greater_from_test Greater e = refl
 
--- `is_ge` holds of all but Less, and `is_le` of all but Greater
+-- Lemma: `is_ge` holds for all but Less, and `is_le` for all but Greater.
 is_ge_from : (o : Ordering) → o ≢ Less → is_ge o ≡ true
 is_ge_from Less not = absurd (not refl)
 is_ge_from Equal not = refl
@@ -67,10 +67,10 @@ is_le_from Less not = refl
 is_le_from Equal not = refl
 is_le_from Greater not = absurd (not refl)
 
--- entries along which the places of two probes rise
+-- Entries whose places for two probes are non-decreasing.
 module _ (low high : RowRef → Ordering) (entries : List RowRef) (some : 1 ≤ length entries)
     (low_rises : IsNonDecreasingBy (λ a. ordering_index (low a)) entries) (high_rises : IsNonDecreasingBy (λ a. ordering_index (high a)) entries) where
-  -- where the first doesn't lie before the low place nor the last after the high one, all are between
+  -- Lemma: if the first is not before the low position and the last is not after the high one, all entries are in the range.
   pub all_between : low (first_entry entries) ≢ Less → high (last_entry entries) ≢ Greater → entries_between low high entries ≡ entries
   all_between first last =
       filter-all (is_between low high) entries (λ k e within.
@@ -79,28 +79,28 @@ module _ (low high : RowRef → Ordering) (entries : List RowRef) (some : 1 ≤ 
       not_greater_up_to high entries (length entries - 1) _ high_rises (omega arith) last k e (omega arith) (omega arith) in
       rw (is_ge_from (low (get_or entries k e)) not_less) (is_le_from (high (get_or entries k e)) not_greater))
 
-  -- where the last lies before the low place, none is
+  -- Lemma: if the last is before the low position, no entry is in the range.
   pub none_from_low : low (last_entry entries) ≡ Less → entries_between low high entries ≡ []
   none_from_low last =
       filter-none (is_between low high) entries (λ k e within.
       let less : low (get_or entries k e) ≡ Less = less_up_to low entries (length entries - 1) _ low_rises (omega arith) last k e (omega arith) (omega arith) in
       ap (λ o. is_ge o && is_le (high (get_or entries k e))) less)
 
-  -- where the first lies after the high place, none is
+  -- Lemma: if the first is after the high position, no entry is in the range.
   pub none_to_high : high (first_entry entries) ≡ Greater → entries_between low high entries ≡ []
   none_to_high first =
       filter-none (is_between low high) entries (λ k e within.
       let greater : high (get_or entries k e) ≡ Greater = greater_from high entries 0 _ high_rises some first k e (omega arith) within in
       ap (λ o. is_ge (low (get_or entries k e)) && is_le o) greater ∙ and_false (is_ge (low (get_or entries k e))))
 
--- what is kept of a list to which two lists were appended begins with the list
+-- Lemma: if a list begins with another list and two appended ones, it begins with the other list.
 pub front_kept : {X : Type 0} (old more rest mid new : List X) → mid ≡ old ++ more ++ rest → take (length mid) new ≡ mid → take (length old) new ≡ old
 front_kept old more rest mid new is kept =
     let within : length old ≤ length mid = omega (arith, ap length is, length-append (old ++ more) rest, length-append old more) in
     sym (take-take (length old) (length mid) new within) ∙ ap (take (length old)) (kept ∙ is ∙ append_assoc old more rest)
     ∙ take_at old (more ++ rest) (length old) refl
 
--- what follows from what an error says
+-- Lemma: a consequence of an error's guarantee.
 pub OnErr-weaker : {T E : Type 0} (r : Result T E) (P Q : Type 0) → (P → Q) → OnErr r P → OnErr r Q
 OnErr-weaker (Ok v) P Q f h = tt
 OnErr-weaker (Err e) P Q f h = f h

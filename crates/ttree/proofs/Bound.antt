@@ -1,4 +1,4 @@
--- What lies behind a bound.
+-- Lemmas about entries after a bound.
 use Rattle.std.proofs.Common.{◌≡◌, ◌≢◌, ◌-◌, ◌≤◌, List, ◌++◌, length, get_or, refl, ap, ◌∙◌, arith}
 use Rattle.std.specs.Prelude.{Option, Some, None, IfSome}
 use Rattle.std.specs.List.{All}
@@ -11,7 +11,7 @@ use Rattle.mm_order.proofs.Pairs.{All-append_left, All-append_right, AllPairs-ap
 use Rattle.ttree.specs.Bound.{LiesBelow}
 use Rattle.ttree.proofs.Parts.{IsOrdered-middle, rest_ordered}
 
--- the front of a list lies behind what the list does
+-- Lemma: if a list is after the bound, so is its front.
 pub behind_front : (cmp : RowRef → RowRef → Ordering) (bound : Option RowRef) (xs ys : List RowRef) → IfSome bound (λ b. All (λ a. cmp b a ≡ Less) (xs ++ ys))
     → IfSome bound (λ b. All (λ a. cmp b a ≡ Less) xs)
 behind_front cmp None xs ys behind = tt
@@ -24,7 +24,7 @@ is_greater Greater not_less not_equal = refl
 
 module _ (Covers : RowRef → Type 0) (cmp : RowRef → RowRef → Ordering) (total : IsTotalOrderOn Covers cmp) (left middle right : List RowRef)
     (was : IsOrdered Covers cmp (left ++ middle ++ right)) (some : 1 ≤ length middle) (added : RowRef) (covered : Covers added) where
-  -- what does not lie before the middle does not lie below a bound in front of all
+  -- Lemma: an entry that is not before the middle is not below a bound before all entries.
   pub not_below : cmp added (get_or middle 0 added) ≢ Less → (bound : Option RowRef) → IfSome bound Covers
       → IfSome bound (λ b. All (λ a. cmp b a ≡ Less) (left ++ middle ++ right)) → LiesBelow cmp added bound → ⊥
   not_below not_before None bound_covered behind below = below
@@ -34,12 +34,12 @@ module _ (Covers : RowRef → Type 0) (cmp : RowRef → RowRef → Ordering) (to
       not_before (total.trans added b (get_or middle 0 added) covered bound_covered
       ((IsOrdered-middle Covers cmp left middle right was).covered 0 added some) below first)
 
-  -- the right lies behind the last of the middle
+  -- Lemma: the right part is after the last entry of the middle.
   pub last_behind : (d : RowRef) → All (λ a. cmp (get_or middle (length middle - 1) d) a ≡ Less) right
   last_behind d =
       AllPairs-append_across (λ a b. cmp a b ≡ Less) middle right (rest_ordered Covers cmp left middle right was).ascending (length middle - 1) d (omega arith)
 
-  -- what does not lie before the last of the middle lies after it
+  -- Lemma: a reference that is not before the last of the middle is after it.
   pub after_last : All (λ a. cmp a added ≢ Equal) middle → cmp added (get_or middle (length middle - 1) added) ≢ Less
       → cmp added (get_or middle (length middle - 1) added) ≡ Greater
   after_last apart not_less =

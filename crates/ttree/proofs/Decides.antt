@@ -1,4 +1,4 @@
--- A search goes on at one side of a node, and keeps in mind the entries of the last node of which it went to the right.
+-- Lemmas about a search: it continues on one side of a node, and keeps the entries of the last node of which it went to the right.
 use Rattle.std.proofs.Common.{◌≡◌, ◌≢◌, ◌≤◌, List, [], ◌++◌, length, get_or, refl, subst, append_assoc, arith}
 use Rattle.std.proofs.lemmas.List.Elements.{All-append, Contains-append_left, Contains-append_right}
 use Rattle.std.specs.List.{All}
@@ -17,12 +17,13 @@ use Rattle.ttree.specs.Decides.{Decides}
 use Rattle.ttree.proofs.Parts.{IsOrdered-front, IsOrdered-middle, IsOrdered-back}
 use Rattle.ttree.proofs.Sought.{none_from_left, none_up_to}
 
--- the entries of a node, of none where there is none
+-- The entries of a node, or none if there is no node.
 abbrev pub entries_of : Option Root → List RowRef
 entries_of None = []
 entries_of (Some node) = node.entries
 
--- The entries found so far lie before the rest, both stand in the whole, and where nothing fits in either nothing fits.
+-- The entries found so far are before the rest, both are contained in the whole, and if nothing matches in either, nothing in the whole
+-- matches.
 pub record Narrows (Covers : RowRef → Type 0) (cmp : RowRef → RowRef → Ordering) (place : RowRef → Ordering) (whole found rest : List RowRef) : Type 0 where
   pub ordered : IsOrdered Covers cmp (found ++ rest)
   pub found_within : (r : RowRef) → Contains found r → Contains whole r
@@ -40,7 +41,7 @@ module _ (Covers : RowRef → Type 0) (cmp : RowRef → RowRef → Ordering) (Re
   parts : IsOrdered Covers cmp ((found ++ left) ++ middle ++ right)
   parts = subst (IsOrdered Covers cmp) (simp append_assoc) was.ordered
 
-  -- where the least entry lies after the place, on the left
+  -- Lemma: if the least entry is after the position, the search continues on the left.
   pub narrows_left : place (get_or middle 0 d) ≡ Greater → Narrows Covers cmp place whole found left
   narrows_left greater = record {
     ordered = IsOrdered-front Covers cmp (found ++ left) middle (IsOrdered-front Covers cmp ((found ++ left) ++ middle) right parts);
@@ -50,7 +51,7 @@ module _ (Covers : RowRef → Type 0) (cmp : RowRef → RowRef → Ordering) (Re
         (IsOrdered-back Covers cmp found (left ++ middle ++ right) was.ordered) d some greater in_left);
   }
 
-  -- else on the right, with the entries in mind
+  -- Lemma: otherwise, the search continues on the right, with the entries of this node.
   pub narrows_right : place (get_or middle 0 d) ≢ Greater → Narrows Covers cmp place whole middle right
   narrows_right not_greater = record {
     ordered = IsOrdered-back Covers cmp (found ++ left) (middle ++ right) (subst (IsOrdered Covers cmp) (append_assoc (found ++ left) middle right) parts);
@@ -65,14 +66,14 @@ module _ (Covers : RowRef → Type 0) (cmp : RowRef → RowRef → Ordering) (Re
         (All-append (λ a. place a ≢ Equal) left middle (All-append_right (λ a. place a ≢ Equal) found left before) in_middle) in_right);
   }
 
--- the order covers the first entry of a root
+-- Lemma: the order covers the first entry of a root.
 pub first_covered : (Covers : RowRef → Type 0) (cmp : RowRef → RowRef → Ordering) (found : List RowRef) (n : Root)
     → IsOrdered Covers cmp (found ++ (in_order n.left ++ n.entries ++ in_order n.right)) → 1 ≤ length n.entries → Covers (first_entry n.entries)
 first_covered Covers cmp found n was some =
     (IsOrdered-middle Covers cmp (in_order n.left) n.entries (in_order n.right)
     (IsOrdered-back Covers cmp found (in_order n.left ++ n.entries ++ in_order n.right) was)).covered 0 _ some
 
--- once nothing is left to be searched, the entries in mind decide, and where there are none nothing fits
+-- Lemmas: at the end of the search, the entries found decide. If there are none, nothing matches.
 module _ (Covers : RowRef → Type 0) (cmp : RowRef → RowRef → Ordering) (place : RowRef → Ordering) (whole : List RowRef) where
   pub decided : (found : Option (Bor Root)) → IfSome found (λ node. 1 ≤ length node.now.entries)
       → Narrows Covers cmp place whole (entries_of (option_copied found)) [] → IfSome found (λ node. Decides Covers cmp place whole node.now.entries)

@@ -1,13 +1,16 @@
--- Edits of a node that leave the tree's shape.
-use Rattle.std.proofs.Common.{◌≡◌, ℕ, suc, ◌-◌, ◌<◌, ◌≤◌, List, [], ◌∷◌, ◌++◌, length, get_or, drop, sym, ap, ◌∙◌, subst, append_assoc}
+-- Lemmas about edits of a node that keep the tree's shape.
+use Rattle.std.proofs.Common.{◌≡◌, ℕ, ◌-◌, ◌<◌, ◌≤◌, List, [], ◌∷◌, ◌++◌, length, get_or, sym, ap, ◌∙◌, subst, append_assoc}
 use Rattle.std.proofs.Common.{length-append, arith}
 use Rattle.std.proofs.lemmas.List.{get_or_default}
 use Rattle.std.proofs.lemmas.List.Edits.{length-insert, length-remove}
 use Rattle.std.proofs.lemmas.Option.{get_or_from_slice_get}
 use Rattle.std.proofs.lemmas.List.Elements.{Contains-append_left, Contains-append_right}
 use Rattle.std.specs.List.{insert, remove}
+use Rattle.std.specs.declared.cmp.Ordering.{Ordering}
 use Rattle.std.specs.Prelude.{Some, Contains, slice_get}
 use Rattle.mm_value.specs.declared.row_ref.RowRef.{RowRef}
+use Rattle.mm_order.specs.Order.{IsOrdered}
+use Rattle.mm_order.specs.Refs.{AddsInOrder}
 use Rattle.ttree_node.specs.Entries.{first_entry}
 use Rattle.ttree_node.specs.Tree.{Tree, Empty, Fork, IsFork, Root, fork, in_order, height_of}
 use Rattle.ttree_node.specs.Paths.{HasRoomAtEnd, HasRoomOnLeft, HasSpareAtEnd, HasSpareOnLeft, tree_at, with_root, with_entries, with_tree, pushed, exchanged}
@@ -16,12 +19,12 @@ use Rattle.ttree_node.specs.declared.slides.Side.{Side}
 use Rattle.ttree_node.specs.declared.slides.Side.TheVariants.{Left, Right}
 use Rattle.ttree_node.proofs.PathLemmas.{in_order-with, in_order_with_tree, height_with_tree, pushed_height, pushed_in_order, popped_height, popped_in_order}
 use Rattle.ttree.specs.Balanced.{IsTTree}
-use Rattle.ttree.specs.Shuffle.{IsShuffle}
+use Rattle.ttree.proofs.Leaves.{fork_of_same_height}
 use Rattle.ttree.proofs.Parts.{moved_least}
-use Rattle.ttree.proofs.Shuffles.{shuffle_none, loses_middle, loses_behind}
+use Rattle.ttree.proofs.Taken.{adds_taken}
 use Rattle.ttree.proofs.Walks.{round_entries}
 
--- a T-tree with another one of the same height at the end of a path
+-- Lemma: a T-tree in which the tree at the end of a path is replaced by one of the same height is a T-tree.
 pub IsTTree-with_tree : (path : List Side) (now t : Tree) → IsTTree t → IsTTree now → height_of now ≡ height_of (tree_at path t)
     → IsTTree (with_tree path now t)
 IsTTree-with_tree [] now t is made same = made
@@ -33,6 +36,7 @@ IsTTree-with_tree (Left ∷ path) now (Fork left entries right) is made same =
       record {
         filled = is.2.filled;
         fits = is.2.fits;
+        full = λ l r. is.2.full (fork_of_same_height left (with_tree path now left) h l) r;
         left_low = omega (arith, is.2.left_low, h);
         right_low = omega (arith, is.2.right_low, h);
       },
@@ -44,12 +48,13 @@ IsTTree-with_tree (Right ∷ path) now (Fork left entries right) is made same =
       record {
         filled = is.2.filled;
         fits = is.2.fits;
+        full = λ l r. is.2.full l (fork_of_same_height right (with_tree path now right) h r);
         left_low = omega (arith, is.2.left_low, h);
         right_low = omega (arith, is.2.right_low, h);
       },
     )
 
--- with one entry more at its end
+-- Lemma: so is a T-tree with one more entry at its end.
 pub IsTTree-pushed : (entry : RowRef) (t : Tree) → IsTTree t → HasRoomAtEnd t → IsTTree (pushed entry t)
 IsTTree-pushed entry Empty is room = tt
 IsTTree-pushed entry (Fork left entries Empty) is room =
@@ -59,6 +64,7 @@ IsTTree-pushed entry (Fork left entries Empty) is room =
       record {
         filled = omega (arith, long);
         fits = omega (arith, long, room);
+        full = λ before after. absurd after;
         left_low = is.2.left_low;
         right_low = is.2.right_low;
       },
@@ -70,12 +76,13 @@ IsTTree-pushed entry (Fork left entries (Fork l es r)) is room =
       record {
         filled = is.2.filled;
         fits = is.2.fits;
+        full = λ before after. is.2.full before tt;
         left_low = omega (arith, is.2.left_low, h);
         right_low = omega (arith, is.2.right_low, h);
       },
     )
 
--- and with one less
+-- Lemma: so is a T-tree with one less entry at its end.
 pub IsTTree-popped : (t : Tree) → IsTTree t → HasSpareAtEnd t → IsTTree (popped t)
 IsTTree-popped Empty is spare = tt
 IsTTree-popped (Fork Empty entries Empty) is spare =
@@ -85,6 +92,7 @@ IsTTree-popped (Fork Empty entries Empty) is spare =
       record {
         filled = omega (arith, short, spare);
         fits = omega (arith, short, is.2.fits);
+        full = λ before after. absurd after;
         left_low = is.2.left_low;
         right_low = is.2.right_low;
       },
@@ -97,6 +105,7 @@ IsTTree-popped (Fork Empty entries (Fork l es r)) is spare =
       record {
         filled = is.2.filled;
         fits = is.2.fits;
+        full = λ before after. absurd before;
         left_low = omega (arith, is.2.left_low, h);
         right_low = omega (arith, is.2.right_low, h);
       },
@@ -108,6 +117,7 @@ IsTTree-popped (Fork (Fork a b c) entries (Fork l es r)) is spare =
       record {
         filled = is.2.filled;
         fits = is.2.fits;
+        full = λ before after. is.2.full tt tt;
         left_low = omega (arith, is.2.left_low, h);
         right_low = omega (arith, is.2.right_low, h);
       },
@@ -117,7 +127,7 @@ room_is_node : (t : Tree) → HasRoomAtEnd t → IsFork t
 room_is_node Empty room = room
 room_is_node (Fork left entries right) room = tt
 
--- a root that exchanges its least entry for another one
+-- Lemma: a root that exchanges its least entry for another one is a T-tree's root.
 pub IsTTree-exchanged : (i : ℕ) (entry : RowRef) (n : Root) → 1 ≤ i → i ≤ length n.entries → IsTTree (fork n) → HasRoomOnLeft (fork n)
     → IsTTree (exchanged i entry (fork n))
 IsTTree-exchanged i entry n above within is room =
@@ -129,12 +139,13 @@ IsTTree-exchanged i entry n above within is room =
       record {
         filled = omega (arith, long);
         fits = omega (arith, long, short, is.2.fits);
+        full = λ l r. omega (arith, long, short, is.2.full (fork_of_same_height n.left (pushed (first_entry n.entries) n.left) h l) r);
         left_low = omega (arith, is.2.left_low, h);
         right_low = omega (arith, is.2.right_low, h);
       },
     )
 
--- has the entry at its place
+-- Lemma: such a root has the new entry in order.
 pub in_order-exchanged : (i : ℕ) (entry : RowRef) (n : Root) → 1 ≤ i → 1 ≤ length n.entries → HasRoomOnLeft (fork n)
     → in_order (exchanged i entry (fork n)) ≡ in_order (with_root (insert n.entries i entry) (fork n))
 in_order-exchanged i entry n above some room =
@@ -152,7 +163,7 @@ in_order-exchanged_at path i entry n t here above some room =
     ∙ ap (λ s. in_order (with_root (insert n.entries i entry) s)) (sym here))
     ∙ sym (in_order-with path (insert n.entries i entry) t)
 
--- a root that borrows the last entry of its left side
+-- Lemma: a root that borrows the last entry of its left side is a T-tree's root.
 pub IsTTree-borrowed : (i : ℕ) (n : Root) → i < length n.entries → IsTTree (fork n) → HasSpareOnLeft (fork n) → IsTTree (borrowed i (fork n))
 IsTTree-borrowed i n inside is spare =
     let h = popped_height n.left in
@@ -163,12 +174,13 @@ IsTTree-borrowed i n inside is spare =
       record {
         filled = omega (arith, long);
         fits = omega (arith, long, short, is.2.fits);
+        full = λ l r. omega (arith, long, short, is.2.full (fork_of_same_height n.left (popped n.left) h l) r);
         left_low = omega (arith, is.2.left_low, h);
         right_low = omega (arith, is.2.right_low, h);
       },
     )
 
--- has lost one entry
+-- Lemma: such a root has lost one entry.
 pub in_order-borrowed : (i : ℕ) (n : Root) → HasSpareOnLeft (fork n) → in_order (borrowed i (fork n)) ≡ in_order (with_root (remove n.entries i) (fork n))
 in_order-borrowed i n spare =
     regroup (in_order (popped n.left)) (end_of n.left) (remove n.entries i) (in_order n.right)
@@ -184,19 +196,21 @@ in_order-borrowed_at path i n t here spare =
     ∙ ap (λ xs. lead path t ++ xs ++ trail path t) (in_order-borrowed i n spare ∙ ap (λ s. in_order (with_root (remove n.entries i) s)) (sym here))
     ∙ sym (in_order-with path (remove n.entries i) t)
 
--- a tree loses what a node loses
-pub loses_at_path : (path : List Side) (i : ℕ) (gone : RowRef) (n : Root) (t : Tree) → tree_at path t ≡ fork n → i < length n.entries
-    → slice_get n.entries i ≡ Some gone → IsShuffle (in_order t) (gone ∷ []) (in_order (with_entries path (remove n.entries i) t))
-loses_at_path path i gone n t here inside is =
-    let made : in_order (with_entries path (remove n.entries i) t)
-    ≡ (lead path t ++ in_order n.left) ++ remove n.entries i ++ (in_order n.right ++ trail path t) =
+-- Lemma: an entry removed from a node is removed from the tree.
+pub loses_at_path : (Covers : RowRef → Type 0) (cmp : RowRef → RowRef → Ordering) (path : List Side) (i : ℕ) (gone : RowRef) (n : Root) (t : Tree)
+    → IsOrdered Covers cmp (in_order t) → tree_at path t ≡ fork n → i < length n.entries → slice_get n.entries i ≡ Some gone
+    → AddsInOrder cmp (in_order (with_entries path (remove n.entries i) t)) gone (in_order t)
+loses_at_path Covers cmp path i gone n t was here inside is =
+    let front : List RowRef = lead path t ++ in_order n.left in
+    let back : List RowRef = in_order n.right ++ trail path t in
+    let whole : in_order t ≡ front ++ n.entries ++ back = round_entries t path n here in
+    let made : in_order (with_entries path (remove n.entries i) t) ≡ front ++ remove n.entries i ++ back =
     in_order-with path (remove n.entries i) t ∙ ap (λ s. lead path t ++ in_order (with_root (remove n.entries i) s) ++ trail path t) here ∙ simp append_assoc in
-    subst (λ xs. IsShuffle xs (gone ∷ []) (in_order (with_entries path (remove n.entries i) t))) (sym (round_entries t path n here))
-    (subst (IsShuffle ((lead path t ++ in_order n.left) ++ n.entries ++ (in_order n.right ++ trail path t)) (gone ∷ [])) (sym made)
-    (loses_middle (gone ∷ []) (lead path t ++ in_order n.left) n.entries (in_order n.right ++ trail path t) (remove n.entries i)
-    (loses_behind n.entries i gone [] (drop (suc i) n.entries) inside is (shuffle_none (drop (suc i) n.entries)))))
+    subst (λ xs. AddsInOrder cmp xs gone (in_order t)) (sym made)
+    (subst (AddsInOrder cmp (front ++ remove n.entries i ++ back) gone) (sym whole)
+    (adds_taken Covers cmp front n.entries back i gone (subst (IsOrdered Covers cmp) whole was) inside is))
 
--- and holds what it holds
+-- Lemma: an entry of a node is an entry of the tree.
 pub held_at_path : (path : List Side) (i : ℕ) (gone : RowRef) (n : Root) (t : Tree) → tree_at path t ≡ fork n → i < length n.entries
     → slice_get n.entries i ≡ Some gone → Contains (in_order t) gone
 held_at_path path i gone n t here inside is =

@@ -1,6 +1,7 @@
 mod Halving
 pub mod Parts
 pub mod Leaves
+pub mod Turning
 pub mod Lowest
 pub mod Meeting
 pub mod Taken
@@ -11,7 +12,5 @@ pub mod Sought
 pub mod Decides
 pub mod Path
 pub mod Reached
-pub mod Shuffles
-pub mod Along
 pub mod Walks
 pub mod InPlace

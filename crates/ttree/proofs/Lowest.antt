@@ -1,4 +1,4 @@
--- Two lowest trees, the left one of as many nodes as the right one or one more, and a root over them.
+-- Lemmas about two lowest trees under a root, where the left one has as many nodes as the right one, or one more.
 use Rattle.std.proofs.Common.{◌≡◌, ℕ, zero, suc, ◌+◌, ◌^◌, ◌<◌, ◌≤◌, max, ⊎_elim, ◌*◌, sym, subst, arith}
 use Rattle.std.proofs.Math.Nat.{pow-suc}
 use Rattle.std.proofs.Math.Pow.{pow_mono}
@@ -6,7 +6,7 @@ use Rattle.std.proofs.lemmas.Bool.{cases_lt}
 use Rattle.ttree.specs.Lowest.{IsLowest}
 
 module _ (l r hl hr : ℕ) (left : IsLowest l hl) (right : IsLowest r hr) (not_fewer : r ≤ l) (one_more : l ≤ r + 1) where
-  -- the left one is as high as the right one or higher
+  -- Lemma: the left one is not lower than the right one.
   pub not_lower : hr ≤ hl
   not_lower =
       ⊎_elim
@@ -16,7 +16,7 @@ module _ (l r hl hr : ℕ) (left : IsLowest l hl) (right : IsLowest r hr) (not_f
       (λ (h : hr ≤ hl). h)
       (cases_lt hl hr)
 
-  -- by at most one level
+  -- Lemma: the left one is at most one level higher.
   pub one_level : hl ≤ hr + 1
   one_level =
       ⊎_elim
@@ -26,12 +26,12 @@ module _ (l r hl hr : ℕ) (left : IsLowest l hl) (right : IsLowest r hr) (not_f
       (λ (h : hl ≤ hr + 1). h)
       (cases_lt (hr + 1) hl)
 
-  -- the power of two for a height that is not 0 is even
+  -- Lemma: the power of two for a height that is not 0 is even.
   below : (h : ℕ) → IsLowest l h → 2 ^ suc h ≤ 2 * (l + r + 1) + 1
   below zero is = omega (arith, is.0, is.1)
   below (suc k) is = omega (arith, is.0, is.1, pow-suc 2 k, pow-suc 2 (suc k))
 
-  -- the whole is as low as can be
+  -- Lemma: the tree under the root is a lowest one.
   pub IsLowest-root : IsLowest (l + r + 1) (max hl hr + 1)
   IsLowest-root =
       let height : max hl hr + 1 ≡ suc hl = omega (arith, not_lower) in

@@ -1,4 +1,4 @@
--- Where no entry of a root meets the range between two probes, all that does lies on one of its sides.
+-- Lemmas: if no entry of a root is in the range between two probes, all entries in the range are on one of its sides.
 use Rattle.std.proofs.Common.{◌≡◌, ◌-◌, ◌++◌, List, [], length, ap, ◌∙◌, arith}
 use Rattle.std.proofs.lemmas.List.{append-nil}
 use Rattle.std.proofs.lemmas.List.Elements.{filter-append}
@@ -28,7 +28,7 @@ module _ (Covers : RowRef → Type 0) (cmp : RowRef → RowRef → Ordering) (Re
   parts = filter-append (is_between low high) (left ++ n.entries) right
       ∙ ap (λ l. l ++ between right) (filter-append (is_between low high) left n.entries)
 
-  -- Where the last entry lies before the range, that is the right side.
+  -- Lemma: if the last entry is before the range, that is the right side.
   pub behind_root : low (last_entry n.entries) ≡ Less → between (in_order (fork n)) ≡ between right
   behind_root last =
       let none = none_from_low low high n.entries is_low.balanced.2.filled (risen Covers cmp ReachesLow low n is_low)
@@ -39,7 +39,7 @@ module _ (Covers : RowRef → Type 0) (cmp : RowRef → RowRef → Ordering) (Re
       let nothing = nothing_left Covers cmp left n.entries right is_low.ordered is_low.balanced.2.filled _ ReachesLow low is_low.monotone first high in
       parts ∙ (λ i. nothing i ++ none i ++ between right)
 
-  -- Where the first entry lies behind the range, it is the left side.
+  -- Lemma: if the first entry is after the range, that is the left side.
   pub before_root : high (first_entry n.entries) ≡ Greater → between (in_order (fork n)) ≡ between left
   before_root first =
       let none = none_to_high low high n.entries is_low.balanced.2.filled (risen Covers cmp ReachesLow low n is_low)

@@ -1,4 +1,4 @@
--- An ordered list in three parts, left, middle and right, and where a new reference goes in it.
+-- Lemmas about an ordered list in three parts, left, middle and right, and the position of a new reference.
 use Rattle.std.proofs.Common.{◌≡◌, ◌≢◌, ℕ, zero, suc, ◌+◌, ◌-◌, ◌<◌, ◌≤◌, List, [], ◌∷◌, ◌++◌, length, get_or, take, drop, refl, sym, ap, ◌∙◌, subst, ⊎_elim}
 use Rattle.std.proofs.Common.{arith, append_assoc, length-append, length-take, length-drop}
 use Rattle.std.proofs.lemmas.Bool.{cases_lt}
@@ -17,7 +17,7 @@ regroup : (a b c d : List RowRef) → (a ++ b) ++ (c ++ d) ≡ a ++ (b ++ c) ++ 
 regroup a b c d = simp append_assoc
 
 module _ (Covers : RowRef → Type 0) (cmp : RowRef → RowRef → Ordering) where
-  -- the parts of an ordered list are ordered
+  -- Lemmas: the parts of an ordered list are ordered.
   pub IsOrdered-front : (xs ys : List RowRef) → IsOrdered Covers cmp (xs ++ ys) → IsOrdered Covers cmp xs
   IsOrdered-front xs ys was = record {
     covered = All-append_left Covers xs ys was.covered;
@@ -36,7 +36,7 @@ module _ (Covers : RowRef → Type 0) (cmp : RowRef → RowRef → Ordering) whe
   pub rest_ordered : (xs ys zs : List RowRef) → IsOrdered Covers cmp (xs ++ ys ++ zs) → IsOrdered Covers cmp (ys ++ zs)
   rest_ordered xs ys zs was = IsOrdered-back xs (ys ++ zs) (subst (IsOrdered Covers cmp) (append_assoc xs ys zs) was)
 
-  -- a reference that is added to nothing
+  -- Lemma: a reference is inserted into the empty list.
   pub adds_alone : (added : RowRef) → AddsInOrder cmp [] added (added ∷ [])
   adds_alone added = record {
     front = [];
@@ -52,7 +52,7 @@ module _ (Covers : RowRef → Type 0) (cmp : RowRef → RowRef → Ordering) whe
     less_from_greater a b in_a in_b e = total.antisymm b a in_b in_a ∙ ap ordering_reverse e
 
     module _ (added : RowRef) (covered : Covers added) (xs : List RowRef) (was : IsOrdered Covers cmp xs) where
-      -- what lies before the first of an ordered list lies before all
+      -- Lemma: a reference before the first of an ordered list is before all.
       pub below_all : cmp added (get_or xs 0 added) ≡ Less → All (λ a. cmp added a ≡ Less) xs
       below_all first zero d within = ap (cmp added) (get_or_default xs 0 d added within) ∙ first
       below_all first (suc k) d within =
@@ -60,7 +60,7 @@ module _ (Covers : RowRef → Type 0) (cmp : RowRef → RowRef → Ordering) whe
           total.trans added (get_or xs 0 d) (get_or xs (suc k) d) covered (was.covered 0 d (omega arith)) (was.covered (suc k) d within) head
           (was.ascending 0 (suc k) d (omega arith) within)
 
-      -- what lies after the last of an ordered list lies after all
+      -- Lemma: a reference after the last of an ordered list is after all.
       pub above_all : cmp (get_or xs (length xs - 1) added) added ≡ Less → All (λ a. cmp a added ≡ Less) xs
       above_all last k d within =
           let tail : cmp (get_or xs (length xs - 1) d) added ≡ Less = ap (λ a. cmp a added) (get_or_default xs (length xs - 1) d added (omega arith)) ∙ last in
@@ -71,7 +71,7 @@ module _ (Covers : RowRef → Type 0) (cmp : RowRef → RowRef → Ordering) whe
           (cases_lt k (length xs - 1))
 
     module _ (middle : List RowRef) (was : IsOrdered Covers cmp middle) (some : 1 ≤ length middle) (added : RowRef) (covered : Covers added) where
-      -- a place behind entries that the new reference comes after is not behind the last, which it does not come after
+      -- Lemma: if the reference is after all entries before a position, but not after the last, the position is not past the end.
       pub below_last : (at : ℕ) → All (λ a. cmp a added ≡ Less) (take at middle) → cmp added (get_or middle (length middle - 1) added) ≢ Greater
           → at < length middle
       below_last at before not_after =
@@ -86,7 +86,7 @@ module _ (Covers : RowRef → Type 0) (cmp : RowRef → RowRef → Ordering) whe
           ∙ ap ordering_reverse less)))
           (cases_lt at (length middle))
 
-    -- a reference added among entries in order, all of which come before some others in order
+    -- Lemma: a reference is inserted into an ordered list before another ordered list.
     pub adds_before : (left middle right : List RowRef) → IsOrdered Covers cmp (middle ++ right) → 1 ≤ length middle → (added : RowRef) → Covers added
         → (more : List RowRef) → cmp added (get_or middle 0 added) ≡ Less → AddsInOrder cmp left added more
         → AddsInOrder cmp (left ++ middle ++ right) added (more ++ middle ++ right)
@@ -108,7 +108,7 @@ module _ (Covers : RowRef → Type 0) (cmp : RowRef → RowRef → Ordering) whe
         let place : length (left ++ middle) - 1 ≡ length left + (length middle - 1) = omega (arith, length-append left middle) in
         ap (λ n. get_or (left ++ middle) n added) place ∙ get_or-append-add left middle (length middle - 1) added
 
-    -- a reference added among entries in order, all of which come after some others in order
+    -- Lemma: a reference is inserted into an ordered list after another ordered list.
     pub adds_after : (left middle right : List RowRef) → IsOrdered Covers cmp (left ++ middle) → 1 ≤ length middle → (added : RowRef) → Covers added
         → (more : List RowRef) → cmp added (get_or middle (length middle - 1) added) ≡ Greater → AddsInOrder cmp right added more
         → AddsInOrder cmp (left ++ middle ++ right) added (left ++ middle ++ more)
@@ -129,18 +129,18 @@ module _ (Covers : RowRef → Type 0) (cmp : RowRef → RowRef → Ordering) whe
 
     module _ (left middle right : List RowRef) (was : IsOrdered Covers cmp (left ++ middle ++ right)) (some : 1 ≤ length middle) (added : RowRef)
         (covered : Covers added) where
-      -- before the middle
+      -- Lemma: a reference is inserted before the middle.
       pub adds_left : (more : List RowRef) → cmp added (get_or middle 0 added) ≡ Less → AddsInOrder cmp left added more
           → AddsInOrder cmp (left ++ middle ++ right) added (more ++ middle ++ right)
       adds_left = adds_before left middle right (IsOrdered-back left (middle ++ right) (subst (IsOrdered Covers cmp) (append_assoc left middle right) was)) some
           added covered
 
-      -- after the middle
+      -- Lemma: a reference is inserted after the middle.
       pub adds_right : (more : List RowRef) → cmp added (get_or middle (length middle - 1) added) ≡ Greater → AddsInOrder cmp right added more
           → AddsInOrder cmp (left ++ middle ++ right) added (left ++ middle ++ more)
       adds_right = adds_after left middle right (IsOrdered-front (left ++ middle) right was) some added covered
 
-      -- inside the middle
+      -- Lemma: a reference is inserted inside the middle.
       pub adds_between : (at : ℕ) → 1 ≤ at → at < length middle → All (λ a. cmp a added ≡ Less) (take at middle)
           → All (λ a. cmp a added ≡ Greater) (drop at middle) → AddsInOrder cmp (left ++ middle ++ right) added (left ++ insert middle at added ++ right)
       adds_between at above_first below_last before after =
@@ -169,7 +169,7 @@ module _ (Covers : RowRef → Type 0) (cmp : RowRef → RowRef → Ordering) whe
                 (less_from_greater (get_or back 0 added) added first_covered covered first_after);
           }
 
--- among the last entries of an ordered list, or behind them
+-- Lemma: a reference is inserted among the last entries of an ordered list, or after them.
 module _ (Covers : RowRef → Type 0) (cmp : RowRef → RowRef → Ordering) (total : IsTotalOrderOn Covers cmp) (left middle : List RowRef)
     (was : IsOrdered Covers cmp (left ++ middle)) (added : RowRef) (covered : Covers added) where
   pub adds_behind : (at : ℕ) → 1 ≤ at → at ≤ length middle → All (λ a. cmp a added ≡ Less) (take at middle) → All (λ a. cmp a added ≡ Greater) (drop at middle)
@@ -200,7 +200,7 @@ moved left (m ∷ ms) zero least added above_first some is = absurd (omega arith
 moved left (m ∷ ms) (suc n) least added above_first some is =
     let e : suc n - 1 ≡ n = omega arith in rw (e, append_assoc) (ap (λ a. left ++ a ∷ (take n ms ++ added ∷ drop n ms)) (sym is))
 
--- the least entry moved to the left, the new one put among the others
+-- Lemma: moving the least entry to the left and inserting the new one among the others inserts the new one.
 pub moved_least : (left middle : List RowRef) (at : ℕ) (least added : RowRef) → 1 ≤ at → 1 ≤ length middle → get_or middle 0 least ≡ least
     → left ++ least ∷ [] ++ insert (remove middle 0) (at - 1) added ≡ left ++ insert middle at added
 moved_least left middle at least added above_first some is = moved left middle at least added above_first some is

@@ -1,4 +1,4 @@
--- What a probe can be asked at a root that can be searched by it, and how its answers rise.
+-- Lemmas about a root in a search by a probe: which entries the probe covers, and how its results increase.
 use Rattle.std.proofs.Common.{◌-◌, ◌++◌, length, get_or, arith}
 use Rattle.std.specs.List.{All}
 use Rattle.std.specs.List.Sorted.{IsNonDecreasingBy}
@@ -14,11 +14,11 @@ use Rattle.ttree.proofs.Parts.{IsOrdered-front, IsOrdered-middle, IsOrdered-back
 
 module _ (Covers : RowRef → Type 0) (cmp : RowRef → RowRef → Ordering) (Reaches : RowRef → Type 0) (place : RowRef → Ordering) (n : Root)
     (is : IsSearchable Covers cmp Reaches place (fork n)) where
-  -- the root's entries are in order
+  -- Lemma: the root's entries are ordered.
   pub root_ordered : IsOrdered Covers cmp n.entries
   root_ordered = IsOrdered-middle Covers cmp (in_order n.left) n.entries (in_order n.right) is.ordered
 
-  -- the probe reaches each of them
+  -- Lemma: the probe covers each of them.
   pub reached : All Reaches n.entries
   reached k d within = is.monotone.reaches (get_or n.entries k d) (root_ordered.covered k d within)
 
@@ -28,11 +28,11 @@ module _ (Covers : RowRef → Type 0) (cmp : RowRef → RowRef → Ordering) (Re
   pub reached_last : Reaches (last_entry n.entries)
   reached_last = reached (length n.entries - 1) (record { slot = 0 }) (omega (arith, is.balanced.2.filled))
 
-  -- its places rise along them
+  -- Lemma: its results are non-decreasing along them.
   pub risen : IsNonDecreasingBy (λ a. ordering_index (place a)) n.entries
   risen = IsNonDecreasingBy-places Covers cmp n.entries root_ordered Reaches place is.monotone
 
-  -- its sides can be searched too
+  -- Lemma: both sides of the root can be searched too.
   pub left_searchable : IsSearchable Covers cmp Reaches place n.left
   left_searchable = record {
     balanced = is.balanced.0;

@@ -1,10 +1,11 @@
--- How many entries and nodes a T-tree has for its height.
-use Rattle.std.proofs.Common.{◌≡◌, ℕ, zero, suc, ◌+◌, ◌-◌, ◌*◌, ◌^◌, ◌<◌, ◌≤◌, max, length, ◌++◌, ⊎_elim, refl, subst, arith, length-append}
+-- Lemmas about the number of entries and nodes of a T-tree of a given height.
+use Rattle.std.proofs.Common.{◌≡◌, ℕ, zero, suc, ◌+◌, ◌-◌, ◌*◌, ◌^◌, ◌<◌, ◌≤◌, max, length, [], ◌++◌, ⊎_elim, refl, subst, arith, length-append}
 use Rattle.std.proofs.lemmas.Bool.{cases_lt}
 use Rattle.ttree_node.specs.Tree.{Tree, Empty, Fork, in_order, height_of, node_count}
 use Rattle.ttree.specs.Balanced.{IsTTree}
+use Rattle.ttree.proofs.Leaves.{one_node}
 
--- no more than 16 entries for each node
+-- Lemma: there are at most 16 entries per node.
 pub entries_at_most : (t : Tree) → IsTTree t → length (in_order t) ≤ 16 * node_count t
 entries_at_most Empty is = omega arith
 entries_at_most (Fork left entries right) is =
@@ -17,7 +18,7 @@ entries_at_most (Fork left entries right) is =
       length-append (in_order left) entries,
     )
 
--- at least one entry for each node
+-- Lemma: there is at least one entry per node.
 pub nodes_at_most : (t : Tree) → IsTTree t → node_count t ≤ length (in_order t)
 nodes_at_most Empty is = omega arith
 nodes_at_most (Fork left entries right) is =
@@ -30,7 +31,39 @@ nodes_at_most (Fork left entries right) is =
       length-append (in_order left) entries,
     )
 
--- the fewest nodes of a balanced tree of height h, and of height h + 1: one more than those of the two heights before
+-- Lemma: there are at least five entries per node, minus 8, since an internal node has at least 14.
+pub nodes_by_entries : (t : Tree) → IsTTree t → 5 * node_count t ≤ length (in_order t) + 8
+nodes_by_entries Empty is = omega arith
+nodes_by_entries (Fork Empty entries right) is =
+    omega (
+      arith,
+      one_node right (omega (arith, is.2.right_low)),
+      nodes_at_most right is.1,
+      is.2.filled,
+      length-append ([] ++ entries) (in_order right),
+      length-append [] entries,
+    )
+nodes_by_entries (Fork (Fork l es r) entries Empty) is =
+    let left : Tree = Fork l es r in
+    omega (
+      arith,
+      one_node left (omega (arith, is.2.left_low)),
+      nodes_at_most left is.0,
+      is.2.filled,
+      length-append (in_order left ++ entries) [],
+      length-append (in_order left) entries,
+    )
+nodes_by_entries (Fork (Fork l es r) entries (Fork l' es' r')) is =
+    omega (
+      arith,
+      nodes_by_entries (Fork l es r) is.0,
+      nodes_by_entries (Fork l' es' r') is.1,
+      is.2.full tt tt,
+      length-append (in_order (Fork l es r) ++ entries) (in_order (Fork l' es' r')),
+      length-append (in_order (Fork l es r)) entries,
+    )
+
+-- The fewest nodes of a balanced tree of height h, and of height h + 1: one more than the sum for the two heights before.
 abbrev pub fewest : ℕ → ℕ × ℕ
 fewest zero = (0, 1)
 fewest (suc h) = let p : ℕ × ℕ = fewest h in (p.1, p.0 + p.1 + 1)
@@ -44,7 +77,7 @@ fewest_above h zero = let e : 0 + h ≡ h = omega arith in rw e (omega arith)
 fewest_above h (suc k) =
     let e : suc k + h ≡ suc (k + h) = omega arith in rw e (omega (arith, fewest_above h k, fewest_rises (k + h)))
 
--- two balanced sides and a root over them
+-- Lemma: the fewest nodes of a root over two balanced sides.
 fewest_over : (m l r in_l in_r : ℕ) → m ≡ max l r → l ≤ r + 1 → r ≤ l + 1 → (fewest l).0 ≤ in_l → (fewest r).0 ≤ in_r → (fewest m).1 ≤ in_l + in_r + 1
 fewest_over zero l r in_l in_r highest left_low right_low left right = omega arith
 fewest_over (suc k) l r in_l in_r highest left_low right_low left right =
@@ -62,7 +95,7 @@ fewest_over (suc k) l r in_l in_r highest left_low right_low left right =
     (cases_lt r (suc k)))
     (cases_lt l (suc k))
 
--- a T-tree has at least so many nodes
+-- Lemma: a T-tree has at least the fewest nodes of its height.
 pub fewest_at_most : (t : Tree) → IsTTree t → (fewest (height_of t)).0 ≤ node_count t
 fewest_at_most Empty is = omega arith
 fewest_at_most (Fork left entries right) is =
@@ -70,7 +103,7 @@ fewest_at_most (Fork left entries right) is =
     rw e (fewest_over (max (height_of left) (height_of right)) (height_of left) (height_of right) (node_count left)
     (node_count right) refl is.2.left_low is.2.right_low (fewest_at_most left is.0) (fewest_at_most right is.1))
 
--- so 1,048,576 entries stand within height 28
+-- Lemma: a T-tree of at most 1,048,576 entries has a height of at most 28.
 pub height_at_most_28 : (t : Tree) → IsTTree t → length (in_order t) ≤ 1048576 → height_of t ≤ 28
 height_at_most_28 t is few =
     ⊎_elim
@@ -81,17 +114,17 @@ height_at_most_28 t is few =
     absurd (omega (arith, fewest_at_most t is, nodes_at_most t is)))
     (cases_lt (height_of t) 29)
 
--- two levels more have at least twice as many nodes
+-- Lemma: two more levels need at least twice as many nodes.
 doubled : (h : ℕ) → 2 * (fewest h).0 ≤ (fewest (h + 2)).0
 doubled h = let e : h + 2 ≡ suc (suc h) = omega arith in rw e (omega (arith, fewest_rises h))
 
--- and eight levels more at least 16 times
+-- Lemma: eight more levels need at least 16 times as many nodes.
 sixteenfold : (h : ℕ) → 16 * (fewest h).0 ≤ (fewest (h + 8)).0
 sixteenfold h =
     let e : h + 2 + 2 + 2 + 2 ≡ h + 8 = omega arith in
     rw (← e) (omega (arith, doubled h, doubled (h + 2), doubled (h + 2 + 2), doubled (h + 2 + 2 + 2)))
 
--- from height 53 on there are more than 2^31 nodes
+-- Lemma: from height 53 on, there are more than 2^31 nodes.
 many_above : (h : ℕ) → 53 ≤ h → 2 ^ 31 < (fewest h).0
 many_above h high =
     let e : (h - 53) + 29 ≡ h - 24 = omega arith in
@@ -100,7 +133,7 @@ many_above h high =
     subst (λ n. 2 ^ 31 < (fewest n).0) e'
     (omega (arith, first, sixteenfold (h - 24), sixteenfold ((h - 24) + 8), sixteenfold ((h - 24) + 8 + 8)))
 
--- so 2^31 nodes stand within height 52
+-- Lemma: a T-tree of at most 2^31 nodes has a height of at most 52.
 pub height_at_most_52 : (t : Tree) → IsTTree t → node_count t ≤ 2 ^ 31 → height_of t ≤ 52
 height_at_most_52 t is few =
     ⊎_elim

@@ -1,4 +1,4 @@
--- Where nothing fits a probe along an ordered list of three parts.
+-- Lemmas: when nothing matches a probe in an ordered list of three parts.
 use Rattle.std.proofs.Common.{◌≡◌, ◌≢◌, ℕ, ◌+◌, ◌-◌, ◌<◌, ◌≤◌, List, ◌++◌, length, get_or, take, drop, ⊎_elim, sym, ap, ◌∙◌, subst, arith, length-append}
 use Rattle.std.proofs.Common.{length-take, length-drop}
 use Rattle.std.specs.Prelude.{Option, Some, None, IfNone}
@@ -23,7 +23,7 @@ module _ (Covers : RowRef → Type 0) (cmp : RowRef → RowRef → Ordering) (Re
   inside : (i : ℕ) → i < length middle → get_or (left ++ middle ++ right) (length left + i) d ≡ get_or middle i d
   inside i within = get_or_append_left (left ++ middle) right d (length left + i) (omega (arith, length-append left middle)) ∙ get_or-append-add left middle i d
 
-  -- from an entry of the middle on that lies after the place nothing fits
+  -- Lemma: from an entry of the middle on that is after the position, nothing matches.
   none_after : (i : ℕ) → i < length middle → place (get_or middle i d) ≡ Greater → (k : ℕ) (e : RowRef) → length left + i ≤ k
       → k < length (left ++ middle ++ right) → place (get_or (left ++ middle ++ right) k e) ≢ Equal
   none_after i within greater k e above below equal =
@@ -33,7 +33,7 @@ module _ (Covers : RowRef → Type 0) (cmp : RowRef → RowRef → Ordering) (Re
       (omega (arith, length-append (left ++ middle) right, length-append left middle)) there k e above below in
       cc
 
-  -- up to an entry of the middle that lies before the place nothing fits
+  -- Lemma: up to an entry of the middle that is before the position, nothing matches.
   none_before : (i : ℕ) → i < length middle → place (get_or middle i d) ≡ Less → (k : ℕ) (e : RowRef) → k ≤ length left + i
       → place (get_or (left ++ middle ++ right) k e) ≢ Equal
   none_before i within less k e below equal =
@@ -43,7 +43,7 @@ module _ (Covers : RowRef → Type 0) (cmp : RowRef → RowRef → Ordering) (Re
       (omega (arith, length-append (left ++ middle) right, length-append left middle)) there k e (omega arith) (omega arith) in
       cc
 
-  -- the least of the middle lies after the place, and nothing on the left fits
+  -- Lemma: if the least of the middle is after the position and nothing on the left matches, nothing matches.
   pub none_from_left : 1 ≤ length middle → place (get_or middle 0 d) ≡ Greater → All (λ a. place a ≢ Equal) left
       → All (λ a. place a ≢ Equal) (left ++ middle ++ right)
   none_from_left some greater in_left k e within =
@@ -55,14 +55,14 @@ module _ (Covers : RowRef → Type 0) (cmp : RowRef → RowRef → Ordering) (Re
       (λ (past : length left ≤ k). none_after 0 some greater k e (omega arith) within)
       (cases_lt k (length left))
 
-  -- the least of the middle lies before the place, so nothing on the left fits
+  -- Lemma: if the least of the middle is before the position, nothing on the left matches.
   pub none_up_to : 1 ≤ length middle → place (get_or middle 0 d) ≡ Less → All (λ a. place a ≢ Equal) left
   none_up_to some less k e within =
       let is : get_or (left ++ middle ++ right) k e ≡ get_or left k e = get_or_append_left (left ++ middle) right e k (omega (arith, length-append left middle))
       ∙ get_or_append_left left middle e k within in
       subst (λ x. place x ≢ Equal) is (none_before 0 some less k e (omega arith))
 
--- entries before a place of which lie before the probe's, and those behind after it, do not fit
+-- Lemma: if all entries below an index are before the position of the probe, and the others after it, none matches.
 pub none_around : (place : RowRef → Ordering) (entries : List RowRef) (at : ℕ) → at ≤ length entries → All (λ a. place a ≡ Less) (take at entries)
     → All (λ a. place a ≡ Greater) (drop at entries) → All (λ a. place a ≢ Equal) entries
 none_around place entries at bound before after k e within equal =
@@ -77,7 +77,7 @@ none_around place entries at bound before after k e within equal =
     cc)
     (cases_lt k at)
 
--- what always holds holds where there is nothing
+-- Lemma: a fact holds in particular if there is no value.
 pub IfNone-always : {X : Type 0} (o : Option X) (P : Type 0) → P → IfNone o P
 IfNone-always None P p = p
 IfNone-always (Some x) P p = tt

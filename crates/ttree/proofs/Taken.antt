@@ -1,9 +1,9 @@
--- A reference taken out of an ordered list, or not found in it.
-use Rattle.std.proofs.Common.{◌≡◌, ◌≢◌, Bool, true, false, ℕ, suc, ◌+◌, ◌-◌, ◌<◌, ◌≤◌, List, [], ◌∷◌, ◌++◌, length, get_or, take, drop, ◌⊎◌, refl, sym, ap}
-use Rattle.std.proofs.Common.{◌∙◌, subst, ⊎_elim, arith, append_assoc, length-take, length-drop}
+-- Lemmas about a reference that is removed from an ordered list, or not found in it.
+use Rattle.std.proofs.Common.{◌≡◌, ◌≢◌, true, eqb, ℕ, suc, ◌-◌, ◌<◌, ◌≤◌, List, [], ◌∷◌, ◌++◌, length, get_or, take, drop, ◌⊎◌, refl, sym, ap}
+use Rattle.std.proofs.Common.{◌∙◌, subst, ⊎_elim, arith, append_assoc}
 use Rattle.std.specs.Prelude.{Some, slice_get, Contains}
-use Rattle.std.proofs.lemmas.Bool.{cases_lt, cases_order}
-use Rattle.std.proofs.lemmas.List.{take-append-drop, append-nil, get_or-take, get_or-drop}
+use Rattle.std.proofs.lemmas.Bool.{eqb-true}
+use Rattle.std.proofs.lemmas.List.{take-append-drop, append-nil}
 use Rattle.std.proofs.lemmas.Option.{get_or_from_slice_get}
 use Rattle.std.proofs.Math.ListN.{drop_of_length-le}
 use Rattle.std.proofs.Math.Seq.{drop-cons}
@@ -14,13 +14,12 @@ use Rattle.std.specs.declared.cmp.Ordering.TheVariants.{Less, Equal, Greater}
 use Rattle.mm_value.specs.declared.row_ref.RowRef.{RowRef}
 use Rattle.mm_order.specs.Order.{IsTotalOrderOn, IsOrdered}
 use Rattle.mm_order.specs.Refs.{AddsInOrder}
-use Rattle.std.specs.Bool.{OnTrue}
 use Rattle.std.proofs.lemmas.List.{get_or_append_left}
 use Rattle.std.proofs.lemmas.List.Elements.{Contains-append_cases}
 use Rattle.ttree.proofs.Parts.{IsOrdered-front, IsOrdered-middle, IsOrdered-back, below_all}
 use Rattle.mm_order.proofs.Pairs.{AllPairs-append_right, AllPairs-append_across}
 
--- the last entry, taken out and put back
+-- Lemma: removing the last entry and appending it again changes nothing.
 pub remove_last-append : (xs : List RowRef) (last : RowRef) → 1 ≤ length xs → slice_get xs (length xs - 1) ≡ Some last
     → remove xs (length xs - 1) ++ last ∷ [] ≡ xs
 remove_last-append xs last some is =
@@ -29,6 +28,10 @@ remove_last-append xs last some is =
     let end : drop n xs ≡ last ∷ [] = drop-cons xs n last (omega arith) ∙ (λ i. get_or_from_slice_get xs n last last is i ∷ none i) in
     ap (λ ys. take n xs ++ ys ++ last ∷ []) none ∙ ap (λ ys. ys ++ last ∷ []) (append-nil (take n xs)) ∙ sym (ap (λ ys. take n xs ++ ys) end)
     ∙ take-append-drop n xs
+
+-- Lemma: references that compare equal by `==` are equal.
+pub same_from_test : (a b : RowRef) → eqb a.slot b.slot ≡ true → a ≡ b
+same_from_test a b e = λ i. record { slot = eqb-true a.slot b.slot e i }
 
 pub self_equal : (o : Ordering) → o ≡ ordering_reverse o → o ≡ Equal
 self_equal Less e = (cc)
@@ -42,41 +45,7 @@ module _ (Covers : RowRef → Type 0) (cmp : RowRef → RowRef → Ordering) (to
   pub itself : cmp gone gone ≡ Equal
   itself = equal_to_itself
 
-  -- between entries that lie before it and entries that lie after it a reference isn't held
-  pub absent_between : (xs : List RowRef) (at : ℕ) → All (λ a. cmp a gone ≡ Less) (take at xs) → All (λ a. cmp a gone ≡ Greater) (drop at xs) → Contains xs gone
-      → ⊥
-  absent_between xs at before after (k, within, is) =
-      let here : cmp (get_or xs k gone) gone ≡ Equal = ap (λ a. cmp a gone) is ∙ equal_to_itself in
-      ⊎_elim
-      (λ (early : k < at).
-      let less : cmp (get_or xs k gone) gone ≡ Less = ap (λ a. cmp a gone) (sym (get_or-take at xs k gone early))
-      ∙ before k gone (omega (arith, length-take at xs)) in
-      cc)
-      (λ (late : at ≤ k).
-      let place : at + (k - at) ≡ k = omega arith in
-      let greater : cmp (get_or xs k gone) gone ≡ Greater = ap (λ a. cmp a gone)
-      (ap (λ n. get_or xs n gone) (sym place) ∙ sym (get_or-drop at xs (k - at) gone)) ∙ after (k - at) gone (omega (arith, length-drop at xs)) in
-      cc)
-      (cases_lt k at)
-
-  -- an entry that compares equal to a held reference is that reference
-  pub equal_is_held : (xs : List RowRef) → IsOrdered Covers cmp xs → (i : ℕ) → i < length xs → cmp (get_or xs i gone) gone ≡ Equal → Contains xs gone
-      → get_or xs i gone ≡ gone
-  equal_is_held xs was i inside equal (k, within, is) =
-      ⊎_elim
-      (λ (same : i ≡ k). ap (λ n. get_or xs n gone) same ∙ is)
-      (λ (apart : (i < k) ⊎ (k < i)).
-      absurd (⊎_elim
-      (λ (early : i < k). let less : cmp (get_or xs i gone) gone ≡ Less = ap (cmp (get_or xs i gone)) (sym is) ∙ was.ascending i k gone early within in cc)
-      (λ (late : k < i).
-      let less : cmp gone (get_or xs i gone) ≡ Less = ap (λ a. cmp a (get_or xs i gone)) (sym is) ∙ was.ascending k i gone late inside in
-      let greater : cmp (get_or xs i gone) gone ≡ Greater = total.antisymm (get_or xs i gone) gone (was.covered i gone inside) covered
-      ∙ ap ordering_reverse less in
-      cc)
-      apart))
-      (cases_order i k)
-
--- a reference in a list of three parts stands in the part on whose side it lies
+-- Lemmas: a reference in a list of three parts is in the part on whose side it compares.
 module _ (Covers : RowRef → Type 0) (cmp : RowRef → RowRef → Ordering) (total : IsTotalOrderOn Covers cmp) (gone : RowRef) (covered : Covers gone)
     (left middle right : List RowRef) (was : IsOrdered Covers cmp (left ++ middle ++ right)) (some : 1 ≤ length middle) where
   rest_was : IsOrdered Covers cmp (middle ++ right)
@@ -101,7 +70,7 @@ module _ (Covers : RowRef → Type 0) (cmp : RowRef → RowRef → Ordering) (to
       let across : All (λ a. All (λ b. cmp a b ≡ Less) middle) left = AllPairs-append_across (λ a b. cmp a b ≡ Less) left middle front_was.ascending in
       ap (λ a. cmp a (get_or middle 0 gone)) (sym h.2) ∙ across h.0 gone h.1 0 gone (omega arith)
 
-  -- what is held on the right lies after the middle
+  -- Lemma: a reference in the right part is after the middle.
   pub after_middle : Contains right gone → cmp gone (get_or middle (length middle - 1) gone) ≡ Greater
   after_middle h =
       let across : All (λ a. All (λ b. cmp a b ≡ Less) right) middle = AllPairs-append_across (λ a b. cmp a b ≡ Less) middle right rest_was.ascending in
@@ -110,7 +79,7 @@ module _ (Covers : RowRef → Type 0) (cmp : RowRef → RowRef → Ordering) (to
       total.antisymm gone greatest covered ((IsOrdered-middle Covers cmp left middle right was).covered (length middle - 1) gone (omega arith))
       ∙ ap ordering_reverse less
 
-  -- what does not lie before the middle is held there or on the right
+  -- Lemma: a reference in the list that is not before the middle is in the middle or in the right part.
   pub contains_from : cmp gone (get_or middle 0 gone) ≢ Less → Contains (left ++ middle ++ right) gone → Contains middle gone ⊎ Contains right gone
   contains_from not_before held =
       ⊎_elim
@@ -118,12 +87,7 @@ module _ (Covers : RowRef → Type 0) (cmp : RowRef → RowRef → Ordering) (to
       (λ (h : Contains (middle ++ right) gone). Contains-append_cases middle right gone h)
       (Contains-append_cases left (middle ++ right) gone (subst (λ xs. Contains xs gone) (append_assoc left middle right) held))
 
--- what holds where a test does
-pub on_true : (b : Bool) (P : Type 0) → b ≡ true → OnTrue b P → P
-on_true true P holds h = h
-on_true false P holds h = (cc)
-
--- an ordered list without one of its references, which stands in the middle of three parts
+-- Lemma: removing a reference of the middle part from an ordered list.
 pub adds_taken : (Covers : RowRef → Type 0) (cmp : RowRef → RowRef → Ordering) (left middle right : List RowRef) (i : ℕ) (gone : RowRef)
     → IsOrdered Covers cmp (left ++ middle ++ right) → i < length middle → slice_get middle i ≡ Some gone
     → AddsInOrder cmp (left ++ remove middle i ++ right) gone (left ++ middle ++ right)

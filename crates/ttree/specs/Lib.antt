@@ -5,5 +5,4 @@ pub mod Held
 pub mod Lowest
 pub mod Path
 pub mod Searchable
-pub mod Shuffle
 pub mod Whole

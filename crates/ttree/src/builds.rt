@@ -1,4 +1,4 @@
-//! A T-tree made from a list at once.
+//! Building a T-tree from a list.
 ghost use Rattle.std.specs.Prelude.{◌≡◌, ◌+◌, ◌*◌, ◌^◌, ◌<◌, ◌≤◌, [], length};
 ghost use Rattle.ttree_node.specs.Tree.{Empty, tree_of, in_order, height_of, node_count};
 ghost use Rattle.ttree.specs.Balanced.{IsTTree};
@@ -7,10 +7,10 @@ ghost use Rattle.ttree.specs.Lowest.{IsLowest};
 use mm_value::RowRef;
 use ttree_node::{Spares, Subtree};
 
-/// How many entries a full node has.
+/// The number of entries of a full node.
 pub(crate) const FULL: usize = 16;
 
-/// A node with these entries, made from a free node.
+/// Returns a node with these entries, made from a free node.
 fn node_of(refs: &[RowRef], spares: &mut Spares) -> Subtree
     requires some { 1 ≤ length refs.now }
     requires at_most_16 { length refs.now ≤ 16 }
@@ -25,9 +25,8 @@ fn node_of(refs: &[RowRef], spares: &mut Spares) -> Subtree
     node
 }
 
-/// The lowest tree of so many nodes, all full but for the last in order, which gets what is left of
-/// the references. The left side has as many nodes as the right one, or one more, so that the sides
-/// of each node differ in height by at most 1.
+/// Returns the lowest tree of `nodes` nodes. All are full, except that the last in order gets the remaining references. The left side has
+/// as many nodes as the right one, or one more, so the heights of the two sides of each node differ by at most 1.
 pub(crate) fn build(refs: &[RowRef], nodes: usize, spares: &mut Spares) -> Option<Subtree>
     requires room { length refs.now ≤ 16 * nodes }
     requires filled { 16 * nodes < length refs.now + 16 }

@@ -1,13 +1,12 @@
-//! Edits that leave the tree's shape.
-ghost use Rattle.std.specs.Prelude.{◌≡◌, ◌≢◌, ◌≤◌, [], ◌∷◌, ◌++◌, length, slice_index_or, All, Contains, IfSome};
+//! Edits that keep the tree's shape.
+ghost use Rattle.std.specs.Prelude.{◌≡◌, ◌≢◌, ◌≤◌, [], ◌++◌, length, slice_index_or, All, Contains, IfSome};
 ghost use Rattle.std.specs.Bool.{OnTrue, OnFalse};
 ghost use Rattle.std.specs.declared.cmp.Ordering.TheVariants.{Less, Equal};
-ghost use Rattle.ttree_node.specs.Tree.{fork, tree_of, in_order, node_count};
+ghost use Rattle.ttree_node.specs.Tree.{IsFork, fork, tree_of, in_order, node_count};
 ghost use Rattle.ttree_node.specs.Paths.{tree_at, trail};
 ghost use Rattle.mm_order.specs.Order.{IsOrdered};
 ghost use Rattle.mm_order.specs.Refs.{AddsInOrder};
 ghost use Rattle.ttree.specs.Balanced.{IsTTree};
-ghost use Rattle.ttree.specs.Shuffle.{IsShuffle};
 
 use crate::inserts::place_among;
 use crate::removes::find_held;
@@ -17,14 +16,15 @@ use mm_order::RefOrder;
 use mm_value::RowRef;
 use ttree_node::{Node, Side, Subtree};
 
-/// So many turns a path has at most; a tree that is deeper is not edited in place.
+/// The maximum length of a path. If the way down is longer, nothing is edited in place.
 const TURNS: usize = 64;
 
 /// The turns of a path.
 pub(crate) type Path = ArrayVec<Side, 64>;
 
-/// The last node on the way down whose first entry the reference does not lie before, by one question a node, and the path to it; none
-/// where the reference lies before all entries. All behind the entries of that node lies behind the reference.
+/// Returns the last node on the way down whose first entry is not after the reference, and appends the turns to it to `path`. Returns
+/// `None` if the reference is before all entries, or if the path is too long. All entries after that node's are after the reference. Makes
+/// one comparison per node.
 pub(crate) fn bounding_path<'a, O: RefOrder>(
     tree: &'a Subtree,
     order: &O,
@@ -60,8 +60,8 @@ pub(crate) fn bounding_path<'a, O: RefOrder>(
     found
 }
 
-/// Puts a reference at its place among the entries of the node that bounds it, where that has room, or where the last node on its left
-/// has room for its least. Says whether it did.
+/// Inserts a reference in order into the node that bounds it, if that has room, or if the last node on its left has room for its least
+/// entry. Returns whether it was inserted.
 fn insert_into_node<O: RefOrder>(root: &mut Subtree, order: &O, added: RowRef) -> bool
     requires tree { IsTTree (fork root.old) }
     requires ordered { IsOrdered (O.covers order.now) (O.cmp order.now) (in_order (fork root.old)) }
@@ -91,7 +91,7 @@ fn insert_into_node<O: RefOrder>(root: &mut Subtree, order: &O, added: RowRef) -
     false
 }
 
-/// Puts a reference at its place in a tree, where the tree's shape stays. Says whether it did.
+/// Inserts a reference in order, if the tree's shape stays the same. Returns whether it was inserted.
 pub(crate) fn insert_in_place<O: RefOrder>(
     tree: &mut Option<Subtree>,
     order: &O,
@@ -112,11 +112,12 @@ pub(crate) fn insert_in_place<O: RefOrder>(
     }
 }
 
-/// Whether a node may lose an entry and be left as it is: a leaf keeps one, an internal node 14, and a half-leaf and its leaf too many
-/// for one node.
+/// Returns whether a node can lose an entry and stay as it is. A leaf keeps one entry, an internal node 14, and a half-leaf and its leaf
+/// together too many for one node.
 fn has_spare(node: &Node) -> bool
     requires { length node.now.entries ≤ 16 }
-    ensures { OnTrue result (2 ≤ length node.now.entries) }
+    ensures some { OnTrue result (2 ≤ length node.now.entries) }
+    ensures full { OnTrue result (IsFork node.now.left → IsFork node.now.right → 15 ≤ length node.now.entries) }
 {
     let len = node.entries().len();
     if len < 2 {
@@ -130,14 +131,14 @@ fn has_spare(node: &Node) -> bool
     }
 }
 
-/// Takes a reference out of the node that bounds it, where the tree's shape stays. Says whether it did.
+/// Removes a reference from the node that bounds it, if the tree's shape stays the same. Returns whether it was removed.
 fn remove_from_node<O: RefOrder>(root: &mut Subtree, order: &O, gone: RowRef) -> bool
     requires tree { IsTTree (fork root.old) }
     requires ordered { IsOrdered (O.covers order.now) (O.cmp order.now) (in_order (fork root.old)) }
     requires covered { O.covers order.now gone }
     ensures tree { IsTTree (fork root.new) }
     ensures nodes { node_count (fork root.new) ≡ node_count (fork root.old) }
-    ensures taken { OnTrue result (IsShuffle (in_order (fork root.old)) (gone ∷ []) (in_order (fork root.new))) }
+    ensures taken { OnTrue result (AddsInOrder (O.cmp order.now) (in_order (fork root.new)) gone (in_order (fork root.old))) }
     ensures held { OnTrue result (Contains (in_order (fork root.old)) gone) }
     ensures kept { OnFalse result (fork root.new ≡ fork root.old) }
 {
@@ -161,25 +162,21 @@ fn remove_from_node<O: RefOrder>(root: &mut Subtree, order: &O, gone: RowRef) ->
     false
 }
 
-/// Takes a reference out of a tree, where it is to go alone and the tree's shape stays. Says whether it did.
+/// Removes a reference, if the tree's shape stays the same. Returns whether it was removed.
 pub(crate) fn remove_in_place<O: RefOrder>(
     tree: &mut Option<Subtree>,
     order: &O,
     gone: RowRef,
-    behind: &[RowRef],
 ) -> bool
     requires tree { IsTTree (tree_of tree.old) }
     requires ordered { IsOrdered (O.covers order.now) (O.cmp order.now) (in_order (tree_of tree.old)) }
     requires covered { O.covers order.now gone }
     ensures tree { IsTTree (tree_of tree.new) }
     ensures nodes { node_count (tree_of tree.new) ≡ node_count (tree_of tree.old) }
-    ensures taken { OnTrue result (IsShuffle (in_order (tree_of tree.old)) (gone ∷ []) (in_order (tree_of tree.new))) }
+    ensures taken { OnTrue result (AddsInOrder (O.cmp order.now) (in_order (tree_of tree.new)) gone (in_order (tree_of tree.old))) }
     ensures held { OnTrue result (Contains (in_order (tree_of tree.old)) gone) }
     ensures kept { OnFalse result (tree_of tree.new ≡ tree_of tree.old) }
 {
-    if !behind.is_empty() {
-        return false;
-    }
     match tree {
         None => false,
         Some(root) => remove_from_node(root, order, gone),

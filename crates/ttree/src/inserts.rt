@@ -4,7 +4,7 @@ ghost use Rattle.std.specs.declared.cmp.Ordering.TheVariants.{Less, Equal, Great
 ghost use Rattle.ttree_node.specs.Tree.{fork, tree_of, in_order, height_of, node_count};
 ghost use Rattle.mm_order.specs.Order.{IsOrdered};
 ghost use Rattle.mm_order.specs.Refs.{AddsInOrder};
-ghost use Rattle.ttree.specs.Balanced.{IsTTree};
+ghost use Rattle.ttree.specs.Balanced.{IsTTree, GrowsFull};
 ghost use Rattle.ttree.specs.Bound.{LiesBelow};
 
 use crate::balance::balance;
@@ -13,8 +13,7 @@ use mm_order::RefOrder;
 use mm_value::RowRef;
 use ttree_node::{Entries, Spares, Subtree};
 
-/// Puts an entry after all others: at the end of the rightmost node, or, where that is full,
-/// into a new right leaf under it.
+/// Inserts an entry after all others: at the end of the rightmost node or, if that is full, in a new right leaf under it.
 pub(crate) fn push_last(tree: Option<Subtree>, entry: RowRef, spares: &mut Spares) -> Subtree
     requires tree { IsTTree (tree_of tree) }
     requires spare { 1 ≤ spares.old }
@@ -25,6 +24,7 @@ pub(crate) fn push_last(tree: Option<Subtree>, entry: RowRef, spares: &mut Spare
     ensures one_spare { spares.old ≤ spares.new + 1 }
     ensures not_lower { height_of (tree_of tree) ≤ height_of (fork result) }
     ensures at_most_one_higher { height_of (fork result) ≤ height_of (tree_of tree) + 1 }
+    ensures full { GrowsFull (tree_of tree) result }
 {
     let Some(mut node) = tree else {
         return Subtree::leaf(spares, entry);
@@ -39,8 +39,7 @@ pub(crate) fn push_last(tree: Option<Subtree>, entry: RowRef, spares: &mut Spare
     balance(node)
 }
 
-/// Puts a reference at its place among the entries of the root or, where that is full, takes the
-/// root's least entry out for it, which then goes after all entries on the left.
+/// Inserts a reference among the entries of the root. If the root is full, its least entry moves after all entries of the left side.
 fn insert_between<O: RefOrder>(
     mut node: Subtree,
     order: &O,
@@ -61,6 +60,7 @@ fn insert_between<O: RefOrder>(
     ensures one_spare { spares.old ≤ spares.new + 1 }
     ensures not_lower { height_of (fork node) ≤ height_of (fork result) }
     ensures at_most_one_higher { height_of (fork result) ≤ height_of (fork node) + 1 }
+    ensures full { GrowsFull (fork node) result }
 {
     let at = place_among(node.entries(), order, added);
     if node.entries().len() < 16 {
@@ -74,7 +74,7 @@ fn insert_between<O: RefOrder>(
     balance(node)
 }
 
-/// Where a reference goes among entries of which it does not lie before the first.
+/// Returns the position for a reference among entries, if the reference is not before the first.
 pub(crate) fn place_among<O: RefOrder>(entries: &Entries, order: &O, added: RowRef) -> usize
     requires ordered { IsOrdered (O.covers order.now) (O.cmp order.now) entries.now }
     requires covered { O.covers order.now added }
@@ -89,7 +89,7 @@ pub(crate) fn place_among<O: RefOrder>(entries: &Entries, order: &O, added: RowR
 {
     let mut low = 0;
     let mut size = entries.len();
-    // The number of turns is fixed, so that they are unrolled: then none has a branch to be guessed.
+    // The number of rounds is fixed, so the loop is unrolled and has no branch to predict.
     for _ in 0..HALVINGS {
         let half = size / 2;
         if order.compare(entries.get(low + half), added).is_lt() {
@@ -100,7 +100,7 @@ pub(crate) fn place_among<O: RefOrder>(entries: &Entries, order: &O, added: RowR
     low + 1
 }
 
-/// Whether a reference lies before a bound. Where there is none it doesn't.
+/// Returns whether a reference is before a bound, `false` if there is no bound.
 fn is_below<O: RefOrder>(order: &O, added: RowRef, bound: Option<RowRef>) -> bool
     requires covered { O.covers order.now added }
     requires bound_covered { IfSome bound (O.covers order.now) }
@@ -112,12 +112,12 @@ fn is_below<O: RefOrder>(order: &O, added: RowRef, bound: Option<RowRef>) -> boo
     }
 }
 
-/// Puts a reference at its place in a tree whose entries lie behind a bound, if there is one. `Err` with the tree as it was where the
-/// reference lies before the bound.
+/// Inserts a reference in order into a tree whose entries are after `bound`, if there is a bound. Returns `Err` with the unchanged tree if
+/// the reference is before the bound.
 ///
-/// It asks one question a node on the way down, whether the reference lies before the node's least entry (Lu, Ng and Tian, ADC 2000).
-/// Under a node of which it does not, the greatest entry of that node is the bound. So it goes into the node that bounds it or, where
-/// none does, into the last node of the path to it, or into a new leaf under that where it is full.
+/// Makes one comparison per node on the way down: whether the reference is before the node's least entry (Lu, Ng and Tian, ADC 2000). If it
+/// is not, the greatest entry of that node is the bound of the right side. The reference is inserted into the node that bounds it. If no
+/// node does, it is inserted into the last node of the path or, if that is full, into a new leaf under it.
 pub(crate) fn insert_into<O: RefOrder>(
     tree: Option<Subtree>,
     order: &O,
@@ -139,6 +139,7 @@ pub(crate) fn insert_into<O: RefOrder>(
     ensures one_spare { spares.old ≤ spares.new + 1 }
     ensures not_lower { IfOk result (λ made. height_of (tree_of tree) ≤ height_of (fork made)) }
     ensures at_most_one_higher { IfOk result (λ made. height_of (fork made) ≤ height_of (tree_of tree) + 1) }
+    ensures full { IfOk result (GrowsFull (tree_of tree)) }
     ensures behind { OnOk result (LiesBelow (O.cmp order.now) added bound → ⊥) }
     ensures below { OnErr result (LiesBelow (O.cmp order.now) added bound) }
     ensures kept { IfErr result (λ kept. tree_of kept ≡ tree_of tree) }

@@ -1,4 +1,4 @@
-//! The references of a tree, one after the other.
+//! An iterator over the references of a tree.
 ghost use Rattle.std.specs.Prelude.{◌≡◌, ◌+◌, ◌≤◌, [], ◌++◌, length, IfSome, IfNone};
 ghost use Rattle.std.specs.Option.{option_copied};
 ghost use Rattle.std.specs.Iterator.{YieldsFirst, item_count};
@@ -13,14 +13,14 @@ use std::iter::FusedIterator;
 use std::marker::Model;
 use ttree_node::{EntryIter, Node};
 
-/// The nodes, from the root downwards, whose entries are to come, each with its right side.
-/// A tree of at most 1,048,576 references has at most 28 levels.
+/// The nodes whose entries come next, from the root downwards, each with its right side. A tree of at most 1,048,576 references has at most
+/// 28 levels.
 type Path<'a> = ArrayVec<Option<&'a Node>, 28>;
 
-/// The references of a tree in order, seen as the list of those that are left.
+/// An iterator over the references of a tree, in order. Its model is the list of the remaining references.
 #[derive(Drop)]
 pub struct Iter<'a> {
-    // Those that are left of a node, whose right side is on the path already.
+    // The remaining entries of a node. Its right side is already on the path.
     entries: EntryIter<'a>,
     path: Path<'a>,
 }
@@ -38,7 +38,7 @@ impl<'a> Model for Iter<'a> {
 }
 
 impl<'a> Iter<'a> {
-    /// All references of a tree of at most 28 levels.
+    /// Returns an iterator over all references of a tree of at most 28 levels.
     pub(crate) fn new(tree: Option<&'a Node>) -> Self
         requires tree { IsTTree (tree_of (option_copied tree)) }
         requires low { height_of (tree_of (option_copied tree)) ≤ 28 }
@@ -71,8 +71,7 @@ impl<'a> Iterator for Iter<'a> {
 
 impl<'a> FusedIterator for Iter<'a> {}
 
-/// Takes the deepest node off the path, puts the left edge of its right side on it, and gives its
-/// entries.
+/// Removes the deepest node from the path, appends the left edge of its right side, and returns the node's entries.
 fn next_entries<'a>(path: &mut Path<'a>) -> Option<EntryIter<'a>>
     requires { IsPath 28 path.old.items }
     ensures path { IsPath 28 path.new.items }
@@ -86,7 +85,7 @@ fn next_entries<'a>(path: &mut Path<'a>) -> Option<EntryIter<'a>>
     Some(node.entries().iter())
 }
 
-/// Puts the left edge of a tree on the path, its root first.
+/// Appends the left edge of a tree to the path, the root first.
 fn descend<'a>(path: &mut Path<'a>, tree: Option<&'a Node>)
     requires path { IsPath 28 path.old.items }
     requires tree { IsTTree (tree_of (option_copied tree)) }

@@ -1,4 +1,4 @@
-//! Look-up by a counted search.
+//! Look-ups by a counted search.
 ghost use Rattle.std.specs.Prelude.{◌≡◌, ◌≢◌, ◌+◌, ◌≤◌, length, All, Contains, IfSome, IfNone};
 ghost use Rattle.std.specs.List.Sorted.{IsNonDecreasingBy};
 ghost use Rattle.std.specs.Ordering.{ordering_index};
@@ -13,7 +13,7 @@ use mm_order::{Probe, RefOrder, Seek};
 use mm_value::RowRef;
 use ttree_node::Node;
 
-/// An entry that fits the probe, by one question a node and seven inside one.
+/// Returns a matching entry, if there is one. Makes at most one comparison per level, and seven inside one node.
 pub(crate) fn find_in<O: RefOrder, P: Probe>(
     tree: Option<&Node>,
     order: &O,
@@ -31,8 +31,8 @@ pub(crate) fn find_in<O: RefOrder, P: Probe>(
     find_fitting(node, seek)
 }
 
-/// The last node on the way down whose first entry does not lie behind the sought place, by one question a node; none where all
-/// entries lie behind it. Where anything fits, an entry of that node does (Lu, Ng and Tian, ADC 2000).
+/// Returns the last node on the way down whose first entry is not after the position sought, or `None` if all entries are after it. If any
+/// entry matches, one of that node does (Lu, Ng and Tian, ADC 2000). Makes one comparison per node.
 fn bounding_node<'a, O: RefOrder, P: Probe>(
     tree: Option<&'a Node>,
     order: &O,
@@ -59,7 +59,7 @@ fn bounding_node<'a, O: RefOrder, P: Probe>(
     found
 }
 
-/// An entry of a node that fits the probe.
+/// Returns a matching entry of a node, if there is one.
 fn find_fitting<P: Probe>(node: &Node, seek: &mut Seek<P>) -> Option<RowRef>
     requires some { 1 ≤ length node.now.entries }
     requires covered { All (P.covers seek.old.probe) node.now.entries }

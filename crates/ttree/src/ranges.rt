@@ -15,9 +15,9 @@ use mm_value::RowRef;
 use std::alloc::AllocError;
 use ttree_node::{Entries, Node};
 
-/// Appends the entries that lie neither before the place of `low` nor after that of `high`.
-/// It goes down to the highest node that meets the range, and from there along its ends.
-/// `AllocError` where memory is refused; then some may have been appended.
+/// Appends the entries that are neither before the position of `low` nor after that of `high`, in order. Descends to the highest node with
+/// an entry in the range, and from there along both ends of the range. Returns `AllocError` if an allocation fails; then some entries may
+/// have been appended.
 pub(crate) fn copy_range_of<O: RefOrder, L: Probe, H: Probe>(
     tree: Option<&Node>,
     order: &O,
@@ -35,8 +35,8 @@ pub(crate) fn copy_range_of<O: RefOrder, L: Probe, H: Probe>(
     copy_between(highest, order, low, high, out)
 }
 
-/// The highest node whose entries meet the range, if there is one: at it and below it lies all that lies in the range. Of each
-/// node above it asks about the last entry and, where that is not before the range, about the first.
+/// Returns the highest node with an entry in the range, or `None`. All entries in the range are in that node and below it. Compares the
+/// last entry of each node on the way and, if that is not before the range, the first.
 fn meeting<'a, O: RefOrder, L: Probe, H: Probe>(
     tree: Option<&'a Node>,
     order: &O,
@@ -65,9 +65,9 @@ fn meeting<'a, O: RefOrder, L: Probe, H: Probe>(
     at
 }
 
-/// Appends the entries that lie neither before the place of `low` nor after that of `high`.
-/// Of a node that lies in the range as a whole it asks about the first and the last entry alone.
-/// `AllocError` where memory is refused; then some may have been appended.
+/// Appends the entries that are neither before the position of `low` nor after that of `high`, in order. Of a node whose entries are all in
+/// the range, compares only the first and the last entry. Returns `AllocError` if an allocation fails; then some entries may have been
+/// appended.
 fn copy_between<O: RefOrder, L: Probe, H: Probe>(
     tree: Option<&Node>,
     order: &O,
@@ -94,8 +94,8 @@ fn copy_between<O: RefOrder, L: Probe, H: Probe>(
     copy_between(right_to(node, order, high), order, low, high, out)
 }
 
-/// Whether all entries of a root lie in the range: the first not before the place of `low`, the
-/// last not after that of `high`.
+/// Returns whether all entries of a root are in the range: the first is not before the position of `low`, and the last is not after that of
+/// `high`.
 fn is_within<O: RefOrder, L: Probe, H: Probe>(node: &Node, order: &O, low: &L, high: &H) -> bool
     requires low { IsSearchable (O.covers order.now) (O.cmp order.now) (L.covers low.now) (L.place_of low.now) (fork node.now) }
     requires high { IsSearchable (O.covers order.now) (O.cmp order.now) (H.covers high.now) (H.place_of high.now) (fork node.now) }
@@ -108,7 +108,7 @@ fn is_within<O: RefOrder, L: Probe, H: Probe>(node: &Node, order: &O, low: &L, h
     high.place(entries.last()).is_le()
 }
 
-/// The left side of a root, where an entry there may not lie before the place of `low`.
+/// Returns the left side of a root, unless all its entries are before the position of `low`.
 fn left_from<'a, O: RefOrder, L: Probe>(node: &'a Node, order: &O, low: &L) -> Option<&'a Node>
     requires { IsSearchable (O.covers order.now) (O.cmp order.now) (L.covers low.now) (L.place_of low.now) (fork node.now) }
     ensures tree { IsTTree (tree_of (option_copied result)) }
@@ -123,7 +123,7 @@ fn left_from<'a, O: RefOrder, L: Probe>(node: &'a Node, order: &O, low: &L) -> O
     node.left()
 }
 
-/// The right side of a root, where an entry there may not lie after the place of `high`.
+/// Returns the right side of a root, unless all its entries are after the position of `high`.
 fn right_to<'a, O: RefOrder, H: Probe>(node: &'a Node, order: &O, high: &H) -> Option<&'a Node>
     requires { IsSearchable (O.covers order.now) (O.cmp order.now) (H.covers high.now) (H.place_of high.now) (fork node.now) }
     ensures tree { IsTTree (tree_of (option_copied result)) }
@@ -138,9 +138,8 @@ fn right_to<'a, O: RefOrder, H: Probe>(node: &'a Node, order: &O, high: &H) -> O
     node.right()
 }
 
-/// Appends those entries of a root that lie in the range. It asks about each of them only where
-/// the range begins or ends among them. `AllocError` where memory is refused; then some may have
-/// been appended.
+/// Appends the entries of a root that are in the range. Compares each of them only if the range begins or ends among them. Returns
+/// `AllocError` if an allocation fails; then some entries may have been appended.
 fn copy_part<O: RefOrder, L: Probe, H: Probe>(
     node: &Node,
     order: &O,
@@ -163,8 +162,8 @@ fn copy_part<O: RefOrder, L: Probe, H: Probe>(
     copy_fitting(entries, low, high, out)
 }
 
-/// Appends those of some entries that lie neither before the place of `low` nor after that of `high`.
-/// `AllocError` where memory is refused; then some may have been appended.
+/// Appends those of the entries that are neither before the position of `low` nor after that of `high`. Returns `AllocError` if an
+/// allocation fails; then some entries may have been appended.
 fn copy_fitting<L: Probe, H: Probe>(
     entries: &Entries,
     low: &L,
@@ -185,7 +184,7 @@ fn copy_fitting<L: Probe, H: Probe>(
     Ok(())
 }
 
-/// Appends all of some entries. `AllocError` where memory is refused; then none was appended.
+/// Appends all entries. Returns `AllocError` if the allocation fails; then nothing was appended.
 fn copy_all(entries: &Entries, out: &mut Vec<RowRef>) -> Result<(), AllocError>
     ensures ok { OnOk result (out.new.items ≡ out.old.items ++ entries.now) }
     ensures err { OnErr result (out.new.items ≡ out.old.items) }

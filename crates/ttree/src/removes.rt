@@ -1,11 +1,11 @@
 //! Removal from a T-tree.
-ghost use Rattle.std.specs.Prelude.{◌≡◌, ◌+◌, ◌-◌, ◌^◌, ◌<◌, ◌≤◌, ◌↔◌, ◌⊎◌, max, [], ◌∷◌, ◌++◌, List, length, take, drop, Contains, IsSome, IfSome, IfNone, Some, slice_get};
-ghost use Rattle.mm_value.specs.declared.row_ref.RowRef.{RowRef as Reference};
-ghost use Rattle.ttree_node.specs.Tree.{Empty, fork, tree_of, in_order, height_of, node_count};
+ghost use Rattle.std.specs.Prelude.{◌≡◌, ◌+◌, ◌^◌, ◌<◌, ◌≤◌, ◌↔◌, ◌⊎◌, max, [], ◌∷◌, ◌++◌, length, Contains, IfSome, IfNone, IsTrue, Some, slice_get};
+ghost use Rattle.std.specs.Bool.{OnFalse, OnTrue};
+ghost use Rattle.ttree_node.specs.Tree.{Empty, IsFork, fork, tree_of, in_order, height_of, node_count};
 ghost use Rattle.ttree_node.specs.Slide.{IsLeaf};
 ghost use Rattle.mm_order.specs.Order.{IsOrdered};
-ghost use Rattle.ttree.specs.Balanced.{IsTTree, IsRootOver, IsMended};
-ghost use Rattle.ttree.specs.Shuffle.{IsShuffle};
+ghost use Rattle.mm_order.specs.Refs.{AddsInOrder};
+ghost use Rattle.ttree.specs.Balanced.{IsTTree, IsRootOver, IsMended, MayTurn};
 
 use crate::balance::{balance, is_leaf};
 use crate::search::{HALVINGS, is_before};
@@ -13,7 +13,7 @@ use mm_order::RefOrder;
 use mm_value::RowRef;
 use ttree_node::{Entries, Spares, Subtree};
 
-/// Merges a half-leaf with its left leaf where both fit into one node.
+/// Merges a half-leaf with its left leaf if both fit into one node.
 fn absorb_left(mut node: Subtree, spares: &mut Spares) -> Subtree
     requires left { IsTTree node.left }
     requires left_leaf { IsLeaf node.left }
@@ -38,7 +38,7 @@ fn absorb_left(mut node: Subtree, spares: &mut Spares) -> Subtree
     node
 }
 
-/// Merges a half-leaf with its right leaf where both fit into one node.
+/// Merges a half-leaf with its right leaf if both fit into one node.
 fn absorb_right(mut node: Subtree, spares: &mut Spares) -> Subtree
     requires right { IsTTree node.right }
     requires right_leaf { IsLeaf node.right }
@@ -63,10 +63,11 @@ fn absorb_right(mut node: Subtree, spares: &mut Spares) -> Subtree
     node
 }
 
-/// Mends a root after one of its sides has lost a level: a half-leaf and its leaf are merged where
-/// they fit, another root is balanced.
+/// Restores the form of a root after one of its sides has lost a level: merges a half-leaf with its leaf if they fit into one node, and
+/// balances any other root.
 fn mend(node: Subtree, spares: &mut Spares) -> Subtree
     requires root { IsRootOver 2 node }
+    requires turns { MayTurn node }
     requires height_fits { height_of (fork node) + 1 < 2 ^ 16 }
     requires pool_fits { node_count (fork node) + spares.old < 2 ^ 32 }
     ensures tree { IsTTree (fork result) }
@@ -84,8 +85,8 @@ fn mend(node: Subtree, spares: &mut Spares) -> Subtree
     }
 }
 
-/// A root with at most one child, from which an entry was taken: freed where it is an empty leaf,
-/// merged with its leaf where both fit.
+/// Restores the form of a root with at most one child after it has lost an entry: frees it if it is an empty leaf, and merges it with its
+/// leaf if both fit into one node.
 #[tactic(auto, using(crate::proofs::Leaves::leaf_from_height))]
 fn settle(node: Subtree, spares: &mut Spares) -> Option<Subtree>
     requires left { IsTTree node.left }
@@ -114,7 +115,7 @@ fn settle(node: Subtree, spares: &mut Spares) -> Option<Subtree>
     }
 }
 
-/// Takes the greatest entry out of a tree.
+/// Removes and returns the greatest entry of a tree.
 fn take_last(mut node: Subtree, spares: &mut Spares) -> (Option<Subtree>, RowRef)
     requires tree { IsTTree (fork node) }
     requires height_fits { height_of (fork node) + 1 < 2 ^ 16 }
@@ -139,14 +140,14 @@ fn take_last(mut node: Subtree, spares: &mut Spares) -> (Option<Subtree>, RowRef
     }
 }
 
-/// A root from which an entry was taken. An internal node that has fewer than 14 entries borrows
-/// the greatest of its left side.
+/// Restores the form of a root after it has lost an entry. An internal node with 13 entries left borrows the greatest of its left side.
 fn refill(mut node: Subtree, spares: &mut Spares) -> Option<Subtree>
     requires left { IsTTree node.left }
     requires right { IsTTree node.right }
     requires left_low { height_of node.left ≤ height_of node.right + 1 }
     requires right_low { height_of node.right ≤ height_of node.left + 1 }
     requires at_most_16 { length node.entries ≤ 16 }
+    requires full { IsFork node.left → IsFork node.right → 13 ≤ length node.entries }
     requires height_fits { height_of (fork node) + 1 < 2 ^ 16 }
     requires pool_fits { node_count (fork node) + spares.old < 2 ^ 32 }
     ensures tree { IsTTree (tree_of result) }
@@ -170,7 +171,7 @@ fn refill(mut node: Subtree, spares: &mut Spares) -> Option<Subtree>
     Some(mend(node, spares))
 }
 
-/// The place of a reference among entries.
+/// Returns the position of a reference among entries, or `None` if it is not there.
 pub(crate) fn find_held<O: RefOrder>(entries: &Entries, order: &O, gone: RowRef) -> Option<usize>
     requires ordered { IsOrdered (O.covers order.now) (O.cmp order.now) entries.now }
     requires covered { O.covers order.now gone }
@@ -182,7 +183,7 @@ pub(crate) fn find_held<O: RefOrder>(entries: &Entries, order: &O, gone: RowRef)
 {
     let mut low = 0;
     let mut size = entries.len();
-    // The number of turns is fixed, so that they are unrolled: then none has a branch to be guessed.
+    // The number of rounds is fixed, so the loop is unrolled and has no branch to predict.
     for _ in 0..HALVINGS {
         let half = size / 2;
         if order.compare(entries.get(low + half), gone).is_le() {
@@ -196,47 +197,22 @@ pub(crate) fn find_held<O: RefOrder>(entries: &Entries, order: &O, gone: RowRef)
     None
 }
 
-/// Takes the first of some references out of a root's entries, as many as stand there from a place on in their order, with others
-/// between them or not, and says how many.
-fn take_along(node: &mut Subtree, start: usize, refs: &[RowRef]) -> usize
-    requires { start ≤ length node.old.entries }
-    ensures few { result ≤ length refs.now }
-    ensures fewer { length node.new.entries ≤ length node.old.entries }
-    ensures taken { (tail : List Reference) × (node.new ≡ record node.old { entries = take start node.old.entries ++ tail })
-        × IsShuffle (drop start node.old.entries) (take result refs.now) tail }
-{
-    let mut kept = 0;
-    let mut count = 0;
-    while kept < node.entries().len() - start && count < refs.len() {
-        if node.entries().get(start + kept) == refs[count] {
-            node.take_entry(start + kept);
-            count += 1;
-        } else {
-            kept += 1;
-        }
-    }
-    count
-}
-
-/// Takes a reference out of a root's entries, and with it the first of some others, as many as stand behind it there in their order, and
-/// says how many of these; none where it was not there.
+/// Removes a reference from a root's entries, and returns whether it was there.
 fn remove_among<O: RefOrder>(
     mut node: Subtree,
     order: &O,
     gone: RowRef,
-    behind: &[RowRef],
     spares: &mut Spares,
-) -> (Option<Subtree>, Option<usize>)
+) -> (Option<Subtree>, bool)
     requires tree { IsTTree (fork node) }
     requires ordered { IsOrdered (O.covers order.now) (O.cmp order.now) (in_order (fork node)) }
     requires covered { O.covers order.now gone }
     requires height_fits { height_of (fork node) + 1 < 2 ^ 16 }
     requires pool_fits { node_count (fork node) + spares.old < 2 ^ 32 }
     ensures tree { IsTTree (tree_of result.0) }
-    ensures held { IsSome result.1 ↔ Contains node.entries gone }
-    ensures few { IfSome result.1 (λ along. along ≤ length behind.now) }
-    ensures taken { IfSome result.1 (λ along. IsShuffle (in_order (fork node)) (gone ∷ take along behind.now) (in_order (tree_of result.0))) }
-    ensures absent { IfNone result.1 (tree_of result.0 ≡ fork node) }
+    ensures held { IsTrue result.1 ↔ Contains node.entries gone }
+    ensures taken { OnTrue result.1 (AddsInOrder (O.cmp order.now) (in_order (tree_of result.0)) gone (in_order (fork node))) }
+    ensures absent { OnFalse result.1 (tree_of result.0 ≡ fork node) }
     ensures nodes { node_count (tree_of result.0) + spares.new ≡ node_count (fork node) + spares.old }
     ensures spares { spares.old ≤ spares.new }
     ensures not_higher { height_of (tree_of result.0) ≤ height_of (fork node) }
@@ -245,55 +221,52 @@ fn remove_among<O: RefOrder>(
     match find_held(node.entries(), order, gone) {
         Some(i) => {
             node.take_entry(i);
-            let along = take_along(&mut node, i, behind);
-            (refill(node, spares), Some(along))
+            (refill(node, spares), true)
         }
-        None => (Some(node), None),
+        None => (Some(node), false),
     }
 }
 
-/// Takes a reference out of a tree, and with it the first of some others, as many as stand behind it in its node in their order, and says
-/// how many of these; none where it was not there. It asks one question a node on the way down, whether the reference lies before the
-/// node's least entry, and searches the nodes where it does not on the way back, until it is found (Lu, Ng and Tian, ADC 2000).
+/// Removes a reference from a tree, and returns whether it was there. Makes one comparison per node on the way down: whether the reference
+/// is before the node's least entry. On the way back, searches the nodes for which it is not, until the reference is found (Lu, Ng and
+/// Tian, ADC 2000).
 pub(crate) fn remove_from<O: RefOrder>(
     tree: Option<Subtree>,
     order: &O,
     gone: RowRef,
-    behind: &[RowRef],
     spares: &mut Spares,
-) -> (Option<Subtree>, Option<usize>)
+) -> (Option<Subtree>, bool)
     requires tree { IsTTree (tree_of tree) }
     requires ordered { IsOrdered (O.covers order.now) (O.cmp order.now) (in_order (tree_of tree)) }
     requires covered { O.covers order.now gone }
     requires height_fits { height_of (tree_of tree) + 1 < 2 ^ 16 }
     requires pool_fits { node_count (tree_of tree) + spares.old < 2 ^ 32 }
     ensures tree { IsTTree (tree_of result.0) }
-    ensures held { IsSome result.1 ↔ Contains (in_order (tree_of tree)) gone }
-    ensures few { IfSome result.1 (λ along. along ≤ length behind.now) }
-    ensures taken { IfSome result.1 (λ along. IsShuffle (in_order (tree_of tree)) (gone ∷ take along behind.now) (in_order (tree_of result.0))) }
-    ensures absent { IfNone result.1 (tree_of result.0 ≡ tree_of tree) }
+    ensures held { IsTrue result.1 ↔ Contains (in_order (tree_of tree)) gone }
+    ensures taken { OnTrue result.1 (AddsInOrder (O.cmp order.now) (in_order (tree_of result.0)) gone (in_order (tree_of tree))) }
+    ensures absent { OnFalse result.1 (tree_of result.0 ≡ tree_of tree) }
     ensures nodes { node_count (tree_of result.0) + spares.new ≡ node_count (tree_of tree) + spares.old }
     ensures spares { spares.old ≤ spares.new }
     ensures not_higher { height_of (tree_of result.0) ≤ height_of (tree_of tree) }
     ensures at_most_one_lower { height_of (tree_of tree) ≤ height_of (tree_of result.0) + 1 }
 {
     let Some(mut node) = tree else {
-        return (None, None);
+        return (None, false);
     };
     if is_before(node.node(), order, gone) {
         let left = node.take_left();
-        let (left, along) = remove_from(left, order, gone, behind, spares);
+        let (left, held) = remove_from(left, order, gone, spares);
         node.set_left(left);
-        if along.is_none() {
-            return (Some(node), None);
+        if !held {
+            return (Some(node), false);
         }
-        return (Some(mend(node, spares)), along);
+        return (Some(mend(node, spares)), true);
     }
     let right = node.take_right();
-    let (right, along) = remove_from(right, order, gone, behind, spares);
+    let (right, held) = remove_from(right, order, gone, spares);
     node.set_right(right);
-    if along.is_none() {
-        return remove_among(node, order, gone, behind, spares);
+    if !held {
+        return remove_among(node, order, gone, spares);
     }
-    (Some(mend(node, spares)), along)
+    (Some(mend(node, spares)), true)
 }

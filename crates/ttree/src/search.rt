@@ -13,7 +13,7 @@ use ttree_node::{Entries, Node};
 /// The number of halvings that reduce the 16 entries of a full node to one.
 pub(crate) const HALVINGS: usize = 4;
 
-/// Returns the position of a matching entry, or else the position at which one would be inserted. Makes at most seven comparisons.
+/// Returns the position of a matching entry, or otherwise the position at which one would be inserted. Makes at most seven comparisons.
 pub(crate) fn search<P: Probe>(seek: &mut Seek<P>, entries: &Entries) -> Result<usize, usize>
     requires some { 1 ≤ length entries.now }
     requires covered { All (P.covers seek.old.probe) entries.now }
@@ -38,8 +38,8 @@ pub(crate) fn search<P: Probe>(seek: &mut Seek<P>, entries: &Entries) -> Result<
 
 /// Returns the start of the quarter in which the search continues, of four quarters of `width` entries from `low` on.
 ///
-/// None of the three comparisons depends on another, so the keys are read from memory at the same time. Where there are fewer entries,
-/// the last one is compared again: this takes no branch.
+/// None of the three comparisons depends on another, so the keys are read from memory at the same time. If there are fewer entries, the
+/// last one is compared again: this takes no branch.
 #[inline]
 fn quarter<P: Probe>(seek: &mut Seek<P>, entries: &Entries, low: usize, width: usize) -> usize
     requires covered { All (P.covers seek.old.probe) entries.now }
@@ -71,7 +71,7 @@ fn quarter<P: Probe>(seek: &mut Seek<P>, entries: &Entries, low: usize, width: u
     start
 }
 
-/// Whether a reference lies before all of a root's entries, by one question.
+/// Returns whether a reference is before all of a root's entries, by one comparison.
 pub(crate) fn is_before<O: RefOrder>(node: &Node, order: &O, sought: RowRef) -> bool
     requires some { 1 ≤ length node.now.entries }
     requires covered_entries { All (O.covers order.now) node.now.entries }

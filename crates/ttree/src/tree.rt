@@ -1,12 +1,11 @@
-//! The T-tree.
-ghost use Rattle.std.specs.Prelude.{◌≡◌, ◌≢◌, ◌+◌, ◌≤◌, ◌↔◌, ◌∷◌, min, [], length, take, All, Contains, IsSome, IfSome, IfNone, IfOk};
+//! The T-tree itself.
+ghost use Rattle.std.specs.Prelude.{◌≡◌, ◌≢◌, ◌+◌, ◌≤◌, min, [], length, All, Contains, IfSome, IfNone, IfOk};
 ghost use Rattle.std.specs.Int.{div_ceil};
 ghost use Rattle.std.specs.Option.{option_copied};
 ghost use Rattle.std.specs.declared.cmp.Ordering.TheVariants.{Equal};
 ghost use Rattle.mm_order.specs.Order.{IsOrdered};
 ghost use Rattle.mm_order.specs.Probe.{IsMonotone};
 ghost use Rattle.ttree.specs.Lowest.{IsLowest};
-ghost use Rattle.ttree.specs.Shuffle.{IsShuffle};
 
 use crate::builds::{FULL, build};
 use crate::in_place::{insert_in_place, remove_in_place};
@@ -21,10 +20,14 @@ use std::alloc::{AllocError, Global};
 use std::marker::Model;
 use ttree_node::{Node, Spares, Subtree};
 
-/// The most nodes, so that the number of nodes fits into 32 bits, and the height into 16. A table has fewer rows, and each node has an entry.
+/// The maximum number of nodes: their number fits into 32 bits, and the height into 16. A table has fewer rows, and each node has an entry.
 const MAX_NODES: usize = 1 << 31;
 
-/// The root of a tree in its place, none where there is no tree.
+/// A tree of n nodes has more than 5 n - 9 entries, since its internal nodes have at least 14. So nodes for that many entries suffice,
+/// whatever shape the tree gets.
+const ENTRIES_PER_NODE: usize = 5;
+
+/// Returns the root of a tree in place, or `None` if the tree is empty.
 #[inline]
 fn root_of(tree: &Option<Subtree>) -> Option<&Node>
     ensures { option_copied result ≡ tree.now }
@@ -35,29 +38,35 @@ fn root_of(tree: &Option<Subtree>) -> Option<&Node>
     }
 }
 
-/// Ordered references in a T-tree: a balanced binary tree whose nodes hold up to 16 references in
-/// order (Lehman and Carey, VLDB 1986). It keeps free nodes, so that an insertion takes no memory.
+/// Ordered references in a T-tree: a balanced binary tree whose nodes hold up to 16 references in order (Lehman and Carey, VLDB 1986),
+/// internal ones 14 to 16. The tree keeps free nodes, so that an insert does not allocate.
 #[derive(Drop)]
 pub struct TTree {
     root: Option<Subtree>,
     spares: Spares,
     len: usize,
+    /// The number of nodes of the tree, free ones included.
+    nodes: usize,
 }
 
 impl Model for TTree {
     ghost use Rattle.ttree_node.specs.Tree.{tree_of, in_order, height_of};
-    ghost use Rattle.ttree.specs.Held.{Held};
+    ghost use Rattle.ttree.specs.Held.{Held, spare_of};
     ghost use Rattle.ttree.specs.Whole.{IsWhole};
 
     ghost Value = { Held };
 
-    ghost view = { λ t. record { refs = in_order (tree_of t.root); height = height_of (tree_of t.root); spare = t.spares } };
+    ghost view = { λ t. record {
+      refs = in_order (tree_of t.root);
+      height = height_of (tree_of t.root);
+      spare = spare_of t.len t.nodes t.spares;
+    } };
 
-    ghost invariant = { λ t. IsWhole (tree_of t.root) t.len t.spares };
+    ghost invariant = { λ t. IsWhole (tree_of t.root) t.len t.nodes t.spares };
 }
 
 impl TTree {
-    /// No references. It takes no memory.
+    /// Returns a tree without references. Allocates nothing.
     pub fn new(alloc: Global) -> TTree
         ensures { result ≡ record { refs = []; height = 0; spare = 0 } }
     {
@@ -65,11 +74,12 @@ impl TTree {
             root: None,
             spares: Spares::new(alloc),
             len: 0,
+            nodes: 0,
         }
     }
 
-    /// A tree of the references of a list that is already in order. It makes no comparison, and its nodes are full but
-    /// for the last. `AllocError` where memory is refused.
+    /// Returns the tree with the references of a sorted list. All its nodes are full, except the last. Makes no comparison. Returns
+    /// `AllocError` if an allocation fails.
     pub fn from_sorted(alloc: Global, refs: &[RowRef]) -> Result<TTree, AllocError>
         ensures refs { IfOk result (λ tree. tree.refs ≡ refs.now) }
         ensures lowest { IfOk result (λ tree. IsLowest (div_ceil (length refs.now) 16) tree.height) }
@@ -85,10 +95,11 @@ impl TTree {
             root,
             spares,
             len: refs.len(),
+            nodes,
         })
     }
 
-    /// The number of nodes on a longest path from the root.
+    /// Returns the number of nodes on a longest path from the root down.
     #[tactic(auto, using(crate::proofs::Sizes::height_at_most_28))]
     pub fn height(&self) -> usize
         ensures height { result ≡ self.now.height }
@@ -100,8 +111,8 @@ impl TTree {
         }
     }
 
-    /// An entry that fits the probe of the search, none where none does. It asks one question a
-    /// node and seven inside one, so at most 35 where the tree has at most 1,048,576 references.
+    /// Returns a matching entry, or `None` if no entry matches. Makes at most one comparison per level and seven more, so at most 35 for up
+    /// to 1,048,576 references.
     #[tactic(auto, using(crate::proofs::Sizes::height_at_most_28))]
     pub fn find<O: RefOrder, P: Probe>(&self, order: &O, seek: &mut Seek<P>) -> Option<RowRef>
         requires ordered { IsOrdered (O.covers order.now) (O.cmp order.now) self.now.refs }
@@ -116,7 +127,7 @@ impl TTree {
         find_in(root_of(&self.root), order, seek)
     }
 
-    /// The references in order, without a copy, of a tree that has at most 1,048,576.
+    /// Iterates over the references in order, without a copy. Requires at most 1,048,576 references.
     #[tactic(auto, using(crate::proofs::Sizes::height_at_most_28))]
     pub fn iter(&self) -> Iter<'_>
         requires { length self.now.refs ≤ 1048576 }
@@ -125,42 +136,31 @@ impl TTree {
         Iter::new(root_of(&self.root))
     }
 
-    /// Removes a reference, and with it as many of the first references in `behind` as follow it in the same node in that order; other
-    /// entries may lie in between. Returns how many of `behind` were removed, or `None` if the reference was absent. So references
-    /// that are given in the order of the tree take a search for each node that they are in, not for each of them.
-    #[tactic(auto, using(crate::proofs::Sizes::height_at_most_52))]
-    pub fn remove_along<O: RefOrder>(
-        &mut self,
-        order: &O,
-        gone: RowRef,
-        behind: &[RowRef],
-    ) -> Option<usize>
-        requires ordered { IsOrdered (O.covers order.now) (O.cmp order.now) self.old.refs }
-        requires covered { O.covers order.now gone }
-        ensures held { IsSome result ↔ Contains self.old.refs gone }
-        ensures few { IfSome result (λ along. along ≤ length behind.now) }
-        ensures taken { IfSome result (λ along. IsShuffle self.old.refs (gone ∷ take along behind.now) self.new.refs) }
-        ensures absent { IfNone result (self.new.refs ≡ self.old.refs) }
-        ensures ordered { IsOrdered (O.covers order.now) (O.cmp order.now) self.new.refs }
+    /// Removes all references. Their nodes become free nodes, so nothing is allocated or freed.
+    pub fn clear(&mut self)
+        ensures empty { self.new ≡ record { refs = []; height = 0; spare = self.new.spare } }
         ensures spare { self.old.spare ≤ self.new.spare }
     {
-        if remove_in_place(&mut self.root, order, gone, behind) {
-            self.len -= 1;
-            return Some(0);
+        if let Some(root) = self.root.take() {
+            root.free_into(&mut self.spares);
         }
-        let (root, along) = remove_from(self.root.take(), order, gone, behind, &mut self.spares);
-        self.root = root;
-        if let Some(along) = along {
-            self.len -= along + 1;
-        }
-        along
+        self.len = 0;
     }
 
-    /// Frees spare nodes until there are at most `n`.
+    /// Frees free nodes until there is capacity for at most `n` more references, or for up to four fewer. So at most `n` free nodes remain.
+    #[tactic(auto, using(crate::proofs::Sizes::nodes_by_entries))]
     pub fn trim_spares(&mut self, n: usize)
-        ensures { self.new ≡ record self.old { spare = min self.old.spare n } }
+        ensures rest { self.new ≡ record self.old { spare = self.new.spare } }
+        ensures few { self.new.spare ≤ n }
+        ensures fewer { self.new.spare ≤ self.old.spare }
+        ensures kept { min self.old.spare n ≤ self.new.spare + 4 }
     {
-        self.spares.trim(n);
+        let free = self.spares.len();
+        let taken = self.nodes - free;
+        let enough = (self.len.saturating_add(n).saturating_add(8)
+            / ENTRIES_PER_NODE).saturating_sub(taken);
+        self.spares.trim(free.min(n).min(enough));
+        self.nodes = taken + self.spares.len();
     }
 }
 
@@ -173,8 +173,10 @@ impl OrderedRefs for TTree {
         self.len
     }
 
+    #[tactic(auto, using(crate::proofs::Sizes::entries_at_most))]
     fn spare(&self) -> usize {
-        self.spares.len()
+        let room = (ENTRIES_PER_NODE * self.nodes).saturating_sub(self.len + 8);
+        self.spares.len().max(room)
     }
 
     #[tactic(auto, using(crate::proofs::Sizes::nodes_at_most))]
@@ -182,13 +184,20 @@ impl OrderedRefs for TTree {
         if n <= self.spare() {
             return Ok(());
         }
-        if self.len.saturating_add(n) > MAX_NODES {
+        let entries = self.len.saturating_add(n);
+        if entries > MAX_NODES {
             return Err(AllocError);
         }
-        self.spares.reserve(alloc, n)
+        let taken = self.nodes - self.spares.len();
+        let enough = (entries + 8)
+            .div_ceil(ENTRIES_PER_NODE)
+            .saturating_sub(taken);
+        let reserved = self.spares.reserve(alloc, n.min(enough));
+        self.nodes = taken + self.spares.len();
+        reserved
     }
 
-    #[tactic(auto, using(crate::proofs::Sizes::height_at_most_52, crate::proofs::Sizes::entries_at_most))]
+    #[tactic(auto, using(crate::proofs::Sizes::height_at_most_52, crate::proofs::Sizes::entries_at_most, crate::proofs::Sizes::nodes_by_entries))]
     fn insert<O: RefOrder>(&mut self, order: &O, added: RowRef) {
         if insert_in_place(&mut self.root, order, added) {
             self.len += 1;
@@ -201,8 +210,18 @@ impl OrderedRefs for TTree {
         self.len += 1;
     }
 
+    #[tactic(auto, using(crate::proofs::Sizes::height_at_most_52))]
     fn remove<O: RefOrder>(&mut self, order: &O, gone: RowRef) -> bool {
-        self.remove_along(order, gone, &[]).is_some()
+        if remove_in_place(&mut self.root, order, gone) {
+            self.len -= 1;
+            return true;
+        }
+        let (root, held) = remove_from(self.root.take(), order, gone, &mut self.spares);
+        self.root = root;
+        if held {
+            self.len -= 1;
+        }
+        held
     }
 
     fn copy_range<O: RefOrder, L: Probe, H: Probe>(

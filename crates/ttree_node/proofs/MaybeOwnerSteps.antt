@@ -1,4 +1,4 @@
--- What the proofs on an owner that may be empty share.
+-- Shared steps of the proofs on `MaybeOwned`.
 use mathlib.Core.Path.{◌≡◌, refl, sym, ap, subst}
 use mathlib.Core.List.{List, [], ◌∷◌, ◌++◌}
 use Prim.Native.Nat.{ℕ, ◌+◌}
@@ -32,18 +32,18 @@ use Rattle.ttree_node.specs.BlockLent.{with_some}
 use Rattle.ttree_node.specs.contracts.owned.MaybeOwned as owner
 use Rattle.ttree_node.proofs.OwnerSteps.{word, may_free, allocator}
 
--- what a `&` to what it holds has can be copied
+-- the rights of a shared reference to the value can be copied
 abbrev pub maybe_shr_laws : (T : RattleType) → RowLaws T → (p : Ptr) (x : Option T.Denot) → ShrLaws (maybe_lends T p x)
 maybe_shr_laws T L p None = said_shr_laws ftrue tt
 maybe_shr_laws T L p (Some d) = lent_at_shr_laws T L p d
 
--- the value that is there
+-- the value, which exists
 pub value_of : {X : Type 0} (x : Option X) → IsSome x → (d : X) × (x ≡ Some d)
 value_of None there = absurd (subst IsTrue (sym there) tt)
 value_of (Some d) there = (d, refl)
 
 module _ (T A : RattleType) (g : Ghosts A.Denot) where
-  -- an owner that may be empty, as a row
+  -- a `MaybeOwned` as a row
   abbrev pub Maybe : RattleType
   Maybe = owner.the_row (param 0 T) (param 1 A) g
 
@@ -55,13 +55,13 @@ module _ (T A : RattleType) (g : Ghosts A.Denot) where
     fields_laws : RowLaws Fields
     fields_laws = Struct-row_laws (shape (owner.the_type (param 0 T) (param 1 A) g)) (ptr_row_laws, ((param_laws 1 A K).shr_laws, tt))
 
-    -- what a `&` to one holds can be copied
+    -- the rights of a shared reference to a `MaybeOwned` can be copied
     pub maybe_laws : RowLaws Maybe
     maybe_laws o b at =
         beside_shr_laws (Fields.shr_at (o.at, (o.alloc, tt)) b at) (maybe_lends (param 0 T) o.at o.value)
         (fields_laws (o.at, (o.alloc, tt)) b at) (maybe_shr_laws (param 0 T) (param_laws 0 T L).shr_laws o.at o.value)
 
-    -- a `&` to the fields shows one to the pointer
+    -- a shared reference to the fields shows one to the pointer
     pub shows_pointer : {M : Type 1} {𝓤 : Ura M} (𝓛 : Logic 𝓤) (κ : Lft) (b at : ℕ) (o : MaybeOwned T.Denot A.Denot)
         → ent 𝓤 (sem 𝓛 (hidden_shr Fields κ (o.at, (o.alloc, tt)) b at))
         (sep 𝓤 (sem 𝓛 (hidden_shr RawPtr κ o.at b (at + 0))) (sem 𝓛 (hidden_shr Fields κ (o.at, (o.alloc, tt)) b at)))
@@ -71,7 +71,7 @@ module _ (T A : RattleType) (g : Ghosts A.Denot) where
 
 module _ (T A : RattleType) (g : Ghosts A.Denot) (K : Laws A) (d dd : Dict) where
   module _ {M : Type 1} {𝓤 : Ura M} {𝓛 : Logic 𝓤} {J : Type 0} {Γ : List (Item 𝓤)} {G : Goal 𝓤 𝓛.H} where
-    -- one with a value taken apart: the value in its block, the right to free that, and what the allocator owns
+    -- a `MaybeOwned` with a value, taken apart: the value in its block, the right to free the block, and what the allocator owns
     pub maybe_out : J → (o : MaybeOwned T.Denot A.Denot) (x : T.Denot) → o.value ≡ Some x → (vs : List Val)
         → ((b at : ℕ) (h : Val) → o.at ≡ block_ptr b at → vs ≡ word h b at ∷ [] → Fits (allocator T A g K d dd) h
         → Seq J 𝓛 (‵ (part_at (param 0 T) full_share x b at) ∷ ‵ (may_free T A g K d dd o.alloc (block_ptr b at)) ∷ ‵
@@ -88,7 +88,7 @@ module _ (T A : RattleType) (g : Ghosts A.Denot) (K : Laws A) (d dd : Dict) wher
         let by_handle = subst (λ (hs : List Val). vs ≡ vstruct (of_list (ptr_val o.at ∷ (hs ++ []))) ∷ []) handle by_pointer in
         k b at h e (subst (λ (p : Ptr). vs ≡ vstruct (of_list (ptr_val p ∷ h ∷ [])) ∷ []) e by_handle) fits)))))
 
-    -- and put together again, at whatever value the block has
+    -- the parts put together again, with any value in the block
     pub maybe_in : J → {h : Val} (o : MaybeOwned T.Denot A.Denot) (x : T.Denot) (b at : ℕ) → o.at ≡ block_ptr b at
         → Step J 𝓛 (‵ ((Maybe T A g).own_val (with_some o x) (word h b at ∷ [])) ∷ Γ) G
         (‵ (part_at (param 0 T) full_share x b at) ∷ ‵ (may_free T A g K d dd o.alloc (block_ptr b at)) ∷ ‵ ((param 1 A).own_val o.alloc (h ∷ [])) ∷ Γ) G
@@ -101,12 +101,12 @@ module _ (T A : RattleType) (g : Ghosts A.Denot) (K : Laws A) (d dd : Dict) wher
         (vptr b at ∷ [], (h ∷ [], tt)) $ fjoin t $ s)
 
   module _ (o : MaybeOwned T.Denot A.Denot) (h : Val) (b at rb ro : ℕ) where
-    -- all of one that lies at (rb, ro) but its value
+    -- all parts of a `MaybeOwned` at (rb, ro) except its value
     abbrev pub Shell : Fml
     Shell = fsep (fsep (may_free T A g K d dd o.alloc (block_ptr b at)) ((param 1 A).own_val o.alloc (h ∷ [])))
         (cell_at full_share (Maybe T A g).mir (word h b at ∷ []) rb ro)
 
-    -- with any value it is one with that value
+    -- with any value, these parts are a `MaybeOwned` with that value
     pub refilled : {M : Type 1} {𝓤 : Ura M} (𝓛 : Logic 𝓤) → o.at ≡ block_ptr b at → (w : T.Denot)
         → ent 𝓤 (sep 𝓤 (sem 𝓛 ((mem (param 0 T)).own_at w b at)) (sem 𝓛 Shell)) (sem 𝓛 ((mem (Maybe T A g)).own_at (with_some o w) rb ro))
     unfolding part_of

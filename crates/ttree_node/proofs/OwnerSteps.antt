@@ -1,4 +1,4 @@
--- What the proofs on an owner of a block share.
+-- Shared steps of the proofs on `Owned`.
 use mathlib.Core.Path.{◌≡◌, refl, sym, ap, subst}
 use mathlib.Core.List.{List, [], ◌∷◌, ◌++◌}
 use Prim.Native.Nat.{ℕ, ◌+◌}
@@ -29,11 +29,11 @@ use Rattle.ttree_node.specs.Block.{block_owns}
 use Rattle.ttree_node.specs.BlockLent.{with_value}
 use Rattle.ttree_node.specs.contracts.owned.Owned as owner
 
--- what a call passes for the two type parameters
+-- the arguments of a call for the two type parameters
 abbrev pub passed : RattleType → RattleType → Dict → Dict → Args
 passed T A d dd = bounded (a_type ∷ a_type ∷ []) (T, (A, tt)) (dcons d (dcons dd dnil))
 
--- what it passes where the value is dropped too
+-- the arguments of a call that also drops the value
 abbrev pub passed_with_drop : RattleType → RattleType → Dict → Dict → Dict → Args
 passed_with_drop T A d dx dd = bounded (a_type ∷ a_type ∷ []) (T, (A, tt)) (dcons d (dcons dx (dcons dd dnil)))
 
@@ -50,13 +50,13 @@ module _ (T A : RattleType) (g : Ghosts A.Denot) where
     fields_laws : RowLaws Fields
     fields_laws = Struct-row_laws (shape (owner.the_type (param 0 T) (param 1 A) g)) (ptr_row_laws, ((param_laws 1 A K).shr_laws, tt))
 
-    -- what a `&` to an owner holds can be copied
+    -- the rights of a shared reference to an owner can be copied
     pub owner_laws : RowLaws Owner
     owner_laws o b at =
         beside_shr_laws (Fields.shr_at (o.at, (o.alloc, tt)) b at) (lent_at (param 0 T) o.at o.value)
         (fields_laws (o.at, (o.alloc, tt)) b at) (lent_at_shr_laws (param 0 T) (param_laws 0 T L).shr_laws o.at o.value)
 
-    -- a `&` to the fields shows one to the pointer
+    -- a shared reference to the fields shows one to the pointer
     pub shows_pointer : {M : Type 1} {𝓤 : Ura M} (𝓛 : Logic 𝓤) (κ : Lft) (b at : ℕ) (o : Owned T.Denot A.Denot)
         → ent 𝓤 (sem 𝓛 (hidden_shr Fields κ (o.at, (o.alloc, tt)) b at))
         (sep 𝓤 (sem 𝓛 (hidden_shr RawPtr κ o.at b (at + 0))) (sem 𝓛 (hidden_shr Fields κ (o.at, (o.alloc, tt)) b at)))
@@ -64,12 +64,12 @@ module _ (T A : RattleType) (g : Ghosts A.Denot) where
         qed 𝓛 (‵ (hidden_shr Fields κ (o.at, (o.alloc, tt)) b at) ∷ []) ∵
         shr_dup ! Fields fields_laws (o.at, (o.alloc, tt)) b at κ $ unhide ! $ fsplit ! $ fsplit ! $ hide ! $ keep ! (0 ∷ 3 ∷ []) $ done !
 
--- the machine value of an owner: its pointer, and its allocator's
+-- the machine value of an owner: its pointer, and its allocator
 abbrev pub word : Val → ℕ → ℕ → Val
 word h b at = vstruct (vcons (vptr b at) (vcons h vnil))
 
 module _ (T A : RattleType) (g : Ghosts A.Denot) (K : Laws A) (d dd : Dict) where
-  -- the allocator, with what a statement assumes of it
+  -- the allocator, with the assumptions of a statement on it
   abbrev pub allocator : Al
   allocator = record { row = A; laws = K; g = g; d = d; drops = dd }
 
@@ -78,7 +78,7 @@ module _ (T A : RattleType) (g : Ghosts A.Denot) (K : Laws A) (d dd : Dict) wher
   may_free a p = g.dealloc_token a (bare (layout T)) p
 
   module _ {M : Type 1} {𝓤 : Ura M} {𝓛 : Logic 𝓤} {J : Type 0} {Γ : List (Item 𝓤)} {G : Goal 𝓤 𝓛.H} where
-    -- an owner taken apart: the value in its block, the right to free that, and what the allocator owns
+    -- an owner, taken apart: the value in its block, the right to free the block, and what the allocator owns
     pub owner_out : J → (o : Owned T.Denot A.Denot) (vs : List Val)
         → ((b at : ℕ) (h : Val) → o.at ≡ block_ptr b at → vs ≡ word h b at ∷ [] → Fits allocator h
         → Seq J 𝓛 (‵ (part_at (param 0 T) full_share o.value b at) ∷ ‵ (may_free o.alloc (block_ptr b at)) ∷ ‵ ((param 1 A).own_val o.alloc (h ∷ [])) ∷ Γ) G)
@@ -93,7 +93,7 @@ module _ (T A : RattleType) (g : Ghosts A.Denot) (K : Laws A) (d dd : Dict) wher
         let by_handle = subst (λ (hs : List Val). vs ≡ vstruct (of_list (ptr_val o.at ∷ (hs ++ []))) ∷ []) handle by_pointer in
         k b at h e (subst (λ (p : Ptr). vs ≡ vstruct (of_list (ptr_val p ∷ h ∷ [])) ∷ []) e by_handle) fits)))))
 
-    -- and put together again, at whatever value the block has
+    -- the parts put together again, with any value in the block
     pub owner_in : J → {h : Val} (o : Owned T.Denot A.Denot) (b at : ℕ) → o.at ≡ block_ptr b at
         → Step J 𝓛 (‵ ((Owner T A g).own_val o (word h b at ∷ [])) ∷ Γ) G
         (‵ (part_at (param 0 T) full_share o.value b at) ∷ ‵ (may_free o.alloc (block_ptr b at)) ∷ ‵ ((param 1 A).own_val o.alloc (h ∷ [])) ∷ Γ) G
@@ -106,12 +106,12 @@ module _ (T A : RattleType) (g : Ghosts A.Denot) (K : Laws A) (d dd : Dict) wher
         (vptr b at ∷ [], (h ∷ [], tt)) $ fjoin t $ s)
 
   module _ (o : Owned T.Denot A.Denot) (h : Val) (b at rb ro : ℕ) where
-    -- all of an owner that lies at (rb, ro) but its value
+    -- all parts of an owner at (rb, ro) except its value
     abbrev pub Shell : Fml
     Shell = fsep (fsep (may_free o.alloc (block_ptr b at)) ((param 1 A).own_val o.alloc (h ∷ [])))
         (cell_at full_share (Owner T A g).mir (word h b at ∷ []) rb ro)
 
-    -- with any value it is an owner of that value
+    -- with any value, these parts are an owner of that value
     pub refilled : {M : Type 1} {𝓤 : Ura M} (𝓛 : Logic 𝓤) → o.at ≡ block_ptr b at → (w : T.Denot)
         → ent 𝓤 (sep 𝓤 (sem 𝓛 ((mem (param 0 T)).own_at w b at)) (sem 𝓛 Shell)) (sem 𝓛 ((mem (Owner T A g)).own_at (with_value o w) rb ro))
     unfolding part_of

@@ -1,4 +1,4 @@
--- What stands where along a path, and what edits at its end leave.
+-- Entries along a path, and the effect of edits at its end.
 use Rattle.std.proofs.Common.{◌≡◌, ℕ, suc, ◌+◌, ◌-◌, ◌≤◌, length, take, drop, arith, List, [], ◌∷◌, ◌++◌, max, refl, sym, ap, ◌∙◌, append_assoc}
 use Rattle.std.proofs.lemmas.List.{append-nil, take-append-drop}
 use Rattle.std.proofs.Math.ListN.{drop_of_length-le}
@@ -12,7 +12,7 @@ use Rattle.ttree_node.specs.Paths.{lead, trail}
 use Rattle.ttree_node.specs.declared.slides.Side.{Side}
 use Rattle.ttree_node.specs.declared.slides.Side.TheVariants.{Left, Right}
 
--- the height stays
+-- the height is unchanged
 pub same_height : (path : List Side) (now : List RowRef) (t : Tree) → height_of (with_entries path now t) ≡ height_of t
 same_height [] now Empty = refl
 same_height [] now (Fork left entries right) = refl
@@ -20,7 +20,7 @@ same_height (side ∷ path) now Empty = refl
 same_height (Left ∷ path) now (Fork left entries right) = ap (λ n. max n (height_of right) + 1) (same_height path now left)
 same_height (Right ∷ path) now (Fork left entries right) = ap (λ n. max (height_of left) n + 1) (same_height path now right)
 
--- and so does the number of nodes
+-- the number of nodes is unchanged
 pub same_count : (path : List Side) (now : List RowRef) (t : Tree) → node_count (with_entries path now t) ≡ node_count t
 same_count [] now Empty = refl
 same_count [] now (Fork left entries right) = refl
@@ -33,7 +33,7 @@ pub no_tree : (path : List Side) → IsFork (tree_at path Empty) → ⊥
 no_tree [] there = there
 no_tree (side ∷ path) there = there
 
--- the entries are those before the tree at the end of a path, its own, and those behind it
+-- the entries are those before the tree at the end of a path, its own, and those after it
 pub in_order-at : (path : List Side) (t : Tree) → in_order t ≡ lead path t ++ in_order (tree_at path t) ++ trail path t
 in_order-at [] t = sym (append-nil (in_order t))
 in_order-at (side ∷ path) Empty = refl
@@ -42,7 +42,7 @@ in_order-at (Left ∷ path) (Fork left entries right) =
 in_order-at (Right ∷ path) (Fork left entries right) =
     ap (λ xs. in_order left ++ entries ++ xs) (in_order-at path right) ∙ simp append_assoc
 
--- what is before and behind stays
+-- the entries before and after are unchanged
 pub in_order-with : (path : List Side) (now : List RowRef) (t : Tree)
     → in_order (with_entries path now t) ≡ lead path t ++ in_order (with_root now (tree_at path t)) ++ trail path t
 in_order-with [] now t = sym (append-nil (in_order (with_root now t)))
@@ -52,7 +52,7 @@ in_order-with (Left ∷ path) now (Fork left entries right) =
 in_order-with (Right ∷ path) now (Fork left entries right) =
     ap (λ xs. in_order left ++ entries ++ xs) (in_order-with path now right) ∙ simp append_assoc
 
--- one turn more
+-- one more step
 pub tree_at-left : (path : List Side) (t left right : Tree) (entries : List RowRef) → tree_at path t ≡ Fork left entries right
     → tree_at (path ++ Left ∷ []) t ≡ left
 tree_at-left [] t left right entries is = ap (tree_at (Left ∷ [])) is
@@ -97,7 +97,7 @@ trail-right (side ∷ path) Empty left right entries is = refl
 trail-right (Left ∷ path) (Fork l es r) left right entries is = ap (λ xs. xs ++ es ++ in_order r) (trail-right path l left right entries is)
 trail-right (Right ∷ path) (Fork l es r) left right entries is = trail-right path r left right entries is
 
--- one entry more at the end leaves the height and the number of nodes
+-- one more entry at the end keeps the height and the number of nodes
 pub pushed_height : (entry : RowRef) (t : Tree) → height_of (pushed entry t) ≡ height_of t
 pushed_height entry Empty = refl
 pushed_height entry (Fork left entries Empty) = refl
@@ -108,14 +108,14 @@ pushed_count entry Empty = refl
 pushed_count entry (Fork left entries Empty) = refl
 pushed_count entry (Fork left entries (Fork l es r)) = ap (λ n. node_count left + n + 1) (pushed_count entry (Fork l es r))
 
--- it stands behind all others
+-- the entry follows all others
 pub pushed_in_order : (entry : RowRef) (t : Tree) → IsFork t → in_order (pushed entry t) ≡ in_order t ++ entry ∷ []
 pushed_in_order entry Empty some = absurd some
 pushed_in_order entry (Fork left entries Empty) some = simp append_assoc
 pushed_in_order entry (Fork left entries (Fork l es r)) some =
     ap (λ xs. in_order left ++ entries ++ xs) (pushed_in_order entry (Fork l es r) tt) ∙ simp append_assoc
 
--- another tree of the same height at the end of a path leaves the height
+-- another tree of the same height at the end of a path keeps the height
 pub height_with_tree : (path : List Side) (now t : Tree) → height_of now ≡ height_of (tree_at path t) → height_of (with_tree path now t) ≡ height_of t
 height_with_tree [] now t same = same
 height_with_tree (side ∷ path) now Empty same = refl
@@ -128,7 +128,7 @@ count_with_tree (side ∷ path) now Empty same = refl
 count_with_tree (Left ∷ path) now (Fork left entries right) same = ap (λ n. n + node_count right + 1) (count_with_tree path now left same)
 count_with_tree (Right ∷ path) now (Fork left entries right) same = ap (λ n. node_count left + n + 1) (count_with_tree path now right same)
 
--- what is before and behind stays
+-- the entries before and after are unchanged
 pub in_order_with_tree : (path : List Side) (now t : Tree) → IsFork (tree_at path t)
     → in_order (with_tree path now t) ≡ lead path t ++ in_order now ++ trail path t
 in_order_with_tree [] now t there = sym (append-nil (in_order now))
@@ -150,7 +150,7 @@ pub exchanged_height : (path : List Side) (i : ℕ) (entry : RowRef) (t : Tree)
     → height_of (with_tree path (exchanged i entry (tree_at path t)) t) ≡ height_of t
 exchanged_height path i entry t = height_with_tree path (exchanged i entry (tree_at path t)) t (exchanged_root i entry (tree_at path t))
 
--- one entry less at the end leaves the height and the number of nodes
+-- removing the last entry keeps the height and the number of nodes
 pub popped_height : (t : Tree) → height_of (popped t) ≡ height_of t
 popped_height Empty = refl
 popped_height (Fork left entries Empty) = refl
@@ -161,7 +161,7 @@ popped_count Empty = refl
 popped_count (Fork left entries Empty) = refl
 popped_count (Fork left entries (Fork l es r)) = ap (λ n. node_count left + n + 1) (popped_count (Fork l es r))
 
--- the last entry, taken out and put back
+-- the last entry, removed and appended again
 last_back : (entries : List RowRef) → 1 ≤ length entries → remove entries (length entries - 1) ++ last_entry entries ∷ [] ≡ entries
 last_back entries some =
     let n : ℕ = length entries - 1 in

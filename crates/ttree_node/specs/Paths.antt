@@ -1,4 +1,4 @@
--- Paths from the root of a tree downwards.
+-- Paths from the root of a tree down.
 use Rattle.std.specs.Prelude.{ℕ, ◌-◌, ◌<◌, ◌≤◌, List, [], ◌∷◌, ◌++◌, length, insert, remove}
 use Rattle.mm_value.specs.declared.row_ref.RowRef.{RowRef}
 use Rattle.ttree_node.specs.Entries.{first_entry, last_entry}
@@ -41,43 +41,43 @@ lead (side ∷ path) Empty = []
 lead (Left ∷ path) (Fork left entries right) = lead path left
 lead (Right ∷ path) (Fork left entries right) = in_order left ++ entries ++ lead path right
 
--- the entries behind the tree at the end of a path
+-- the entries after the tree at the end of a path
 abbrev pub trail : List Side → Tree → List RowRef
 trail [] t = []
 trail (side ∷ path) Empty = []
 trail (Left ∷ path) (Fork left entries right) = trail path left ++ entries ++ in_order right
 trail (Right ∷ path) (Fork left entries right) = trail path right
 
--- a tree with another one at the end of a path
+-- a tree with another subtree at the end of a path
 abbrev pub with_tree : List Side → Tree → Tree → Tree
 with_tree [] now t = now
 with_tree (side ∷ path) now Empty = Empty
 with_tree (Left ∷ path) now (Fork left entries right) = Fork (with_tree path now left) entries right
 with_tree (Right ∷ path) now (Fork left entries right) = Fork left entries (with_tree path now right)
 
--- a tree with one more entry behind all others, in its last node
+-- a tree with one more entry at the end, in its last node
 abbrev pub pushed : RowRef → Tree → Tree
 pushed entry Empty = Empty
 pushed entry (Fork left entries Empty) = Fork left (entries ++ entry ∷ []) Empty
 pushed entry (Fork left entries (Fork l es r)) = Fork left entries (pushed entry (Fork l es r))
 
--- its last node has room
+-- the last node has capacity
 abbrev pub HasRoomAtEnd : Tree → Type 0
 HasRoomAtEnd Empty = ⊥
 HasRoomAtEnd (Fork left entries Empty) = length entries < 16
 HasRoomAtEnd (Fork left entries (Fork l es r)) = HasRoomAtEnd (Fork l es r)
 
--- the last node of the left side has room
+-- the last node of the left subtree has capacity
 abbrev pub HasRoomOnLeft : Tree → Type 0
 HasRoomOnLeft Empty = ⊥
 HasRoomOnLeft (Fork left entries right) = HasRoomAtEnd left
 
--- a tree whose root has given its least entry to its left side for another before place i
+-- a tree whose root has an entry inserted before position i, and its least entry moved to the end of its left subtree
 abbrev pub exchanged : ℕ → RowRef → Tree → Tree
 exchanged i entry Empty = Empty
 exchanged i entry (Fork left entries right) = Fork (pushed (first_entry entries) left) (insert (remove entries 0) (i - 1) entry) right
 
--- the last entry of a tree; of none, the reference to the first slot of all
+-- the last entry of a tree; for an empty one, the reference to slot 0
 abbrev pub end_of : Tree → RowRef
 end_of Empty = last_entry []
 end_of (Fork left entries Empty) = last_entry entries
@@ -89,19 +89,19 @@ popped Empty = Empty
 popped (Fork left entries Empty) = Fork left (remove entries (length entries - 1)) Empty
 popped (Fork left entries (Fork l es r)) = Fork left entries (popped (Fork l es r))
 
--- its last node is a leaf with an entry to spare
+-- the last node is a leaf with at least two entries
 abbrev pub HasSpareAtEnd : Tree → Type 0
 HasSpareAtEnd Empty = ⊥
 HasSpareAtEnd (Fork Empty entries Empty) = 2 ≤ length entries
 HasSpareAtEnd (Fork (Fork l es r) entries Empty) = ⊥
 HasSpareAtEnd (Fork left entries (Fork l es r)) = HasSpareAtEnd (Fork l es r)
 
--- the last node of the left side is such a leaf
+-- the last node of the left subtree is such a leaf
 abbrev pub HasSpareOnLeft : Tree → Type 0
 HasSpareOnLeft Empty = ⊥
 HasSpareOnLeft (Fork left entries right) = HasSpareAtEnd left
 
--- a tree whose root has lost the entry at place i, and got the last of its left side
+-- a tree whose root has the entry at position i removed, and the last entry of its left subtree moved to its front
 abbrev pub borrowed : ℕ → Tree → Tree
 borrowed i Empty = Empty
 borrowed i (Fork left entries right) = Fork (popped left) (insert (remove entries i) 0 (end_of left)) right

@@ -1,13 +1,13 @@
--- T-trees: binary trees whose nodes hold several entries in order (Lehman and Carey, VLDB 1986).
+-- T-trees: binary trees whose nodes have several entries in order (Lehman and Carey, VLDB 1986).
 use Rattle.std.specs.Prelude.{ℕ, ◌+◌, max, List, [], ◌++◌, Option, Some, None}
 use Rattle.mm_value.specs.declared.row_ref.RowRef.{RowRef}
 
--- a tree: empty, or a node with its entries between what stands left and what stands right of it
+-- a tree: empty, or a node with its entries between two subtrees
 pub data Tree : Type 0 where
   Empty : Tree
   Fork : (left : Tree) (entries : List RowRef) (right : Tree) → Tree
 
--- a tree that is not empty, seen from its root
+-- a nonempty tree, by the parts of its root
 pub record Root : Type 0 where
   pub left : Tree
   pub entries : List RowRef
@@ -22,7 +22,7 @@ abbrev pub tree_of : Option Root → Tree
 tree_of None = Empty
 tree_of (Some r) = fork r
 
--- whether a tree has a node
+-- the tree is not empty
 abbrev pub IsFork : Tree → Type 0
 IsFork Empty = ⊥
 IsFork (Fork left entries right) = Unit {0}
@@ -32,7 +32,7 @@ abbrev pub in_order : Tree → List RowRef
 in_order Empty = []
 in_order (Fork left entries right) = in_order left ++ entries ++ in_order right
 
--- the number of nodes on a longest path downwards
+-- the height: the number of nodes on a longest path down
 abbrev pub height_of : Tree → ℕ
 height_of Empty = 0
 height_of (Fork left entries right) = max (height_of left) (height_of right) + 1

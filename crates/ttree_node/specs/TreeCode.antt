@@ -1,4 +1,4 @@
--- A tree written as a list, node by node, by which proofs store it.
+-- A tree encoded as a list, node by node, in which proofs store it.
 use Rattle.std.specs.Prelude.{◌≡◌, ℕ, List, [], ◌∷◌, Option, Some, None, refl}
 use Rattle.std.proofs.Common.{◌∙◌, ap}
 use Rattle.std.specs.Coded.{Coded, code_by, coded×, coded_ℕ, coded_list, coded_option}
@@ -9,18 +9,18 @@ use Rattle.ttree_node.specs.Tree.{Tree, Empty, Fork, Root}
 abbrev pub row_ref_code : Coded RowRef
 row_ref_code = code_by ℕ coded_ℕ (λ r. r.slot) (λ n. record { slot = n }) (λ _. refl)
 
--- a tree in front of a list: its left side, its right side, then the entries of its root
+-- a tree written before a list: its left subtree, its right subtree, and then the entries of its root
 abbrev pub written : Tree → List (Option (List RowRef)) → List (Option (List RowRef))
 written Empty rest = None ∷ rest
 written (Fork left entries right) rest = written left (written right (Some entries ∷ rest))
 
--- a node over the two trees that were read last
+-- a node with the last two trees as its subtrees
 abbrev pub joined : List RowRef → List Tree → List Tree
 joined entries [] = []
 joined entries (right ∷ []) = []
 joined entries (right ∷ left ∷ before) = Fork left entries right ∷ before
 
--- the trees that a list spells, the last one first
+-- the trees that a list encodes, the last one first
 abbrev pub spelled : List (Option (List RowRef)) → List Tree → List Tree
 spelled [] trees = trees
 spelled (None ∷ rest) trees = spelled rest (Empty ∷ trees)
@@ -31,7 +31,7 @@ abbrev pub first_tree : List Tree → Tree
 first_tree [] = Empty
 first_tree (tree ∷ trees) = tree
 
--- what is written of a tree spells it
+-- decoding an encoded tree gives the tree
 abbrev pub spelled-written : (tree : Tree) (rest : List (Option (List RowRef))) (trees : List Tree)
     → spelled (written tree rest) trees ≡ spelled rest (tree ∷ trees)
 spelled-written Empty rest trees = refl

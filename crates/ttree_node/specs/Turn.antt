@@ -1,7 +1,7 @@
 -- Rotations of a tree.
 use Rattle.ttree_node.specs.Tree.{Tree, Empty, Fork, Root}
 
--- the right child on top, the old root left below it with what stood between them
+-- the right child on top, with the old root as its left child, which gets the middle subtree
 abbrev pub under_right : Tree → Root → Root
 under_right Empty r = r
 under_right (Fork middle entries right) r = record { left = Fork r.left r.entries middle; entries = entries; right = right }
@@ -10,7 +10,7 @@ under_right (Fork middle entries right) r = record { left = Fork r.left r.entrie
 abbrev pub rotated_left : Root → Root
 rotated_left r = under_right r.right r
 
--- the left child on top, the old root right below it with what stood between them
+-- the left child on top, with the old root as its right child, which gets the middle subtree
 abbrev pub under_left : Tree → Root → Root
 under_left Empty r = r
 under_left (Fork left entries middle) r = record { left = left; entries = entries; right = Fork middle r.entries r.right }

@@ -8,11 +8,11 @@ use std::iter::FusedIterator;
 use std::marker::Model;
 use std::mem;
 
-/// The most entries of a node.
+/// The maximum number of entries of a node.
 const ROOM: usize = 16;
 
-/// At most 16 references, seen as the list of them. The length takes 2 bytes, where that of an `ArrayVec` takes 8, and lies beside the
-/// first place.
+/// At most 16 references. The model is their list. The length takes 2 bytes, where that of an `ArrayVec` takes 8, and is next to the first
+/// reference.
 #[derive(Drop)]
 pub struct Entries {
     len: u16,
@@ -32,7 +32,7 @@ impl Model for Entries {
 }
 
 impl Entries {
-    /// No entries.
+    /// Returns an empty list.
     pub(crate) fn new() -> Entries
         ensures { result ≡ [] }
     {
@@ -42,7 +42,7 @@ impl Entries {
         }
     }
 
-    /// How many there are.
+    /// Returns the number of entries, at most 16.
     #[inline]
     pub fn len(&self) -> usize
         ensures value { result ≡ length self.now }
@@ -51,14 +51,14 @@ impl Entries {
         self.len as usize
     }
 
-    /// Whether there are none.
+    /// Returns whether there are no entries.
     pub fn is_empty(&self) -> bool
         ensures { result ≡ (length self.now == 0) }
     {
         self.len == 0
     }
 
-    /// The entry at place `i`.
+    /// Returns the entry at position `i`.
     #[inline]
     pub fn get(&self, i: usize) -> RowRef
         requires { i < length self.now }
@@ -67,7 +67,7 @@ impl Entries {
         self.as_slice()[i]
     }
 
-    /// The entries in order.
+    /// Returns the entries in order.
     #[inline]
     fn as_slice(&self) -> &[RowRef]
         ensures { result.now ≡ self.now }
@@ -75,7 +75,7 @@ impl Entries {
         &self.places[..self.len as usize]
     }
 
-    /// The first entry.
+    /// Returns the first entry.
     #[inline]
     pub fn first(&self) -> RowRef
         requires { 1 ≤ length self.now }
@@ -84,7 +84,7 @@ impl Entries {
         self.get(0)
     }
 
-    /// The last entry.
+    /// Returns the last entry.
     #[inline]
     pub fn last(&self) -> RowRef
         requires { 1 ≤ length self.now }
@@ -93,7 +93,7 @@ impl Entries {
         self.get(self.len() - 1)
     }
 
-    /// The entries one after the other.
+    /// Iterates over the entries.
     #[inline]
     pub fn iter(&self) -> EntryIter<'_>
         ensures { result ≡ self.now }
@@ -103,14 +103,14 @@ impl Entries {
         }
     }
 
-    /// Drops them all.
+    /// Removes all entries.
     pub(crate) fn clear(&mut self)
         ensures { self.new ≡ [] }
     {
         self.len = 0;
     }
 
-    /// Puts an entry behind the others.
+    /// Appends an entry.
     pub(crate) fn push(&mut self, entry: RowRef)
         requires room { length self.old < 16 }
         ensures { self.new ≡ self.old ++ entry ∷ [] }
@@ -120,7 +120,7 @@ impl Entries {
         self.len += 1;
     }
 
-    /// Puts an entry before the one at place `i`.
+    /// Inserts an entry before the one at position `i`.
     pub(crate) fn insert(&mut self, i: usize, entry: RowRef)
         requires room { length self.old < 16 }
         requires in_bounds { i ≤ length self.old }
@@ -132,7 +132,7 @@ impl Entries {
         self.len += 1;
     }
 
-    /// Takes out the entry at place `i`.
+    /// Removes and returns the entry at position `i`.
     pub(crate) fn remove(&mut self, i: usize) -> RowRef
         requires { i < length self.old }
         ensures taken { slice_get self.old i ≡ Some result }
@@ -145,7 +145,7 @@ impl Entries {
         taken
     }
 
-    /// Takes out the last entry.
+    /// Removes and returns the last entry.
     pub(crate) fn pop_last(&mut self) -> RowRef
         requires { 1 ≤ length self.old }
         ensures last { result ≡ last_entry self.old }
@@ -155,7 +155,7 @@ impl Entries {
         self.remove(last)
     }
 
-    /// Puts entries behind those that are there.
+    /// Appends entries.
     pub(crate) fn append(&mut self, behind: &Entries)
         requires { length self.old + length behind.now ≤ 16 }
         ensures { self.new ≡ self.old ++ behind.now }
@@ -173,7 +173,7 @@ impl Entries {
         self.len += behind.len() as u16;
     }
 
-    /// Puts entries before those that are there.
+    /// Inserts entries before the others.
     pub(crate) fn prepend(&mut self, front: &Entries)
         requires { length front.now + length self.old ≤ 16 }
         ensures { self.new ≡ front.now ++ self.old }
@@ -184,7 +184,7 @@ impl Entries {
         *self = all;
     }
 
-    /// Takes out the entries from place `at` onwards.
+    /// Removes and returns the entries from position `at` on.
     pub(crate) fn split_off(&mut self, at: usize) -> Entries
         requires { at ≤ length self.old }
         ensures taken { result ≡ drop at self.old }
@@ -196,7 +196,7 @@ impl Entries {
         taken
     }
 
-    /// Takes out the first `n` entries.
+    /// Removes and returns the first `n` entries.
     pub(crate) fn take_first(&mut self, n: usize) -> Entries
         requires { n ≤ length self.old }
         ensures taken { result ≡ take n self.old }
@@ -207,7 +207,7 @@ impl Entries {
     }
 }
 
-/// The entries of a node one after the other, seen as the list of those that are left.
+/// An iterator over the entries of a node. Its model is the list of the remaining ones.
 #[derive(Drop)]
 pub struct EntryIter<'a> {
     left: &'a [RowRef],
@@ -223,7 +223,7 @@ impl<'a> Model for EntryIter<'a> {
 }
 
 impl<'a> EntryIter<'a> {
-    /// No entries.
+    /// Returns an iterator without entries.
     pub fn empty() -> Self
         ensures { result ≡ [] }
     {

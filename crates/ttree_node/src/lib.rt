@@ -1,4 +1,4 @@
-//! The nodes of a T-tree, one block each, and a pool of free ones.
+//! The nodes of a T-tree, each in an allocation of its own, and a pool of free nodes.
 #![tactic(auto)]
 
 mod entries;

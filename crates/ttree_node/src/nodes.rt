@@ -1,4 +1,4 @@
-//! Subtrees and what can be done at their root.
+//! Subtrees, and operations at their root.
 ghost use Rattle.std.specs.Prelude.{◌≡◌, ◌+◌, ◌^◌, ◌<◌, ◌≤◌, [], ◌∷◌, ◌++◌, None, length, take, drop, insert, remove, slice_get, Some, IfOk};
 ghost use Rattle.std.specs.Option.{option_copied};
 ghost use Rattle.ttree_node.specs.Nodes.{short_height};
@@ -12,17 +12,16 @@ use std::alloc::{AllocError, Global};
 use std::marker::Model;
 use std::mem;
 
-/// A T-tree that is not empty: a node of at most 16 entries, between what stands left and
-/// what stands right of it (Lehman and Carey, VLDB 1986).
+/// A nonempty T-tree: a node of at most 16 entries, with a left and a right subtree (Lehman and Carey, VLDB 1986).
 pub struct Subtree {
     pub(crate) root: Owned<Node, Global>,
 }
 
-/// One block of memory: the root of a T-tree that is not empty, in its place.
+/// The root of a nonempty T-tree, in place: one allocation.
 ///
-/// It keeps the height of each side in 16 bits, 0 where nothing stands. So a link needs no tag beside its pointer, and a node takes
-/// 88 bytes, a block of 96 by `malloc`. Fields lie in memory in this order: what a search reads of a node that it passes, the links,
-/// their heights and the first entry, is within the first 28 bytes.
+/// The node stores the height of each subtree in 16 bits, 0 for an empty one. So a link needs no tag beside its pointer, and a node takes
+/// 88 bytes, or 96 with the overhead of `malloc`. The fields are in memory in this order: a search that passes a node reads the links,
+/// their heights and the first entry, which are within the first 28 bytes.
 #[derive(Drop)]
 pub struct Node {
     pub(crate) left: MaybeOwned<Node, Global>,
@@ -71,7 +70,7 @@ impl Model for Subtree {
 }
 
 impl Drop for Subtree {
-    /// Frees what stands on both sides too.
+    /// Frees both subtrees too.
     fn drop(mut self) {
         if let Some(left) = self.take_left() {
             drop(left);
@@ -83,7 +82,7 @@ impl Drop for Subtree {
     }
 }
 
-/// Takes off what hangs on a link, whose height is kept.
+/// Removes and returns the subtree of a link.
 fn unlink(height: &mut u16, link: &mut MaybeOwned<Node, Global>, alloc: Global) -> Option<Subtree>
     requires { height.old ≡ short_height link.old.value }
     ensures taken { result ≡ link.old.value }
@@ -100,7 +99,7 @@ fn unlink(height: &mut u16, link: &mut MaybeOwned<Node, Global>, alloc: Global) 
     })
 }
 
-/// Puts a tree, or none, on a link that is empty, and keeps its height.
+/// Sets an empty link to a tree, or to none, and stores its height.
 fn link_to(height: &mut u16, link: &mut MaybeOwned<Node, Global>, tree: Option<Subtree>)
     requires height { height.old ≡ 0 }
     requires vacant { link.old.value ≡ None }
@@ -114,18 +113,18 @@ fn link_to(height: &mut u16, link: &mut MaybeOwned<Node, Global>, tree: Option<S
 }
 
 impl Node {
-    /// The entries of the root, in order.
+    /// Returns the entries of the root in order, at most 16.
     #[inline]
     pub fn entries(&self) -> &Entries
         ensures value { result.now ≡ self.now.entries }
         ensures at_most_16 { length result.now ≤ 16 }
     {
-        // It is at most 16.
+        // The length is at most 16.
         let _len = self.entries.len();
         &self.entries
     }
 
-    /// What stands left of the root, none where nothing does.
+    /// Returns the left subtree, or `None` if it is empty.
     #[inline]
     pub fn left(&self) -> Option<&Node>
         ensures { tree_of (option_copied result) ≡ self.now.left }
@@ -136,7 +135,7 @@ impl Node {
         Some(self.left.as_ref())
     }
 
-    /// What stands right of the root, none where nothing does.
+    /// Returns the right subtree, or `None` if it is empty.
     #[inline]
     pub fn right(&self) -> Option<&Node>
         ensures { tree_of (option_copied result) ≡ self.now.right }
@@ -147,7 +146,7 @@ impl Node {
         Some(self.right.as_ref())
     }
 
-    /// The number of nodes on a longest path from the root downwards.
+    /// Returns the height: the number of nodes on a longest path from the root down. Requires a height less than 2^16.
     pub fn height(&self) -> usize
         requires { height_of (fork self.now) < 2 ^ 16 }
         ensures { result ≡ height_of (fork self.now) }
@@ -155,7 +154,7 @@ impl Node {
         self.left_height.max(self.right_height) as usize + 1
     }
 
-    /// The same, as a link keeps it.
+    /// Returns the height as a link stores it: 65,535 if it is greater.
     fn short_height(&self) -> u16
         ensures { result ≡ short_height (Some self.now) }
     {
@@ -164,7 +163,7 @@ impl Node {
 }
 
 impl Subtree {
-    /// A node with no entries, in a block of its own. `AllocError` where memory is refused.
+    /// Returns a node without entries, in a new allocation. Fails with `AllocError` if the allocation fails.
     pub(crate) fn blank(alloc: Global) -> Result<Subtree, AllocError>
         ensures { IfOk result (λ s. s ≡ record { left = Empty; entries = []; right = Empty }) }
     {
@@ -182,7 +181,7 @@ impl Subtree {
         Ok(Subtree { root })
     }
 
-    /// The block of its root, with all that hangs on it.
+    /// Returns the owner of the root, with both subtrees.
     fn into_root(self) -> Owned<Node, Global>
         ensures { result.value ≡ self }
     {
@@ -190,7 +189,7 @@ impl Subtree {
         root
     }
 
-    /// A node with this one entry, made from a free node.
+    /// Returns a node with one entry, taken from the free nodes.
     pub fn leaf(spares: &mut Spares, entry: RowRef) -> Subtree
         requires { 0 < spares.old }
         ensures one_entry { result ≡ record { left = Empty; entries = entry ∷ []; right = Empty } }
@@ -203,7 +202,7 @@ impl Subtree {
         leaf
     }
 
-    /// Gives each node back to the pool.
+    /// Returns every node to the pool.
     pub fn free_into(mut self, spares: &mut Spares)
         requires { spares.old + node_count (fork self) ≤ 2 ^ 32 }
         ensures { spares.new ≡ spares.old + node_count (fork self) }
@@ -217,7 +216,7 @@ impl Subtree {
         spares.put(self);
     }
 
-    /// Its root, in its place.
+    /// Returns the root in place.
     #[inline]
     pub fn node(&self) -> &Node
         ensures { result.now ≡ self.now }
@@ -225,7 +224,7 @@ impl Subtree {
         self.root.as_ref()
     }
 
-    /// The entries of the root, in order.
+    /// Returns the entries of the root in order, at most 16.
     #[inline]
     pub fn entries(&self) -> &Entries
         ensures value { result.now ≡ self.now.entries }
@@ -234,7 +233,7 @@ impl Subtree {
         self.root.as_ref().entries()
     }
 
-    /// What stands left of the root, none where nothing does.
+    /// Returns the left subtree, or `None` if it is empty.
     #[inline]
     pub fn left(&self) -> Option<&Node>
         ensures { tree_of (option_copied result) ≡ self.now.left }
@@ -242,7 +241,7 @@ impl Subtree {
         self.root.as_ref().left()
     }
 
-    /// What stands right of the root, none where nothing does.
+    /// Returns the right subtree, or `None` if it is empty.
     #[inline]
     pub fn right(&self) -> Option<&Node>
         ensures { tree_of (option_copied result) ≡ self.now.right }
@@ -250,7 +249,7 @@ impl Subtree {
         self.root.as_ref().right()
     }
 
-    /// The number of nodes on a longest path from the root downwards.
+    /// Returns the height: the number of nodes on a longest path from the root down. Requires a height less than 2^16.
     pub fn height(&self) -> usize
         requires { height_of (fork self.now) < 2 ^ 16 }
         ensures { result ≡ height_of (fork self.now) }
@@ -258,7 +257,7 @@ impl Subtree {
         self.root.as_ref().height()
     }
 
-    /// Puts an entry before the one at place `i` of the root.
+    /// Inserts an entry before the one at position `i` of the root.
     pub fn put_entry(&mut self, i: usize, entry: RowRef)
         requires room { length self.old.entries < 16 }
         requires in_bounds { i ≤ length self.old.entries }
@@ -268,7 +267,7 @@ impl Subtree {
         node.entries.insert(i, entry);
     }
 
-    /// Takes out the entry at place `i` of the root, which may be its last one, and gives it.
+    /// Removes and returns the entry at position `i` of the root, even if it is the only one.
     pub fn take_entry(&mut self, i: usize) -> RowRef
         requires { i < length self.old.entries }
         ensures taken { slice_get self.old.entries i ≡ Some result }
@@ -278,7 +277,7 @@ impl Subtree {
         node.entries.remove(i)
     }
 
-    /// Takes away what stands left of the root and gives it, none where nothing does.
+    /// Removes and returns the left subtree, or returns `None` if it is empty.
     pub fn take_left(&mut self) -> Option<Subtree>
         ensures taken { tree_of result ≡ self.old.left }
         ensures rest { self.new ≡ record self.old { left = Empty } }
@@ -287,7 +286,7 @@ impl Subtree {
         unlink(&mut node.left_height, &mut node.left, node.alloc)
     }
 
-    /// Takes away what stands right of the root and gives it, none where nothing does.
+    /// Removes and returns the right subtree, or returns `None` if it is empty.
     pub fn take_right(&mut self) -> Option<Subtree>
         ensures taken { tree_of result ≡ self.old.right }
         ensures rest { self.new ≡ record self.old { right = Empty } }
@@ -296,7 +295,7 @@ impl Subtree {
         unlink(&mut node.right_height, &mut node.right, node.alloc)
     }
 
-    /// Puts a tree left of the root, where there is none.
+    /// Sets the left subtree, which must be empty before.
     pub fn set_left(&mut self, left: Option<Subtree>)
         requires { self.old.left ≡ Empty }
         ensures { self.new ≡ record self.old { left = tree_of left } }
@@ -305,7 +304,7 @@ impl Subtree {
         link_to(&mut node.left_height, &mut node.left, left);
     }
 
-    /// Puts a tree right of the root, where there is none.
+    /// Sets the right subtree, which must be empty before.
     pub fn set_right(&mut self, right: Option<Subtree>)
         requires { self.old.right ≡ Empty }
         ensures { self.new ≡ record self.old { right = tree_of right } }
@@ -314,7 +313,7 @@ impl Subtree {
         link_to(&mut node.right_height, &mut node.right, right);
     }
 
-    /// Puts entries before those of the root, which has room for them.
+    /// Inserts entries before those of the root. Requires capacity for them.
     pub fn put_in_front(&mut self, front: &Entries)
         requires { length front.now + length self.old.entries ≤ 16 }
         ensures { self.new ≡ record self.old { entries = front.now ++ self.old.entries } }
@@ -323,7 +322,7 @@ impl Subtree {
         node.entries.prepend(front);
     }
 
-    /// Puts entries behind those of the root, which has room for them.
+    /// Appends entries to those of the root. Requires capacity for them.
     pub fn put_behind(&mut self, behind: &Entries)
         requires { length self.old.entries + length behind.now ≤ 16 }
         ensures { self.new ≡ record self.old { entries = self.old.entries ++ behind.now } }
@@ -332,7 +331,7 @@ impl Subtree {
         node.entries.append(behind);
     }
 
-    /// Takes out the entries of the root from place `at` onwards.
+    /// Removes and returns the entries of the root from position `at` on.
     pub(crate) fn split_off(&mut self, at: usize) -> Entries
         requires { at ≤ length self.old.entries }
         ensures taken { result ≡ drop at self.old.entries }
@@ -342,7 +341,7 @@ impl Subtree {
         node.entries.split_off(at)
     }
 
-    /// Takes out the first `n` entries of the root.
+    /// Removes and returns the first `n` entries of the root.
     pub(crate) fn take_first(&mut self, n: usize) -> Entries
         requires { n ≤ length self.old.entries }
         ensures taken { result ≡ take n self.old.entries }

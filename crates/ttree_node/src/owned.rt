@@ -1,14 +1,14 @@
-//! The one place of the crate with a raw pointer: what owns a block.
+//! Owners of allocations: the only raw pointers of the crate.
 ghost use Rattle.std.specs.Prelude.{◌≡◌, Option, None, Some, IsSome, IfOk};
 ghost use Rattle.std.specs.Coded.{coded_option};
 
 use std::alloc::{AllocFailed, Allocator};
 use std::marker::Model;
 
-/// Owns a value in a block of its own, which is freed when the owner is dropped.
+/// Owns a value in an allocation of its own, which is freed when the owner is dropped.
 ///
-/// The block is made and freed as a `Box`'s. In between nothing else points to it, so the value
-/// can be reached through the pointer for as long as the owner is borrowed.
+/// The block is allocated and freed as a `Box`'s. Until then no other pointer to it exists, so the value can be accessed through the
+/// pointer as long as the owner is borrowed.
 pub(crate) struct Owned<T, A: Allocator> {
     at: *mut T,
     alloc: A,
@@ -27,7 +27,7 @@ impl<T, A: Allocator> Owned<T, A> {
     ghost use Rattle.std.specs.Borrow.{sem};
     ghost use Rattle.ttree_node.specs.BlockLent.{owner_follows};
 
-    /// The value, for reading.
+    /// Returns a shared reference to the value.
     #[inline]
     pub(crate) fn as_ref(&self) -> &T
         ensures { result.now ≡ self.now.value }
@@ -35,7 +35,7 @@ impl<T, A: Allocator> Owned<T, A> {
         unsafe { &*self.at }
     }
 
-    /// The value, for writing.
+    /// Returns a mutable reference to the value.
     #[inline]
     pub(crate) fn as_mut(&mut self) -> &mut T
         ensures* writes_back { sem 𝓛 (owner_follows T.row A.row A.Allocator self.entry result) }
@@ -44,7 +44,7 @@ impl<T, A: Allocator> Owned<T, A> {
         unsafe { &mut *self.at }
     }
 
-    /// The same owner, as one that might have had no value.
+    /// Returns the same owner, as a `MaybeOwned`.
     pub(crate) fn into_maybe(self) -> MaybeOwned<T, A>
         ensures { result.value ≡ Some self.value }
     {
@@ -54,7 +54,7 @@ impl<T, A: Allocator> Owned<T, A> {
 }
 
 impl<T: Drop, A: Allocator> Owned<T, A> {
-    /// Moves a value into a new block. `AllocFailed` where memory is refused; the value is given back in it.
+    /// Moves a value into a new allocation. Fails with `AllocFailed`, which returns the value, if the allocation fails.
     pub(crate) fn new(alloc: A, value: T) -> Result<Owned<T, A>, AllocFailed<T>>
         ensures { IfOk result (λ o. o.value ≡ value) }
     {
@@ -82,8 +82,8 @@ impl<T: Drop, A: Allocator> Drop for Owned<T, A> {
     }
 }
 
-/// The pointer of an `Owned`, or null where there is no value. No tag says which, so whoever reads the value or takes it out has to
-/// know from elsewhere that it is there. Dropping this frees nothing: take the value out first.
+/// The pointer of an `Owned`, or null if there is no value. No tag distinguishes the two, so callers that access or take the value must
+/// know that it exists. Dropping a `MaybeOwned` frees nothing: take the value first.
 #[derive(Drop)]
 pub(crate) struct MaybeOwned<T, A: Allocator> {
     at: *mut T,
@@ -103,7 +103,7 @@ impl<T, A: Allocator> MaybeOwned<T, A> {
     ghost use Rattle.std.specs.Borrow.{sem};
     ghost use Rattle.ttree_node.specs.BlockLent.{maybe_follows};
 
-    /// No value.
+    /// Returns a `MaybeOwned` without a value.
     pub(crate) fn none(alloc: A) -> MaybeOwned<T, A>
         ensures { result.value ≡ None }
     {
@@ -111,7 +111,7 @@ impl<T, A: Allocator> MaybeOwned<T, A> {
         MaybeOwned { at, alloc }
     }
 
-    /// The owner of the value, which is there.
+    /// Returns the owner of the value, which must exist.
     pub(crate) fn into_owned(self) -> Owned<T, A>
         requires { IsSome self.value }
         ensures { Some result.value ≡ self.value }
@@ -120,7 +120,7 @@ impl<T, A: Allocator> MaybeOwned<T, A> {
         Owned { at, alloc }
     }
 
-    /// The value, which is there, for reading.
+    /// Returns a shared reference to the value, which must exist.
     #[inline]
     pub(crate) fn as_ref(&self) -> &T
         requires { IsSome self.now.value }
@@ -129,7 +129,7 @@ impl<T, A: Allocator> MaybeOwned<T, A> {
         unsafe { &*self.at }
     }
 
-    /// The value, which is there, for writing.
+    /// Returns a mutable reference to the value, which must exist.
     #[inline]
     pub(crate) fn as_mut(&mut self) -> &mut T
         requires { IsSome self.old.value }

@@ -1,4 +1,4 @@
-//! Entries put in and taken out at the end of a path, which leave the tree's shape.
+//! Inserting and removing entries at the end of a path, without changing the shape of the tree.
 ghost use Rattle.std.specs.Prelude.{◌≡◌, ◌+◌, ◌<◌, ◌≤◌, length, insert, remove, slice_get, Some, IfSome, IfNone, OnSome};
 ghost use Rattle.std.specs.Bool.{OnTrue, OnFalse};
 ghost use Rattle.ttree_node.specs.Tree.{IsFork, fork};
@@ -9,7 +9,7 @@ use crate::slides::Side;
 use mm_value::RowRef;
 
 impl Subtree {
-    /// Puts an entry before the one at place `i` of the node at the end of a path.
+    /// Inserts an entry before the one at position `i` of the node at the end of a path.
     pub fn put_entry_at(&mut self, path: &[Side], i: usize, entry: RowRef)
         requires there { IsFork (tree_at path.now (fork self.old)) }
         requires room { length (entries_at path.now (fork self.old)) < 16 }
@@ -19,7 +19,7 @@ impl Subtree {
         self.root.as_mut().put_entry_at(path, i, entry);
     }
 
-    /// Takes out the entry at place `i` of the node at the end of a path, which may be its last one, and gives it.
+    /// Removes and returns the entry at position `i` of the node at the end of a path, even if it is the only one.
     pub fn take_entry_at(&mut self, path: &[Side], i: usize) -> RowRef
         requires there { IsFork (tree_at path.now (fork self.old)) }
         requires in_bounds { i < length (entries_at path.now (fork self.old)) }
@@ -29,8 +29,8 @@ impl Subtree {
         self.root.as_mut().take_entry_at(path, i)
     }
 
-    /// Puts an entry before the one at place `i` of the node at the end of a path, and the least of that node behind all on its left,
-    /// where the last node there has room. Says whether it did.
+    /// Inserts an entry before the one at position `i` of the node at the end of a path, and moves that node's first entry to the end of
+    /// its left subtree. Does so only if the last node there has capacity. Returns whether it did; if not, nothing changes.
     pub fn exchange_entry_at(&mut self, path: &[Side], i: usize, entry: RowRef) -> bool
         requires there { IsFork (tree_at path.now (fork self.old)) }
         requires above_first { 1 ≤ i }
@@ -42,8 +42,8 @@ impl Subtree {
         self.root.as_mut().exchange_entry_at(path, i, entry)
     }
 
-    /// Takes out the entry at place `i` of the node at the end of a path, and puts the last of its left side in front, where that stands
-    /// in a leaf that has another one. Says whether it did.
+    /// Removes the entry at position `i` of the node at the end of a path, and moves the last entry of its left subtree to the front of its
+    /// entries. Does so only if that entry is in a leaf with another one. Returns whether it did; if not, nothing changes.
     pub fn borrow_entry_at(&mut self, path: &[Side], i: usize) -> bool
         requires there { IsFork (tree_at path.now (fork self.old)) }
         requires in_bounds { i < length (entries_at path.now (fork self.old)) }
@@ -57,7 +57,7 @@ impl Subtree {
 }
 
 impl Node {
-    /// Puts an entry before the one at place `i` of the node at the end of a path.
+    /// Inserts an entry before the one at position `i` of the node at the end of a path.
     #[tactic(auto, using(crate::proofs::PathLemmas::same_height, crate::proofs::PathLemmas::no_tree))]
     pub(crate) fn put_entry_at(&mut self, path: &[Side], i: usize, entry: RowRef)
         requires there { IsFork (tree_at path.now (fork self.old)) }
@@ -79,7 +79,7 @@ impl Node {
         }
     }
 
-    /// Takes out the entry at place `i` of the node at the end of a path, which may be its last one, and gives it.
+    /// Removes and returns the entry at position `i` of the node at the end of a path, even if it is the only one.
     #[tactic(auto, using(crate::proofs::PathLemmas::same_height, crate::proofs::PathLemmas::no_tree))]
     pub(crate) fn take_entry_at(&mut self, path: &[Side], i: usize) -> RowRef
         requires there { IsFork (tree_at path.now (fork self.old)) }
@@ -100,7 +100,7 @@ impl Node {
         }
     }
 
-    /// Puts an entry behind all others, into the last node, where that has room. Says whether it did.
+    /// Appends an entry to the last node, but only if that node has capacity. Returns whether it did; if not, nothing changes.
     #[tactic(auto, using(crate::proofs::PathLemmas::pushed_height))]
     fn push_at_end(&mut self, entry: RowRef) -> bool
         ensures done { OnTrue result (fork self.new ≡ pushed entry (fork self.old)) }
@@ -117,8 +117,8 @@ impl Node {
         true
     }
 
-    /// Puts an entry before the one at place `i` of a root, and the least of the root's behind all on its left, where the last node
-    /// there has room. Says whether it did.
+    /// Inserts an entry before the one at position `i` of the root, and moves the root's first entry to the end of the left subtree. Does
+    /// so only if the last node there has capacity. Returns whether it did; if not, nothing changes.
     #[tactic(auto, using(crate::proofs::PathLemmas::pushed_height))]
     fn exchange_entry(&mut self, i: usize, entry: RowRef) -> bool
         requires above_first { 1 ≤ i }
@@ -127,7 +127,7 @@ impl Node {
         ensures room { OnTrue result (HasRoomOnLeft (fork self.old)) }
         ensures kept { OnFalse result (fork self.new ≡ fork self.old) }
     {
-        // It is at most 16.
+        // The length is at most 16.
         let _len = self.entries.len();
         let least = self.entries.first();
         if self.left_height == 0 {
@@ -141,8 +141,7 @@ impl Node {
         true
     }
 
-    /// Puts an entry before the one at place `i` of the node at the end of a path, and the least of that node behind all on its left,
-    /// where the last node there has room. Says whether it did.
+    /// Implements [`Subtree::exchange_entry_at`].
     #[tactic(auto, using(crate::proofs::PathLemmas::exchanged_height, crate::proofs::PathLemmas::no_tree))]
     pub(crate) fn exchange_entry_at(&mut self, path: &[Side], i: usize, entry: RowRef) -> bool
         requires there { IsFork (tree_at path.now (fork self.old)) }
@@ -165,7 +164,7 @@ impl Node {
         }
     }
 
-    /// Takes the last entry out, where it stands in a leaf that has another one, and gives it.
+    /// Removes and returns the last entry, but only if it is in a leaf with another one. If it returns `None`, nothing changes.
     #[tactic(auto, using(crate::proofs::PathLemmas::popped_height))]
     fn pop_at_end(&mut self) -> Option<RowRef>
         ensures last { IfSome result (λ last. last ≡ end_of (fork self.old)) }
@@ -185,8 +184,8 @@ impl Node {
         Some(self.entries.pop_last())
     }
 
-    /// Takes out the entry at place `i` of a root, and puts the last of its left side in front, where that stands in a leaf that has
-    /// another one. Says whether it did.
+    /// Removes the entry at position `i` of the root, and moves the last entry of the left subtree to the front of the root's entries. Does
+    /// so only if that entry is in a leaf with another one. Returns whether it did; if not, nothing changes.
     #[tactic(auto, using(crate::proofs::PathLemmas::popped_height))]
     fn borrow_entry(&mut self, i: usize) -> bool
         requires in_bounds { i < length self.old.entries }
@@ -206,8 +205,7 @@ impl Node {
         true
     }
 
-    /// Takes out the entry at place `i` of the node at the end of a path, and puts the last of its left side in front, where that stands
-    /// in a leaf that has another one. Says whether it did.
+    /// Implements [`Subtree::borrow_entry_at`].
     #[tactic(auto, using(crate::proofs::PathLemmas::borrowed_height, crate::proofs::PathLemmas::no_tree))]
     pub(crate) fn borrow_entry_at(&mut self, path: &[Side], i: usize) -> bool
         requires there { IsFork (tree_at path.now (fork self.old)) }

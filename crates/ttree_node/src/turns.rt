@@ -6,7 +6,7 @@ ghost use Rattle.ttree_node.specs.Turn.{rotated_left, rotated_right};
 use crate::nodes::Subtree;
 
 impl Subtree {
-    /// Its right child on top, and the old root left below it.
+    /// Rotates to the left: the right child becomes the root, with the old root as its left child.
     pub fn rotate_left(mut self) -> Subtree
         requires { IsFork self.right }
         ensures shape { result ≡ rotated_left self }
@@ -21,7 +21,7 @@ impl Subtree {
         top
     }
 
-    /// Its left child on top, and the old root right below it.
+    /// Rotates to the right: the left child becomes the root, with the old root as its right child.
     pub fn rotate_right(mut self) -> Subtree
         requires { IsFork self.left }
         ensures shape { result ≡ rotated_right self }

@@ -1,5 +1,4 @@
-//! Tests of what no contract says and no public call tells: in which buckets entries stand, where the directory leads,
-//! and how large a node is.
+//! Tests for what no contract states and no public call shows: the bucket of each entry, where the directory leads, and the size of a node.
 ghost use Rattle.std.specs.Prelude.{◌<◌};
 ghost use Rattle.mlhash.specs.Bag.{IsSmall};
 
@@ -10,7 +9,7 @@ use mm_value::RowRef;
 use std::process::Abort;
 use std::test::Fail;
 
-/// A reference to one of the first slots.
+/// Returns the reference to a slot that fits into 16 bits.
 fn slot(slot: u16) -> RowRef
     ensures { IsSmall result }
 {
@@ -19,7 +18,7 @@ fn slot(slot: u16) -> RowRef
     }
 }
 
-/// Whether the directory leads to a node with this pair.
+/// Returns whether the directory leads to a node with this pair.
 fn is_led_to(refs: &HashRefs, hash: u64, reference: RowRef) -> bool {
     let hint = refs.directory.hint(reference);
     refs.nodes
@@ -27,12 +26,12 @@ fn is_led_to(refs: &HashRefs, hash: u64, reference: RowRef) -> bool {
         .is_some_and(|node| node.is_live() && node.has(hash, reference))
 }
 
-/// Whether the pair stands in this bucket.
+/// Returns whether the pair is in this bucket.
 fn stands_in(refs: &HashRefs, bucket: usize, hash: u64, reference: RowRef) -> bool {
     bucket < refs.heads.len() && find(&refs.nodes, refs.heads.get(bucket), hash, reference) != NIL
 }
 
-/// Inserts where there is room, and fails the test where there is none.
+/// Inserts a pair. Fails the test if there is no capacity for it.
 fn insert(rt: &impl Abort, refs: &mut HashRefs, hash: u64, reference: RowRef)
     requires { IsSmall reference }
 {
@@ -86,7 +85,7 @@ fn keeps_two_entries_a_bucket_over_many_levels(rt: HostRuntime) -> Result<(), Fa
             "{i}"
         );
     }
-    // From 249 entries on each remove merged one bucket.
+    // From 249 entries on, each removal merged one bucket.
     assert_eq!(rt; (refs.len(), refs.heads.len()), (0, 250));
     assert_eq!(rt; refs.spare(), room + 1000);
     Ok(())
@@ -100,7 +99,7 @@ fn is_led_to_each_pair_of_one_hash(rt: HostRuntime) -> Result<(), Fail> {
         refs.reserve(alloc, 1)?;
         insert(&rt, &mut refs, 5, slot(number));
     }
-    // 7 and 1000 have no factor in common: each number comes once.
+    // 7 and 1000 are coprime: each number occurs once.
     for step in 0..1000u16 {
         let gone = slot(step * 7 % 1000);
         assert!(rt; is_led_to(&refs, 5, gone), "{step}");
@@ -116,7 +115,7 @@ fn removes_references_past_the_directory(rt: HostRuntime) -> Result<(), Fail> {
     let alloc = rt.alloc();
     let mut refs = HashRefs::new(alloc);
     refs.reserve(alloc, 4)?;
-    // The last one is the greatest that an entry can have.
+    // The last slot is the greatest that an entry can have.
     let far = [64_000_003, u32::MAX - 1];
     for slot in far {
         insert(&rt, &mut refs, 9, RowRef { slot });
@@ -138,7 +137,7 @@ fn removes_no_reference_that_is_not_small(rt: HostRuntime) -> Result<(), Fail> {
     refs.reserve(alloc, 4)?;
     insert(&rt, &mut refs, 0, slot(0));
     insert(&rt, &mut refs, 0, slot(63));
-    // A free node is left behind, with hash 0 and the greatest reference.
+    // A free node remains, with hash 0 and the greatest reference.
     assert!(rt; refs.remove(0, slot(0)));
     assert!(rt; !refs.remove(0, RowRef { slot: u32::MAX }));
     assert_eq!(rt; refs.len(), 1);
@@ -176,12 +175,38 @@ fn removes_one_of_the_pairs_of_a_reference(rt: HostRuntime) -> Result<(), Fail> 
     for hash in [1, 2, 2, 3] {
         insert(&rt, &mut refs, hash, slot(0));
     }
-    // The directory leads to the pair that was put in last, and to no other.
+    // The directory leads to the pair inserted last, and to no other.
     assert!(rt; is_led_to(&refs, 3, slot(0)));
     for (hash, left) in [(1, 3), (2, 2), (2, 1), (3, 0)] {
         assert!(rt; refs.remove(hash, slot(0)), "{hash}");
         assert_eq!(rt; refs.len(), left);
     }
     assert!(rt; !refs.remove(2, slot(0)));
+    Ok(())
+}
+
+#[test]
+fn clears_all_buckets(rt: HostRuntime) -> Result<(), Fail> {
+    let alloc = rt.alloc();
+    let mut refs = HashRefs::new(alloc);
+    refs.reserve(alloc, 100)?;
+    for number in 0..100u16 {
+        insert(&rt, &mut refs, u64::from(number), slot(number));
+    }
+    let room = refs.spare();
+    refs.clear();
+    assert_eq!(rt;
+        (refs.len(), refs.heads.len(), refs.spare()),
+        (0, 4, room + 100)
+    );
+    // The directory still names the old nodes of the references.
+    for number in 0..50u16 {
+        insert(&rt, &mut refs, 7, slot(99 - number));
+    }
+    assert!(rt; !refs.remove(3, slot(3)));
+    for number in 0..50u16 {
+        assert!(rt; refs.remove(7, slot(99 - number)), "{number}");
+    }
+    assert_eq!(rt; refs.len(), 0);
     Ok(())
 }

@@ -12,8 +12,8 @@ use mm_schema::IndexKind;
 use std::alloc::{AllocError, Global};
 
 impl IndexedRows {
-    /// Appends an index on a column over the rows in use, of which there are at most 1,048,576, with capacity for `more` entries
-    /// more. `AllocError` if an allocation fails; then nothing changes.
+    /// Appends an index on a column over the rows in use, with capacity for `more` further entries. Requires at most 1,048,576 rows.
+    /// `AllocError` if an allocation fails; then nothing changes.
     pub fn add_index(
         &mut self,
         alloc: Global,
@@ -44,7 +44,7 @@ impl IndexedRows {
         }
     }
 
-    /// Drops the index at a place, counted from 0. The places of those after it fall by one.
+    /// Drops the index at a place, counted from 0. The places of later indexes decrease by one.
     pub fn drop_index(&mut self, index: usize)
         requires { index < length self.old.indexes }
         ensures { self.new ≡ record self.old { indexes = remove self.old.indexes index } }

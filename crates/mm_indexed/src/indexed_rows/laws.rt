@@ -1,4 +1,4 @@
-//! What holds of each table.
+//! Properties of every table.
 ghost use Rattle.mm_partition.specs.Places.{AreReferencesSmall, AreRowsStorable, slot_at};
 ghost use Rattle.mm_indexed.specs.Kept.{IsKept};
 

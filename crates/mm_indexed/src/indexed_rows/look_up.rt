@@ -12,8 +12,8 @@ use mm_row_order::{AtNumber, AtValue, ByColumn, ByNumbers, find_along};
 use mm_value::{RowRef, ValueRef, order_prefix};
 
 impl IndexedRows {
-    /// Returns the reference of a row in use with this key, or `None` if no row in use has it. If two rows have the key, it is either
-    /// of them. One search of the T-tree on the key (Lehman and Carey, VLDB 1986).
+    /// Returns the reference of a row in use with this key, or `None` if no row in use has it. If two rows have the key, the result is
+    /// either of them. Makes one search of the T-tree on the key (Lehman and Carey, VLDB 1986).
     pub fn find(&self, key: ValueRef<'_>) -> Option<RowRef>
         ensures held { IfSome result (Contains self.now.refs) }
         ensures fits { IfSome result (λ at. slice_get (row_at (slot_at self.now.places) at) self.now.key ≡ Some (value_of key.entry)) }
@@ -26,7 +26,7 @@ impl IndexedRows {
         self.find_key(key)
     }
 
-    /// The reference of a row in use with this key, or `None` if no row in use has it.
+    /// Returns the reference of a row in use with this key, or `None` if no row in use has it.
     fn find_key(&self, key: ValueRef<'_>) -> Option<RowRef>
         ensures held { IfSome result (Contains self.now.refs) }
         ensures fits { IfSome result (λ at. slice_get (row_at (slot_at self.now.places) at) self.now.key ≡ Some (value_of key.entry)) }

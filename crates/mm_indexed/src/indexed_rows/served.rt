@@ -27,9 +27,9 @@ impl IndexedRows {
         first_on(self.indexes.as_slice(), column, kind)
     }
 
-    /// Appends the references of the rows whose keys are between two ends, both included, in the order of the key. `None` leaves an
-    /// end open. Where both ends are one key, this is one search as by `find`: if two rows have that key, which no two have between
-    /// commands, only one of them is appended. `AllocError` if an allocation fails; then nothing is appended.
+    /// Appends the references of the rows whose keys are between two ends, both included, in the order of the key. `None` leaves an end
+    /// open. If both ends are one key, the call makes one search as by `find`. Then, if two rows have that key, as can happen only while a
+    /// command runs, only one of them is appended. `AllocError` if an allocation fails; then nothing is appended.
     pub fn key_range(
         &self,
         alloc: Global,
@@ -73,7 +73,7 @@ fn push_found(found: Option<RowRef>, out: &mut Vec<RowRef>) -> Result<(), AllocE
     Ok(())
 }
 
-/// The place of the first index of a kind on a column.
+/// Returns the place of the first index of a kind on a column.
 fn first_on(indexes: &[Index], column: usize, kind: IndexKind) -> Option<usize>
     ensures { result ≡ position (is_on column kind) indexes.now }
 {
@@ -82,7 +82,7 @@ fn first_on(indexes: &[Index], column: usize, kind: IndexKind) -> Option<usize>
         .position(|index| has_kind(index, column, kind))
 }
 
-/// Whether an index is of a kind and on a column.
+/// Returns whether an index is of a kind and on a column.
 fn has_kind(index: &Index, column: usize, kind: IndexKind) -> bool
     ensures { result ≡ is_on column kind index.now }
 {

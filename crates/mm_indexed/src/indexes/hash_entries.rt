@@ -11,7 +11,7 @@ use mlhash::HashRefs;
 use mm_partition::Partitions;
 use mm_value::{RowRef, hash64};
 
-/// The hash of a row's value in a column.
+/// Returns the hash of a row's value in a column.
 fn hash_at(rows: &Partitions, column: usize, at: RowRef) -> u64
     requires column { column < length rows.now.types }
     requires live { IsLive rows.now at }

@@ -13,7 +13,7 @@ use mm_partition::Partitions;
 use mm_value::{RowRef, ValueRef, compare, hash64};
 use std::alloc::{AllocError, Global};
 
-/// Whether a row has this value in a column.
+/// Returns whether a row has this value in a column.
 fn is_match(rows: &Partitions, column: usize, value: ValueRef<'_>, at: RowRef) -> bool
     requires { HasColumn column (slot_at rows.now) at }
     ensures { result ≡ has_value column (slot_at rows.now) (value_of value.entry) at }
@@ -21,7 +21,7 @@ fn is_match(rows: &Partitions, column: usize, value: ValueRef<'_>, at: RowRef) -
     compare(&rows.get(at).value(column), &value).is_eq()
 }
 
-/// Of the references from a place on, keeps those whose rows have this value, in their order.
+/// Keeps, of the references from a place on, those whose rows have this value, in their order.
 fn keep_matches(
     rows: &Partitions,
     column: usize,
@@ -45,8 +45,8 @@ fn keep_matches(
     out.truncate(kept);
 }
 
-/// Appends the references of the rows that have this value, in no particular order. Rows whose values have only the same hash are left
-/// out. `AllocError` if an allocation fails; then nothing is appended.
+/// Appends the references of the rows that have this value, in no particular order. Omits rows whose values have only the same hash.
+/// `AllocError` if an allocation fails; then nothing is appended.
 pub fn copy_matches(
     alloc: Global,
     rows: &Partitions,
@@ -68,8 +68,8 @@ pub fn copy_matches(
     Ok(())
 }
 
-/// The references of the rows that have this value, in no particular order. Rows whose values have only the same hash are left out.
-/// Up to four are returned without an allocation. `AllocError` if an allocation fails.
+/// Returns the references of the rows that have this value, in no particular order. Omits rows whose values have only the same hash. Up to
+/// four are returned without an allocation. `AllocError` if an allocation fails.
 pub fn find_matches(
     alloc: Global,
     rows: &Partitions,

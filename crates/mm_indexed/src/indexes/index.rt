@@ -1,9 +1,9 @@
-//! An index beside that on the key.
+//! An index other than that on the key.
 ghost use Rattle.std.specs.Prelude.{◌≡◌, ◌≢◌, ◌<◌, ◌≤◌, ◌∷◌, List, length, All, AllPairs, OnOk, IfOk, IfSome};
 ghost use Rattle.mm_value.specs.declared.row_ref.RowRef.{RowRef};
 ghost use Rattle.mm_schema.specs.declared.index.IndexKind.TheVariants as kinds;
 ghost use Rattle.mm_partition.specs.Places.{slot_at, IsLive, IsHidden};
-ghost use Rattle.mm_indexed.specs.Index.{IsOn, Keeps, Grown, Trimmed, column_of, spare_of};
+ghost use Rattle.mm_indexed.specs.Index.{IsOn, Keeps, Emptied, Grown, Trimmed, column_of, spare_of};
 ghost use Rattle.mm_indexed.specs.Stays.{Removes, Inserts, beside, stays};
 
 use crate::indexes::hash_entries::{insert_pair, remove_pair};
@@ -27,7 +27,7 @@ pub enum Index {
 }
 
 impl Index {
-    /// A HASH index on a column over rows in use, into which they are inserted one by one. `AllocError` if an allocation fails.
+    /// Returns a HASH index on a column over rows in use, into which they are inserted one by one. `AllocError` if an allocation fails.
     fn hash_over(
         alloc: Global,
         rows: &Partitions,
@@ -51,7 +51,7 @@ impl Index {
         Ok(index)
     }
 
-    /// An index on a column over rows in use. A tree is filled from the sorted references, without a search. `AllocError` if an
+    /// Returns an index on a column over rows in use. A tree is built from the sorted references, without a search. `AllocError` if an
     /// allocation fails.
     fn over(
         alloc: Global,
@@ -79,7 +79,7 @@ impl Index {
         }
     }
 
-    /// An index on a column over rows in use, with capacity for `more` entries more. `AllocError` if an allocation fails.
+    /// Returns an index on a column over rows in use, with capacity for `more` further entries. `AllocError` if an allocation fails.
     pub(crate) fn with_room(
         alloc: Global,
         rows: &Partitions,
@@ -102,7 +102,7 @@ impl Index {
         Ok(index)
     }
 
-    /// The column of the index, counted from 0.
+    /// Returns the column of the index, counted from 0.
     pub fn column(&self) -> usize
         ensures { result ≡ column_of self.now }
     {
@@ -111,12 +111,12 @@ impl Index {
         }
     }
 
-    /// Whether it is a TREE index on this column.
+    /// Returns whether it is a TREE index on this column.
     pub(crate) fn is_tree_on(&self, column: usize) -> bool {
         matches!(self, Index::Tree { .. }) && self.column() == column
     }
 
-    /// Makes room for at least `n` more entries.
+    /// Reserves capacity for at least `n` more entries. `AllocError` if an allocation fails; entries and capacity stay.
     pub(crate) fn reserve(&mut self, alloc: Global, n: usize) -> Result<(), AllocError>
         ensures room { OnOk result (n ≤ spare_of self.new) }
         ensures grown { Grown self.old self.new }
@@ -127,13 +127,24 @@ impl Index {
         }
     }
 
-    /// Frees spare nodes of a TREE index until it has at most `n`. A HASH index keeps its capacity.
+    /// Frees spare nodes of a TREE index until it has capacity for at most `n` more entries, or for up to four fewer. Frees capacity of a
+    /// HASH index if it is more than two and a half times as large as needed, but keeps that for `n` more entries.
     pub(crate) fn trim_spares(&mut self, n: usize)
         ensures { Trimmed n self.old self.new }
     {
         match self {
             Index::Tree { refs, .. } => refs.trim_spares(n),
-            Index::Hash { .. } => {}
+            Index::Hash { pairs, .. } => pairs.trim(n),
+        }
+    }
+
+    /// Removes all entries, without a search. Their places become capacity for more.
+    pub(crate) fn clear(&mut self)
+        ensures { Emptied self.old self.new }
+    {
+        match self {
+            Index::Tree { refs, .. } => refs.clear(),
+            Index::Hash { pairs, .. } => pairs.clear(),
         }
     }
 

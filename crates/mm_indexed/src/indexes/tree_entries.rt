@@ -16,7 +16,7 @@ use mm_row_order::{ByColumn, ByNumbers, NumberKeys, number_keys};
 use mm_value::RowRef;
 use ttree::TTree;
 
-/// Inserts a reference, which compares equal to none, into a tree that orders rows by a column.
+/// Inserts a reference into a tree that orders rows by a column. Requires that no entry compares equal to it.
 fn put(rows: &Partitions, column: usize, key: usize, tree: &mut TTree, at: RowRef)
     requires spare { 1 ≤ tree.old.spare }
     requires ordered { InOrder column key (slot_at rows.now) tree.old.refs }

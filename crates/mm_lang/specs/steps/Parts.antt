@@ -1,4 +1,4 @@
--- Where phrases put together are read, each of them is.
+-- Combined phrases are read by reading each part.
 use Rattle.std.proofs.Common.{◌≡◌, ◌⊎◌, inl, inr, ℕ, Bool, true, false, cond, List, [], ◌∷◌, Option, Some, None, refl, ap, ◌∙◌}
 use Rattle.std.specs.Option.{option_map, option_and_then, option_or}
 use Rattle.std.proofs.lemmas.Option.{none-some, same_Some}
@@ -18,7 +18,7 @@ pub chained : {A B : Type 0} (f : A → Option B) (o : Option A) (y : B) → opt
 chained f None y e = absurd (none-some y e)
 chained f (Some x) y e = (x, refl, e)
 
--- a thing and the tokens behind it
+-- a value and the remaining tokens
 abbrev pub Front : Type 0 → Type 0
 Front A = A × List Token
 

@@ -1,4 +1,4 @@
--- What splitting the first token off some bytes gives.
+-- The results of splitting the first token off some bytes.
 use Rattle.std.specs.Prelude.{◌≡◌, ◌≢◌, ℕ, ◌<◌, ◌≤◌, Bool, true, false, List, [], ◌∷◌, length, take, drop}
 use Rattle.mm_value.specs.Literal.{SpellsText, doubled}
 use Rattle.mm_lang.specs.declared.read.token.Token.{Token as Shown}
@@ -7,7 +7,7 @@ use Rattle.mm_lang.specs.declared.read.token.Piece.{Piece}
 use Rattle.mm_lang.specs.declared.read.token.Piece.TheVariants.{Bytes, End, Fault}
 use Rattle.mm_lang.specs.Tokens.{Token, Word, Signed, Quoted, Mark, Hole, Unreadable, Inside, tokens, lexed, is_blank, begins_word, onto_text}
 
--- The bytes of a token as they stand in a line show the token.
+-- A token as written in the line denotes a token of the grammar.
 abbrev pub Shows : Shown → Token → Type 0
 Shows (shown.Word raw) t = (t ≡ Word raw.now) × (begins_word raw.now ≡ true)
 Shows (shown.Signed raw) t = (word : List ℕ) × (raw.now ≡ 45 ∷ word) × (t ≡ Signed word)
@@ -16,7 +16,7 @@ Shows (shown.Mark symbol) t = t ≡ Mark symbol
 Shows shown.Hole t = t ≡ Hole
 Shows shown.Unreadable t = t ≡ Unreadable
 
--- The first of some tokens, and bytes with the other tokens, fewer than a limit.
+-- A token is the first of some tokens, and the rest are fewer bytes than a limit, with the remaining tokens.
 pub record Splits (ts : List Token) (limit : ℕ) (token : Shown) (rest : List ℕ) : Type 0 where
   pub first : Token
   pub shows : Shows token first
@@ -28,7 +28,7 @@ abbrev pub begins_blank : List ℕ → Bool
 begins_blank [] = false
 begins_blank (b ∷ bs) = is_blank b
 
--- Bytes inside a text of which the first n stand for one byte of it.
+-- Inside a text, the first n bytes spell one byte of it.
 pub record StandsForByte (rest : List ℕ) (n : ℕ) : Type 0 where
   pub byte : ℕ
   pub one_line : byte ≢ 10
@@ -36,12 +36,12 @@ pub record StandsForByte (rest : List ℕ) (n : ℕ) : Type 0 where
   pub spelled : take n rest ≡ doubled (byte ∷ [])
   pub lexed : lexed Inside rest ≡ onto_text byte (lexed Inside (drop n rest))
 
--- Bytes inside a text whose first is its closing quote.
+-- Inside a text, the first byte is its closing quote.
 pub record EndsText (rest : List ℕ) : Type 0 where
   pub quote : take 1 rest ≡ 39 ∷ []
   pub lexed : lexed Inside rest ≡ Quoted [] ∷ tokens (drop 1 rest)
 
--- What a text goes on with, behind its opening quote.
+-- The next piece inside a text.
 abbrev pub GoesOn : List ℕ → Piece → Type 0
 GoesOn rest (Bytes n) = StandsForByte rest n
 GoesOn rest End = EndsText rest

@@ -1,4 +1,4 @@
-//! The tests of a WHERE and the assignments of a SET.
+//! The tests of WHERE and the assignments of SET.
 ghost use Rattle.std.specs.Prelude.{◌≡◌, List};
 ghost use Rattle.std.specs.List.{flat_map};
 ghost use Rattle.mm_lang.specs.Grammar.{operand_on, tests_on, with_shift};
@@ -15,18 +15,18 @@ use mm_schema::NameRef;
 use mm_value::{Few, Refusal};
 use std::marker::PhantomData;
 
-/// How a command names a column, in a line that lives for `'l`.
+/// A column as a command names it, in a line with the lifetime `'l`.
 pub(crate) trait ColumnName<'l>: Sized + Drop {
     ghost column: { Phr Self };
 
-    /// Reads a column. `Syntax` where none stands first in the rest.
+    /// Reads a column. Fails with `Syntax` if the rest does not begin with one.
     fn read(reader: &mut Reader<'l>) -> Result<Self, Refusal>
         ensures { ReadsPhrase column no_literals reader.old reader.new result };
 
     ghost never_longer: { NeverLonger column };
 }
 
-/// By its name alone, where the command names one table.
+/// A column by its name alone, in a command on one table.
 impl<'l> ColumnName<'l> for NameRef<'l> {
     ghost use Rattle.mm_lang.specs.Grammar.{name};
     ghost use Rattle.mm_lang.specs.steps.Shrinking.{name_never_longer};
@@ -35,13 +35,13 @@ impl<'l> ColumnName<'l> for NameRef<'l> {
 
     ghost never_longer = { name_never_longer };
 
-    /// Reads a name. `Syntax` where none stands first in the rest.
+    /// Reads a name. Fails with `Syntax` if the rest does not begin with one.
     fn read(reader: &mut Reader<'l>) -> Result<NameRef<'l>, Refusal> {
         reader.name_ref()
     }
 }
 
-/// How a test is read: a column, a comparison, and what the column is compared with. Its item is the atom.
+/// The phrase of a test: a column, a comparison, and an operand. Its item is the atom.
 #[derive(Drop)]
 struct TestPhrase<C> {
     names: PhantomData<C>,
@@ -60,8 +60,8 @@ impl<'l, C: ColumnName<'l>> Phrase<'l> for TestPhrase<C> {
 
     ghost never_longer = { test_never_longer C.column C.never_longer };
 
-    /// Reads a test. `Syntax` where none stands first in the rest, `Memory` where memory was refused for a text. A literal
-    /// or a shift past its limit is no error yet: it is noted in the reader.
+    /// Reads a test. Fails with `Syntax` if the rest does not begin with one, and with `Memory` if an allocation for a text fails. Records
+    /// a literal or a shift past its limit in the reader, and continues.
     fn read(&mut self, reader: &mut Reader<'l>) -> Result<Atom<C>, Refusal> {
         let left = C::read(reader)?;
         let comparison = reader.comparison()?;
@@ -74,7 +74,7 @@ impl<'l, C: ColumnName<'l>> Phrase<'l> for TestPhrase<C> {
     }
 }
 
-/// How an assignment is read: a column, `=`, and the value that it gets. Its item is the assignment.
+/// The phrase of an assignment: a column, `=`, and the new value. Its item is the assignment.
 #[derive(Drop)]
 pub(crate) struct AssignmentPhrase;
 
@@ -91,8 +91,8 @@ impl<'l> Phrase<'l> for AssignmentPhrase {
 
     ghost never_longer = { assignment_never_longer };
 
-    /// Reads an assignment. `Syntax` where none stands first in the rest, `Memory` where memory was refused for a text. A
-    /// literal or a shift past its limit is no error yet: it is noted in the reader.
+    /// Reads an assignment. Fails with `Syntax` if the rest does not begin with one, and with `Memory` if an allocation for a text fails.
+    /// Records a literal or a shift past its limit in the reader, and continues.
     fn read(&mut self, reader: &mut Reader<'l>) -> Result<Assignment<NameRef<'l>>, Refusal> {
         let column = reader.name_ref()?;
         reader.symbol(Symbol::Equal)?;
@@ -101,8 +101,8 @@ impl<'l> Phrase<'l> for AssignmentPhrase {
     }
 }
 
-/// Reads `WHERE` and the tests behind it, with `AND` between each two, or nothing where no `WHERE` stands there: then there
-/// are no tests. `Syntax` where no test stands behind `WHERE` or `AND`, `Memory` where memory was refused.
+/// Reads `WHERE` and the tests after it, separated by `AND`. Returns no tests if the rest does not begin with `WHERE`. Fails with `Syntax`
+/// if `WHERE` or `AND` is not followed by a test, and with `Memory` if an allocation fails.
 pub(crate) fn read_tests<'l, C: ColumnName<'l>>(
     reader: &mut Reader<'l>,
 ) -> Result<Few<Atom<C>>, Refusal>
@@ -112,7 +112,7 @@ pub(crate) fn read_tests<'l, C: ColumnName<'l>>(
     read_clause(Keyword::Where, &mut test, Separator::And, reader)
 }
 
-// Reads a literal, or a column and its shift if one stands there.
+// Reads a literal, or a column with its shift, if any.
 fn read_operand<'l, C: ColumnName<'l>>(reader: &mut Reader<'l>) -> Result<Operand<C>, Refusal>
     ensures { ReadsPhrase (operand_on C.column) operand_literals reader.old reader.new result }
 {
@@ -126,7 +126,7 @@ fn read_operand<'l, C: ColumnName<'l>>(reader: &mut Reader<'l>) -> Result<Operan
     }
 }
 
-// A column, or a column and its shift.
+// Returns a column, or a column and its shift.
 fn with_shift<C>(column: C, shift: Option<i64>) -> Operand<C>
     ensures { result ≡ with_shift column shift }
 {

@@ -1,4 +1,4 @@
-//! The columns of a TABLE.
+//! The columns of TABLE.
 ghost use Rattle.std.specs.Prelude.{◌≡◌, true};
 ghost use Rattle.mm_lang.specs.Grammar.{on_delete_of, reference, role};
 ghost use Rattle.mm_lang.specs.steps.Parsing.{ReadsPhrase, no_literals};
@@ -9,8 +9,8 @@ use crate::read::reader::Reader;
 use mm_schema::{Column, OnDelete, Role};
 use mm_value::Refusal;
 
-/// How a column is read: its name, its type, and behind these `KEY` where it is the key, or `REF` and the name of the table
-/// that it refers to, and `CASCADE` where its rows are deleted with the rows that they refer to. Its item is the column.
+/// The phrase of a column: its name, its type, and its role. The role is `KEY` for the key, `REF` and the name of the referenced table, or
+/// nothing. `CASCADE` after that name deletes the rows of the column with the rows that they refer to. The item is the column.
 #[derive(Drop)]
 pub(crate) struct ColumnPhrase;
 
@@ -27,7 +27,7 @@ impl<'l> Phrase<'l> for ColumnPhrase {
 
     ghost never_longer = { column_never_longer };
 
-    /// Reads a column. `Syntax` where no name stands first in the rest, no type behind it, or no name behind `REF`.
+    /// Reads a column. Fails with `Syntax` if the rest does not begin with a name and a type, or if `REF` is not followed by a name.
     fn read(&mut self, reader: &mut Reader<'l>) -> Result<Column, Refusal> {
         let name = reader.name()?;
         let col_type = reader.col_type()?;
@@ -40,8 +40,7 @@ impl<'l> Phrase<'l> for ColumnPhrase {
     }
 }
 
-// Reads `KEY`, or `REF` and what stands behind it; a column with neither is plain. `Syntax` where no name stands behind
-// `REF`.
+// Reads `KEY` or `REF` with its table. A column with neither is plain. Fails with `Syntax` if `REF` is not followed by a name.
 fn read_role(reader: &mut Reader<'_>) -> Result<Role, Refusal>
     ensures { ReadsPhrase role no_literals reader.old reader.new result }
 {
@@ -54,8 +53,7 @@ fn read_role(reader: &mut Reader<'_>) -> Result<Role, Refusal>
     Ok(Role::Plain)
 }
 
-// Reads what stands behind `REF`: a name, and behind it `CASCADE` if it is there. `Syntax` where the name does not stand
-// there.
+// Reads the name after `REF`, and `CASCADE` if it follows. Fails with `Syntax` if there is no name.
 fn read_reference(reader: &mut Reader<'_>) -> Result<Role, Refusal>
     ensures { ReadsPhrase (reference true) no_literals reader.old reader.new result }
 {
@@ -65,7 +63,7 @@ fn read_reference(reader: &mut Reader<'_>) -> Result<Role, Refusal>
     Ok(Role::Reference { table, on_delete })
 }
 
-// What becomes of the rows that refer to a row that is deleted, by whether `CASCADE` stands behind the table's name.
+// Returns the rule for deleting referenced rows, by whether `CASCADE` follows the table's name.
 fn on_delete_of(cascades: bool) -> OnDelete
     ensures { result ≡ on_delete_of cascades }
 {

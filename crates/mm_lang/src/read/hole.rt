@@ -1,4 +1,4 @@
-//! Holes: where values are given later.
+//! Holes: the parameters of a statement.
 ghost use Rattle.std.specs.Prelude.{◌≡◌, IfOk};
 ghost use Rattle.std.specs.Char.{is_ascii_digit};
 ghost use Rattle.std.specs.List.{list_all};
@@ -10,7 +10,7 @@ ghost use Rattle.mm_value.specs.Literal.{is_numeral};
 use crate::read::token::{Token, split_token};
 use std::alloc::{AllocError, Global};
 
-/// Whether a hole stands in a line. Its tokens are split off only where its bytes have a `?`.
+/// Returns whether a line has a hole. Splits the line into tokens only if it contains a `?`.
 pub(crate) fn has_hole(line: &[u8]) -> bool
     ensures { result ≡ has_hole (tokens line.now) }
 {
@@ -39,7 +39,7 @@ fn is_hole(token: Token<'_>) -> bool
     matches!(token, Token::Hole)
 }
 
-/// Whether each literal of a line is a hole, in written order. `AllocError` where memory was refused.
+/// Returns for each literal of a line, in written order, whether it is a hole. Fails with `AllocError` if an allocation fails.
 pub(crate) fn holes_among(alloc: Global, line: &[u8]) -> Result<Vec<bool>, AllocError>
     ensures { IfOk result (λ holes. holes.items ≡ holes_among (tokens line.now)) }
 {
@@ -54,7 +54,7 @@ pub(crate) fn holes_among(alloc: Global, line: &[u8]) -> Result<Vec<bool>, Alloc
     Ok(holes)
 }
 
-// Whether a token is a hole, if it is a literal.
+// Returns whether a token is a hole, or `None` if the token is not a literal.
 fn hole_flag(token: Token<'_>) -> Option<bool>
     ensures { (t : Tok) → Shows token.entry t → result ≡ hole_flag t }
 {
@@ -67,7 +67,7 @@ fn hole_flag(token: Token<'_>) -> Option<bool>
     }
 }
 
-// Whether bytes are one or more digits.
+// Returns whether bytes are one or more digits.
 fn is_numeral(bytes: &[u8]) -> bool
     ensures { result ≡ is_numeral bytes.now }
 {

@@ -5,7 +5,7 @@ ghost use Rattle.mm_lang.specs.Words.{is_word, keyword_named, keyword_text};
 ghost use Rattle.mm_lang.specs.steps.Letters.{begins_keyword};
 ghost use Rattle.mm_lang.specs.declared.read.keyword.TheConstants.{KEYWORDS};
 
-/// A word in upper case that the language keeps to itself. No name is one, since names are in lower case.
+/// A reserved word, in upper case. No name is a keyword, since names are in lower case.
 #[derive(Clone, Copy, Debug, PartialEq, Eq)]
 pub enum Keyword {
     And,
@@ -42,7 +42,7 @@ pub enum Keyword {
     Where,
 }
 
-/// All keywords, in the order of the alphabet.
+/// All keywords, in alphabetical order.
 pub(crate) const KEYWORDS: [Keyword; 32] = [
     Keyword::And,
     Keyword::Begin,
@@ -79,7 +79,7 @@ pub(crate) const KEYWORDS: [Keyword; 32] = [
 ];
 
 impl Keyword {
-    /// The word that it is written as, in upper case.
+    /// Returns the word of the keyword, in upper case.
     pub fn text(self) -> &'static [u8]
         ensures { result.now ≡ keyword_text self }
     {
@@ -119,7 +119,7 @@ impl Keyword {
         }
     }
 
-    /// The keyword that is written as this word, none where none is.
+    /// Returns the keyword with this word, or `None` if there is none.
     pub(crate) fn named(word: &[u8]) -> Option<Keyword>
         ensures { result ≡ keyword_named word.now }
     {
@@ -129,7 +129,7 @@ impl Keyword {
         written_as(beginning_with(word[0]), word)
     }
 
-    /// Whether a word is this keyword.
+    /// Returns whether a word is this keyword.
     pub(crate) fn is_word(self, word: &[u8]) -> bool
         ensures { result ≡ is_word self word.now }
     {
@@ -137,7 +137,7 @@ impl Keyword {
     }
 }
 
-// The keywords that begin with a letter, in the order of the alphabet.
+// Returns the keywords that begin with a letter, in alphabetical order.
 fn beginning_with(letter: u8) -> &'static [Keyword]
     ensures { result.now ≡ filter (begins_keyword letter) KEYWORDS }
 {
@@ -173,7 +173,7 @@ fn beginning_with(letter: u8) -> &'static [Keyword]
     }
 }
 
-// The first of some keywords that is written as this word.
+// Returns the first of some keywords with this word.
 fn written_as(keywords: &[Keyword], word: &[u8]) -> Option<Keyword>
     ensures { result ≡ find (λ keyword. is_word keyword word.now) keywords.now }
 {

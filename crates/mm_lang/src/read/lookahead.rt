@@ -1,4 +1,4 @@
-//! The bytes that are left of a line, with their first token split off.
+//! The rest of a line, with its first token split off.
 ghost use Rattle.std.specs.Prelude.{◌≡◌, [], length, MatchOption};
 ghost use Rattle.mm_lang.specs.steps.Parsing.{BeginsNoHole, BeginsNoMark, BeginsNoWord, BeginsNot, BeginsNotSigned, Follows};
 ghost use Rattle.mm_lang.specs.steps.Splitting.{Splits};
@@ -7,11 +7,11 @@ ghost use Rattle.mm_lang.specs.Tokens.{Word, Signed, Mark as MarkToken, Hole as 
 use crate::read::token::{Symbol, Token, split_token};
 use std::marker::Model;
 
-/// The bytes that are left of a line. Their first token is split off once, and kept until it is taken.
+/// The rest of a line. Its first token is split off once, and kept until it is consumed.
 #[derive(Drop)]
 pub(crate) struct Lookahead<'a> {
     bytes: &'a [u8],
-    /// The first token, and the bytes behind it.
+    /// The first token, and the bytes after it.
     first: Option<(Token<'a>, &'a [u8])>,
 }
 
@@ -28,7 +28,7 @@ impl<'a> Model for Lookahead<'a> {
 }
 
 impl<'a> Lookahead<'a> {
-    /// These bytes.
+    /// Returns a lookahead over these bytes.
     pub(crate) fn new(bytes: &'a [u8]) -> Lookahead<'a>
         ensures { result ≡ bytes.now }
     {
@@ -38,21 +38,21 @@ impl<'a> Lookahead<'a> {
         }
     }
 
-    /// The bytes.
+    /// Returns the bytes.
     pub(crate) fn bytes(&self) -> &'a [u8]
         ensures { result.now ≡ self.now }
     {
         self.bytes
     }
 
-    /// The first token, and the bytes behind it; none where there are only blanks.
+    /// Returns the first token and the bytes after it, or `None` if there are only blanks.
     pub(crate) fn token(&self) -> Option<(Token<'a>, &'a [u8])>
         ensures { MatchOption result (tokens self.now ≡ []) (λ r. Splits (tokens self.now) (length self.now) r.0 r.1.now) }
     {
         self.first
     }
 
-    /// The word that stands first, and the bytes behind it.
+    /// Returns the word at the front and the bytes after it, or `None` if the first token is not a word.
     pub(crate) fn word(&self) -> Option<(&'a [u8], &'a [u8])>
         ensures { MatchOption result (BeginsNoWord (tokens self.now)) (λ r. Follows self.now (Word r.0.now) r.1.now) }
     {
@@ -62,7 +62,7 @@ impl<'a> Lookahead<'a> {
         }
     }
 
-    /// The bytes behind this symbol, where it stands first.
+    /// Returns the bytes after this symbol, or `None` if it is not the first token.
     pub(crate) fn behind(&self, symbol: Symbol) -> Option<&'a [u8]>
         ensures { MatchOption result (BeginsNot symbol (tokens self.now)) (λ r. Follows self.now (MarkToken symbol) r.now) }
     {
@@ -72,7 +72,7 @@ impl<'a> Lookahead<'a> {
         }
     }
 
-    /// The bytes behind a hole, where one stands first.
+    /// Returns the bytes after a hole, or `None` if the first token is not a hole.
     pub(crate) fn behind_hole(&self) -> Option<&'a [u8]>
         ensures { MatchOption result (BeginsNoHole (tokens self.now)) (λ r. Follows self.now HoleToken r.now) }
     {
@@ -82,7 +82,7 @@ impl<'a> Lookahead<'a> {
         }
     }
 
-    /// The symbol that stands first, and the bytes behind it.
+    /// Returns the symbol at the front and the bytes after it, or `None` if the first token is not a symbol.
     pub(crate) fn symbol(&self) -> Option<(Symbol, &'a [u8])>
         ensures { MatchOption result (BeginsNoMark (tokens self.now)) (λ r. Follows self.now (MarkToken r.0) r.1.now) }
     {
@@ -92,7 +92,7 @@ impl<'a> Lookahead<'a> {
         }
     }
 
-    /// The bytes behind the minus of the signed word that stands first, and the bytes behind that word.
+    /// Returns the word after a minus and the bytes after that word, or `None` if the first token is not a word with a minus.
     pub(crate) fn signed(&self) -> Option<(&'a [u8], &'a [u8])>
         ensures { MatchOption result (BeginsNotSigned (tokens self.now)) (λ r. Follows self.now (Signed r.0.now) r.1.now) }
     {

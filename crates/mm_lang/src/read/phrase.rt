@@ -1,4 +1,4 @@
-//! Phrases that stand in lists.
+//! Phrases, and lists of them.
 ghost use Rattle.std.specs.Prelude.{◌≡◌, List, Option};
 ghost use Rattle.std.specs.List.{flat_map};
 ghost use Rattle.mm_lang.specs.Grammar.{comma_list};
@@ -11,7 +11,7 @@ use crate::read::reader::Reader;
 use crate::read::token::Symbol;
 use mm_value::{Few, Refusal};
 
-/// What stands between each two items of a list.
+/// The separator of the items of a list.
 #[derive(Clone, Copy)]
 pub(crate) enum Separator {
     /// `,`
@@ -20,25 +20,25 @@ pub(crate) enum Separator {
     And,
 }
 
-/// How an item of a list is read from a line, which lives for `'l`.
+/// A parser for one item of a list, in a line with the lifetime `'l`.
 pub(crate) trait Phrase<'l> {
-    /// What the item says.
+    /// The parsed item.
     type Item: Drop;
 
     ghost reading: { Phr Self.Item };
 
     ghost literals: { Self.Item → List Val };
 
-    /// Reads an item. `Syntax` where none stands there, `Memory` where that was refused. A literal past its limit is
-    /// noted in the reader.
+    /// Reads an item. Fails with `Syntax` if the rest does not begin with one, and with `Memory` if an allocation fails. Records a literal
+    /// past its limit in the reader, and continues.
     fn read(&mut self, reader: &mut Reader<'l>) -> Result<Self::Item, Refusal>
         ensures { ReadsPhrase reading literals reader.old reader.new result };
 
     ghost never_longer: { NeverLonger reading };
 }
 
-/// Reads one or more items, with the separator between each two, and puts them behind those that are there. `Syntax` where
-/// no item stands there or behind a separator, `Memory` where memory was refused.
+/// Reads one or more items, separated by `separator`, and appends them to `items`. Fails with `Syntax` if the rest does not begin with an
+/// item or a separator is not followed by one, and with `Memory` if an allocation fails.
 pub(crate) fn read_list<'l, P: Phrase<'l>>(
     phrase: &mut P,
     separator: Separator,
@@ -55,8 +55,7 @@ pub(crate) fn read_list<'l, P: Phrase<'l>>(
     }
 }
 
-/// Reads one or more items, with the separator between each two, as `read_list` does, and gives their list. An only item
-/// takes no block.
+/// Reads one or more items as [`read_list`] does, and returns their list. A single item needs no allocation for the list.
 pub(crate) fn read_items<'l, P: Phrase<'l>>(
     phrase: &mut P,
     separator: Separator,
@@ -74,8 +73,7 @@ pub(crate) fn read_items<'l, P: Phrase<'l>>(
     Ok(Few::from_vec(items))
 }
 
-/// Reads a keyword and the items behind it, as `read_items` does, or nothing where the keyword does not stand there: then
-/// the list is empty.
+/// Reads a keyword and the items after it as [`read_items`] does. Returns an empty list if the rest does not begin with the keyword.
 pub(crate) fn read_clause<'l, P: Phrase<'l>>(
     keyword: Keyword,
     phrase: &mut P,
@@ -90,8 +88,7 @@ pub(crate) fn read_clause<'l, P: Phrase<'l>>(
     read_items(phrase, separator, reader)
 }
 
-/// Reads a list with commas in parentheses, as `read_list` does. `Syntax` also where one of the parentheses does not stand
-/// there.
+/// Reads a list with commas in parentheses as [`read_list`] does. Fails with `Syntax` also if a parenthesis is missing.
 pub(crate) fn read_in_parentheses<'l, P: Phrase<'l>>(
     phrase: &mut P,
     reader: &mut Reader<'l>,

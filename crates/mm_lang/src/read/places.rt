@@ -1,4 +1,4 @@
-//! Places in a line at which a person may look for what refused it.
+//! Offsets in a refused line for error messages.
 ghost use Rattle.std.specs.Prelude.{◌≤◌, All, IfOk, length};
 
 use crate::read::keyword::Keyword;
@@ -9,8 +9,8 @@ use mm_schema::NameRef;
 use mm_value::Refusal;
 use std::alloc::{AllocError, Global};
 
-/// Where the reading of a line stops: the place of the token in front of which it is a command no more, or its length. It is a hint
-/// for people, of which no more is promised than that it lies within the line.
+/// Returns the byte offset at which parsing of a line stops: that of the token that no command continues with, or the length of the line.
+/// The offset is a hint; the contract says only that it is at most the length of the line.
 pub fn place_of_syntax_error(alloc: Global, line: &[u8]) -> usize
     ensures { result ≤ length line.now }
 {
@@ -22,14 +22,14 @@ pub fn place_of_syntax_error(alloc: Global, line: &[u8]) -> usize
     place_of_next(line, reader.rest())
 }
 
-/// Reads behind the first keyword as far as a line is a command.
+/// Reads the rest of a command after its first keyword, and checks that nothing follows.
 fn read_on(keyword: Keyword, reader: &mut Reader<'_>) -> Result<(), Refusal> {
     read_behind(keyword, reader)?;
     reader.finish()
 }
 
-/// The place of the first literal of a line that is past its limit, or 0. It is a hint for people, of which no more is promised than
-/// that it lies within the line.
+/// Returns the byte offset of the first literal of a line that is past its limit, or 0. The offset is a hint; the contract says only that
+/// it is at most the length of the line.
 pub fn place_of_limit(alloc: Global, line: &[u8]) -> usize
     ensures { result ≤ length line.now }
 {
@@ -43,22 +43,22 @@ pub fn place_of_limit(alloc: Global, line: &[u8]) -> usize
     0
 }
 
-/// Whether a token is a literal past its limit.
+/// Returns whether a token is a literal past its limit.
 fn is_past_limit(alloc: Global, token: Token<'_>) -> bool {
     matches!(literal(alloc, token), Err(refusal) if is_limit(refusal))
 }
 
-/// A name in a line, and where it stands.
+/// A name in a line, and its byte offset.
 #[derive(Debug, Drop)]
 pub struct PlacedName<'l> {
     /// The name.
     pub name: NameRef<'l>,
-    /// The place of its first byte.
+    /// The byte offset of the name.
     pub place: usize,
 }
 
-/// The names of a line, and where each of them stands, from left to right. `AllocError` where memory is refused. The places are hints
-/// for people, of which no more is promised than that they lie within the line.
+/// Returns the names of a line, from left to right, with their byte offsets. Fails with `AllocError` if an allocation fails. The offsets
+/// are hints; the contract says only that each is at most the length of the line.
 pub fn names_in(alloc: Global, line: &[u8]) -> Result<Vec<PlacedName<'_>>, AllocError>
     ensures { IfOk result (λ names. All (λ found. found.place ≤ length line.now) names.items) }
 {
@@ -76,7 +76,7 @@ pub fn names_in(alloc: Global, line: &[u8]) -> Result<Vec<PlacedName<'_>>, Alloc
     Ok(names)
 }
 
-/// The place in a line of the first token of what is left of it.
+/// Returns the byte offset in a line of the first token of its rest.
 fn place_of_next(line: &[u8], rest: &[u8]) -> usize
     ensures { result ≤ length line.now }
 {

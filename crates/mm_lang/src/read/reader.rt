@@ -1,4 +1,4 @@
-//! Reading of a line from left to right.
+//! Parsing of a line from left to right.
 ghost use Rattle.std.specs.Prelude.{◌≡◌, None, MatchResult};
 ghost use Rattle.mm_lang.specs.Grammar.{col_type, comparison, comparison_of, digits, index_kind, literal_of, name, numbered, position};
 ghost use Rattle.mm_lang.specs.Grammar.{behind_sign, shift, unit_shift};
@@ -19,8 +19,8 @@ use mm_schema::{IndexKind, Name, NameRef};
 use mm_value::{ColType, Refusal, Value, read_int, read_literal};
 use std::alloc::Global;
 
-/// What is left of a line to be read, and the first literal past its limit. Its calls read what stands first in the
-/// rest. They answer `Syntax` where it does not stand there, and then the line is not read any further.
+/// The rest of a line, and the refusal of the first literal past its limit. Its methods read from the front of the rest. They fail with
+/// `Syntax` if the rest does not begin with what they read; parsing ends then.
 #[derive(Drop)]
 pub(crate) struct Reader<'a> {
     alloc: Global,
@@ -29,7 +29,7 @@ pub(crate) struct Reader<'a> {
 }
 
 impl<'a> Reader<'a> {
-    /// A reader of all the bytes of a line, with no literal past its limit so far.
+    /// Returns a reader of a whole line, with no literal past its limit so far.
     pub(crate) fn new(alloc: Global, line: &'a [u8]) -> Reader<'a>
         ensures rest { result.rest ≡ line.now }
         ensures fault { result.fault ≡ None }
@@ -41,19 +41,19 @@ impl<'a> Reader<'a> {
         }
     }
 
-    /// What is left to be read.
+    /// Returns the rest of the line.
     pub(crate) fn rest(&self) -> &'a [u8]
         ensures { result.now ≡ self.now.rest }
     {
         self.rest.bytes()
     }
 
-    /// The allocator of what is read.
+    /// Returns the allocator for what is read.
     pub(crate) fn alloc(&self) -> Global {
         self.alloc
     }
 
-    /// Takes this symbol, and tells whether it stood there. Where it did not, nothing is taken.
+    /// Consumes this symbol if it is next, and returns whether it was. Otherwise consumes nothing.
     pub(crate) fn skip(&mut self, symbol: Symbol) -> bool
         ensures { Skips (the_symbol symbol) self.old self.new result }
     {
@@ -66,7 +66,7 @@ impl<'a> Reader<'a> {
         }
     }
 
-    /// Takes this keyword, and tells whether it stood there. Where it did not, nothing is taken.
+    /// Consumes this keyword if it is next, and returns whether it was. Otherwise consumes nothing.
     pub(crate) fn skip_keyword(&mut self, keyword: Keyword) -> bool
         ensures { Skips (the_keyword keyword) self.old self.new result }
     {
@@ -79,7 +79,7 @@ impl<'a> Reader<'a> {
         }
     }
 
-    /// Takes this separator, and tells whether it stood there. Where it did not, nothing is taken.
+    /// Consumes this separator if it is next, and returns whether it was. Otherwise consumes nothing.
     pub(crate) fn skip_separator(&mut self, separator: Separator) -> bool
         ensures { Skips (the_separator separator) self.old self.new result }
     {
@@ -89,8 +89,8 @@ impl<'a> Reader<'a> {
         }
     }
 
-    /// Takes a literal, and gives its value. Where none stood there, nothing is taken; where it passes its limit that is
-    /// noted, and a zero stands in its place. `Memory` where memory was refused for a text.
+    /// Consumes a literal if it is next, and returns its value. Otherwise returns `None` and consumes nothing. Records a literal past its
+    /// limit, and returns a zero in its place. Fails with `Memory` if an allocation for a text fails.
     pub(crate) fn skip_literal(&mut self) -> Result<Option<Value>, Refusal>
         ensures { Finds (one literal_of) only_literal self.old self.new result }
     {
@@ -112,7 +112,7 @@ impl<'a> Reader<'a> {
         }
     }
 
-    /// Reads this symbol. `Syntax` where anything else stands there.
+    /// Reads this symbol. Fails with `Syntax` if it is not next.
     pub(crate) fn symbol(&mut self, symbol: Symbol) -> Result<(), Refusal>
         ensures { ReadsPhrase (the_symbol symbol) no_literals self.old self.new result }
     {
@@ -123,7 +123,7 @@ impl<'a> Reader<'a> {
         }
     }
 
-    /// Reads this keyword. `Syntax` where anything else stands there.
+    /// Reads this keyword. Fails with `Syntax` if it is not next.
     pub(crate) fn expect_keyword(&mut self, keyword: Keyword) -> Result<(), Refusal>
         ensures { ReadsPhrase (the_keyword keyword) no_literals self.old self.new result }
     {
@@ -134,7 +134,7 @@ impl<'a> Reader<'a> {
         }
     }
 
-    /// Reads a keyword, and gives it. `Syntax` where no word stands there, or one that is no keyword. No memory is taken.
+    /// Reads a keyword, and returns it. Fails with `Syntax` if the next token is not a keyword. Allocates nothing.
     pub(crate) fn keyword(&mut self) -> Result<Keyword, Refusal>
         ensures { ReadsWithoutMemory (one_word keyword_named) no_literals self.old self.new result }
     {
@@ -142,7 +142,7 @@ impl<'a> Reader<'a> {
         Keyword::named(word).ok_or(Refusal::Syntax)
     }
 
-    /// Reads a name, and gives a copy of it. `Syntax` where no word stands there, or one that is no name.
+    /// Reads a name, and returns a copy of it. Fails with `Syntax` if the next token is not a name. Allocates nothing.
     pub(crate) fn name(&mut self) -> Result<Name, Refusal>
         ensures { ReadsWithoutMemory name no_literals self.old self.new result }
     {
@@ -150,7 +150,7 @@ impl<'a> Reader<'a> {
         Name::new(word).ok_or(Refusal::Syntax)
     }
 
-    /// Reads a name, and gives it as it lies in the line. `Syntax` where no word stands there, or one that is no name.
+    /// Reads a name, and returns a reference to it in the line. Fails with `Syntax` if the next token is not a name. Allocates nothing.
     pub(crate) fn name_ref(&mut self) -> Result<NameRef<'a>, Refusal>
         ensures { ReadsWithoutMemory name no_literals self.old self.new result }
     {
@@ -158,7 +158,7 @@ impl<'a> Reader<'a> {
         NameRef::new(word).ok_or(Refusal::Syntax)
     }
 
-    /// Reads a name in parentheses, and gives it. `Syntax` where one of the three does not stand there.
+    /// Reads a name in parentheses, and returns it. Fails with `Syntax` if one of the three is missing.
     pub(crate) fn name_in_parentheses(&mut self) -> Result<Name, Refusal>
         ensures { ReadsPhrase (in_parentheses name) no_literals self.old self.new result }
     {
@@ -168,7 +168,7 @@ impl<'a> Reader<'a> {
         Ok(name)
     }
 
-    /// Reads `TREE` or `HASH`, and gives the kind of index. `Syntax` where neither stands there.
+    /// Reads `TREE` or `HASH`, and returns the kind of index. Fails with `Syntax` if neither is next.
     pub(crate) fn index_kind(&mut self) -> Result<IndexKind, Refusal>
         ensures { ReadsPhrase index_kind no_literals self.old self.new result }
     {
@@ -179,7 +179,7 @@ impl<'a> Reader<'a> {
         }
     }
 
-    /// Reads `INT` or `TEXT`, and gives the type. `Syntax` where neither stands there.
+    /// Reads `INT` or `TEXT`, and returns the type. Fails with `Syntax` if neither is next.
     pub(crate) fn col_type(&mut self) -> Result<ColType, Refusal>
         ensures { ReadsPhrase col_type no_literals self.old self.new result }
     {
@@ -190,7 +190,7 @@ impl<'a> Reader<'a> {
         }
     }
 
-    /// Reads `=`, `<`, `<=`, `>` or `>=`, and gives the comparison. `Syntax` where anything else stands there.
+    /// Reads `=`, `<`, `<=`, `>` or `>=`, and returns the comparison. Fails with `Syntax` if none is next.
     pub(crate) fn comparison(&mut self) -> Result<Comparison, Refusal>
         ensures { ReadsPhrase comparison no_literals self.old self.new result }
     {
@@ -200,9 +200,9 @@ impl<'a> Reader<'a> {
         Ok(comparison)
     }
 
-    /// Reads a sign and digits behind it, and gives the number; none where no sign stands there, and then nothing is taken.
-    /// A hole in place of the digits is a 1. Where the number passes its limit that is noted, and a zero stands in its place.
-    /// `Syntax` where neither stands behind the sign.
+    /// Reads a sign and the digits after it, and returns the number. Returns `None` and consumes nothing if no sign is next. A hole in
+    /// place of the digits reads as 1. Records a number past its limit, and returns a zero in its place. Fails with `Syntax` if the sign is
+    /// followed by neither digits nor a hole.
     pub(crate) fn shift(&mut self) -> Result<Option<i64>, Refusal>
         ensures { ReadsPhrase shift shift_literals self.old self.new result }
     {
@@ -221,16 +221,16 @@ impl<'a> Reader<'a> {
         }
     }
 
-    /// Reads a literal, and gives its value. Where it passes its limit that is noted, and a zero stands in its place.
-    /// `Syntax` where no literal stands there, `Memory` where memory was refused for a text.
+    /// Reads a literal, and returns its value. Records a literal past its limit, and returns a zero in its place. Fails with `Syntax` if no
+    /// literal is next, and with `Memory` if an allocation for a text fails.
     pub(crate) fn literal(&mut self) -> Result<Value, Refusal>
         ensures { ReadsPhrase (one literal_of) only_literal self.old self.new result }
     {
         self.skip_literal()?.ok_or(Refusal::Syntax)
     }
 
-    /// Reads digits, and gives their number. Where it passes the limit of numbers that is noted, and a zero stands in its
-    /// place. `Syntax` where no digits stand there.
+    /// Reads digits, and returns their value. Records a number past its limit, and returns a zero in its place. Fails with `Syntax` if no
+    /// digits are next.
     pub(crate) fn position(&mut self) -> Result<usize, Refusal>
         ensures { ReadsPhrase position position_literals self.old self.new result }
     {
@@ -245,8 +245,8 @@ impl<'a> Reader<'a> {
         }
     }
 
-    /// Tells how the reading of the line ends: `Syntax` where something is left of it, else `NumberOutOfRange` or
-    /// `TextTooLong` where a number or a text was the first literal past its limit.
+    /// Checks that the whole line was read. Fails with `Syntax` if tokens remain, and otherwise with `NumberOutOfRange` or `TextTooLong` if
+    /// the first literal past its limit is a number or a text.
     pub(crate) fn finish(&self) -> Result<(), Refusal>
         ensures { Finishes self.now result }
     {
@@ -259,7 +259,7 @@ impl<'a> Reader<'a> {
         }
     }
 
-    // Takes a hole, and tells whether it stood there. Where it did not, nothing is taken.
+    // Consumes a hole if it is next, and returns whether it was. Otherwise consumes nothing.
     fn skip_hole(&mut self) -> bool
         ensures { Skips the_hole self.old self.new result }
     {
@@ -272,7 +272,7 @@ impl<'a> Reader<'a> {
         }
     }
 
-    // Reads the number of a shift behind its sign, as `shift` gives it.
+    // Reads the number of a shift after its sign, as [`Reader::shift`] returns it.
     fn behind_sign(&mut self, is_negative: bool) -> Result<Option<i64>, Refusal>
         ensures { ReadsPhrase (behind_sign is_negative) shift_literals self.old self.new result }
     {
@@ -282,8 +282,8 @@ impl<'a> Reader<'a> {
         self.digits(is_negative)
     }
 
-    // Reads digits, and gives their number. Where that passes its limit it is noted, and a zero stands in its place.
-    // `Syntax` where no digits stand there.
+    // Reads digits, and returns their value. Records a number past its limit, and returns a zero in its place. Fails with `Syntax` if no
+    // digits are next.
     fn digits(&mut self, is_negative: bool) -> Result<Option<i64>, Refusal>
         ensures { ReadsPhrase (digits is_negative) shift_literals self.old self.new result }
     {
@@ -291,7 +291,7 @@ impl<'a> Reader<'a> {
         self.number(is_negative, word)
     }
 
-    // The number of a word that was taken, as `digits` gives it.
+    // Returns the value of a word of digits that was consumed, as [`Reader::digits`] does.
     fn number(&mut self, is_negative: bool, word: &[u8]) -> Result<Option<i64>, Refusal>
         ensures { ReadsPhrase (numbered is_negative word.now) shift_literals self.old self.new result }
     {
@@ -305,7 +305,7 @@ impl<'a> Reader<'a> {
         }
     }
 
-    // Reads a word, and gives its bytes. `Syntax` where none stands there. No memory is taken.
+    // Reads a word, and returns its bytes. Fails with `Syntax` if no word is next. Allocates nothing.
     fn word(&mut self) -> Result<&'a [u8], Refusal>
         ensures { MatchResult result (λ word. Gives (one word_of) no_literals self.old self.new word.now) (IsMissing (one word_of) self.old) }
     {
@@ -319,14 +319,14 @@ impl<'a> Reader<'a> {
     }
 }
 
-// A shift by one, up or down.
+// Returns a shift by one, up or down.
 fn unit_shift(is_negative: bool) -> i64
     ensures { result ≡ unit_shift is_negative }
 {
     if is_negative { -1 } else { 1 }
 }
 
-// The comparison that a symbol writes.
+// Returns the comparison that a symbol denotes.
 fn comparison_of(symbol: Symbol) -> Option<Comparison>
     ensures { result ≡ comparison_of symbol }
 {
@@ -340,8 +340,8 @@ fn comparison_of(symbol: Symbol) -> Option<Comparison>
     }
 }
 
-// The value that a token is; a hole is a 0. `Syntax` where it is none, else `NumberOutOfRange` or `TextTooLong` where it passes its
-// limit, else `Memory` where that was refused.
+// Returns the value of a literal; a hole is 0. Fails with `Syntax` if the token is not a literal, and otherwise with `NumberOutOfRange` or
+// `TextTooLong` if it is past its limit. May instead fail with `Memory`.
 pub(crate) fn literal(alloc: Global, token: Token<'_>) -> Result<Value, Refusal>
     ensures { (t : Tok) → Shows token.entry t → AnswersOrMemory (checked literal_fault (literal_of t)) result }
 {
@@ -354,7 +354,7 @@ pub(crate) fn literal(alloc: Global, token: Token<'_>) -> Result<Value, Refusal>
     }
 }
 
-// Whether a literal past its limit is refused so.
+// Returns whether a literal past its limit has this refusal.
 pub(crate) fn is_limit(refusal: Refusal) -> bool
     ensures { result ≡ is_limit refusal }
 {

@@ -1,4 +1,4 @@
-//! What a line reads as.
+//! Parsing of a line as a command.
 ghost use Rattle.std.specs.Prelude.{◌≡◌, false, Err};
 ghost use Rattle.std.specs.List.{list_all};
 ghost use Rattle.mm_lang.specs.Grammar.{command_behind, command_of, delete, drop, dropped, index, insert, rollback, savepoint, scan, show, table, unwatch, update};
@@ -21,24 +21,30 @@ use mm_schema::{Columns, IndexDef, TableDef};
 use mm_value::Refusal;
 use std::alloc::Global;
 
-/// The most bytes that a line has, without its line feed and carriage return.
+/// The maximum length of a line in bytes, without its line feed and carriage return.
 pub const MAX_LINE_BYTES: usize = 4096;
 
-/// Reads a line, without its line feed and carriage return, as a command. A line of blanks alone, of no bytes or that
-/// begins with `--` reads as `Nothing`. Else the line is one of these, where `[ ]` is optional:
-/// `TABLE name (column, ..)`, where a column is `name type [KEY | REF name [CASCADE]]`, a type is `INT` or `TEXT`, and just
-/// one column has `KEY`; `DROP TABLE name`; `INDEX name ON name (name) kind`, where a kind is `TREE` or `HASH`; `DROP INDEX name`;
-/// `INSERT name (literal, ..), ..`; `UPDATE name SET name = value, .. [WHERE test AND ..]`; `DELETE name [WHERE test AND ..]`,
-/// where a test is `name op value`, an op one of `=`, `<`, `<=`, `>` and `>=`, and a value `literal`, `name`, `name + digits`
-/// or `name - digits`; `SCAN name` and `SCAN INDEX name`;
-/// `SELECT [DISTINCT] field, .. FROM name name, .. [WHERE test AND ..] [ORDER digits, ..]`, where a field is `name . name`,
-/// and stands for a column in the tests too; `EXPLAIN` and such a `SELECT`; `WATCH name` and such a `SELECT`; `UNWATCH name`;
-/// `SHOW name`; `TABLES`; `BEGIN`, `COMMIT` or `ROLLBACK`; or `SAVEPOINT name` or `ROLLBACK TO name`.
-/// `LineTooLong` where the line has more than 4,096 bytes, `Syntax` where it has no reading or a `?` outside a text, else
-/// `NumberOutOfRange` or `TextTooLong` where its first literal from the left past its limit is a number or a text; digits
-/// behind a minus count as the negative number, and digits of ORDER are numbers too. `Memory` may come in place of any answer
-/// but `LineTooLong`, `Nothing`, `Begin`, `Commit`, `Rollback` and `RollbackTo`. Nothing is taken but what the command keeps:
-/// the names of fields and of columns that are tested or assigned lie in the line.
+/// Returns the command that a line, without its line feed and carriage return, reads as. An empty line, a line of blanks, and a line that
+/// begins with `--` read as `Nothing`. Any other line must have one of these forms, where `[ ]` is optional:
+///
+/// - `TABLE name (column, ..)`. A column is `name type [KEY | REF name [CASCADE]]`, and a type is `INT` or `TEXT`. Exactly one column has
+///   `KEY`.
+/// - `INDEX name ON name (name) kind`. A kind is `TREE` or `HASH`.
+/// - `DROP TABLE name` or `DROP INDEX name`.
+/// - `INSERT name (literal, ..), ..`.
+/// - `UPDATE name SET name = value, .. [WHERE test AND ..]` or `DELETE name [WHERE test AND ..]`. A test is `name op value`, an op is `=`,
+///   `<`, `<=`, `>` or `>=`, and a value is `literal`, `name`, `name + digits` or `name - digits`.
+/// - `SELECT [DISTINCT] field, .. FROM name name, .. [WHERE test AND ..] [ORDER digits, ..]`. A field is `name . name`, and replaces the
+///   names of columns in tests.
+/// - `EXPLAIN` or `WATCH name`, followed by a `SELECT`.
+/// - `SCAN name`, `SCAN INDEX name`, `SHOW name`, `UNWATCH name` or `TABLES`.
+/// - `BEGIN`, `COMMIT`, `ROLLBACK`, `SAVEPOINT name` or `ROLLBACK TO name`.
+///
+/// Fails with `LineTooLong` if the line has more than 4,096 bytes, and with `Syntax` if it has no such form or has a `?` outside a text.
+/// Otherwise fails with `NumberOutOfRange` or `TextTooLong` if the first literal past its limit is a number or a text. Digits after a minus
+/// are a negative number, and the digits of ORDER are numbers too. May instead fail with `Memory`, but not if the result is `LineTooLong`,
+/// `Nothing`, `Begin`, `Commit`, `Rollback` or `RollbackTo`. Allocates only what the command keeps: the names of fields, and of columns
+/// that are tested or assigned, are references into the line.
 pub fn parse(alloc: Global, line: &[u8]) -> Result<Command<'_>, Refusal>
     ensures { Reads line.now result }
 {
@@ -54,7 +60,7 @@ pub fn parse(alloc: Global, line: &[u8]) -> Result<Command<'_>, Refusal>
     read_command(alloc, line)
 }
 
-/// Whether a line has no command: it is empty or a comment.
+/// Returns whether a line has no command: it is empty or a comment.
 pub(crate) fn is_nothing(line: &[u8]) -> bool
     ensures { result ≡ is_nothing line.now }
 {
@@ -73,8 +79,9 @@ fn is_comment(line: &[u8]) -> bool
     matches!(line, [b'-', b'-', ..])
 }
 
-/// What the tokens of a line read as, with a number in place of each hole. `Syntax` where they have no reading, else
-/// `NumberOutOfRange` or `TextTooLong` for the first literal past its limit. `Memory` may come in place of either, as in `parse`.
+/// Returns the command that the tokens of a line read as, with a number in place of each hole. Fails with `Syntax` if there is none, and
+/// otherwise with `NumberOutOfRange` or `TextTooLong` for the first literal past its limit. May instead fail with `Memory`, as [`parse`]
+/// does.
 pub(crate) fn read_command(alloc: Global, line: &[u8]) -> Result<Command<'_>, Refusal>
     ensures { AnswersReading (read_as (command_of (tokens line.now))) result }
 {
@@ -85,7 +92,8 @@ pub(crate) fn read_command(alloc: Global, line: &[u8]) -> Result<Command<'_>, Re
     Ok(command)
 }
 
-// What stands behind the keyword that a command begins with. One that begins or ends a transaction, or goes back in it, takes no memory.
+// Reads the rest of a command after its first keyword. Allocates nothing for a command that begins or ends a transaction, or rolls back in
+// it.
 #[tactic(auto, using(crate::proofs::CommandReadings::whole_given))]
 pub(crate) fn read_behind<'l>(
     keyword: Keyword,
@@ -145,7 +153,7 @@ fn read_drop<'l>(reader: &mut Reader<'l>) -> Result<Command<'l>, Refusal>
     read_dropped(keyword, reader)
 }
 
-// What stands behind the keyword that says what is dropped.
+// Reads the name of the table or index to drop, by the keyword before it.
 fn read_dropped<'l>(keyword: Keyword, reader: &mut Reader<'l>) -> Result<Command<'l>, Refusal>
     ensures { ReadsPhrase (dropped keyword) literals_of reader.old reader.new result }
 {

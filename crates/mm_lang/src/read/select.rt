@@ -1,4 +1,4 @@
-//! Queries, and the commands that have one.
+//! Queries, and the commands that contain one.
 ghost use Rattle.mm_lang.specs.Grammar.{explain, query, select, watch};
 ghost use Rattle.mm_lang.specs.Reading.{literals_of, query_literals};
 ghost use Rattle.mm_lang.specs.steps.Parsing.{ReadsPhrase};
@@ -12,7 +12,7 @@ use mm_query::{Command, Definition, FieldName, FromItem, NamedQuery, Query};
 use mm_schema::NameRef;
 use mm_value::Refusal;
 
-/// By its table's alias and its name, with a dot between them.
+/// A column by its table's alias and its name, with a dot between them.
 impl<'l> ColumnName<'l> for FieldName<NameRef<'l>> {
     ghost use Rattle.mm_lang.specs.Grammar.{field};
     ghost use Rattle.mm_lang.specs.steps.Shrinking.{field_never_longer};
@@ -21,7 +21,7 @@ impl<'l> ColumnName<'l> for FieldName<NameRef<'l>> {
 
     ghost never_longer = { field_never_longer };
 
-    /// Reads an alias, a dot and a name. `Syntax` where one of the three does not stand there.
+    /// Reads an alias, a dot and a name. Fails with `Syntax` if one of the three is missing.
     fn read(reader: &mut Reader<'l>) -> Result<FieldName<NameRef<'l>>, Refusal> {
         let alias = reader.name_ref()?;
         reader.symbol(Symbol::Dot)?;
@@ -30,7 +30,7 @@ impl<'l> ColumnName<'l> for FieldName<NameRef<'l>> {
     }
 }
 
-/// How a field of the result is read. Its item is the field.
+/// The phrase of a field of the result. Its item is the field.
 #[derive(Drop)]
 struct FieldPhrase;
 
@@ -47,13 +47,13 @@ impl<'l> Phrase<'l> for FieldPhrase {
 
     ghost never_longer = { field_never_longer };
 
-    /// Reads a field. `Syntax` where none stands first in the rest.
+    /// Reads a field. Fails with `Syntax` if the rest does not begin with one.
     fn read(&mut self, reader: &mut Reader<'l>) -> Result<FieldName<NameRef<'l>>, Refusal> {
         FieldName::read(reader)
     }
 }
 
-/// How a table of FROM is read: its name, and behind it its alias. Its item is the two.
+/// The phrase of a table of FROM: its name, followed by its alias. Its item has both.
 #[derive(Drop)]
 struct FromPhrase;
 
@@ -70,7 +70,7 @@ impl<'l> Phrase<'l> for FromPhrase {
 
     ghost never_longer = { from_never_longer };
 
-    /// Reads two names. `Syntax` where one of them does not stand there.
+    /// Reads two names. Fails with `Syntax` if one of them is missing.
     fn read(&mut self, reader: &mut Reader<'l>) -> Result<FromItem, Refusal> {
         let table = reader.name()?;
         let alias = reader.name()?;
@@ -78,7 +78,7 @@ impl<'l> Phrase<'l> for FromPhrase {
     }
 }
 
-/// How a position of ORDER is read: digits. Its item is their number.
+/// The phrase of a position of ORDER: digits. Its item is their value.
 #[derive(Drop)]
 struct PositionPhrase;
 
@@ -95,14 +95,14 @@ impl<'l> Phrase<'l> for PositionPhrase {
 
     ghost never_longer = { position_never_longer };
 
-    /// Reads digits. `Syntax` where none stand first in the rest. A number past its limit is no error yet: it is noted in
-    /// the reader.
+    /// Reads digits. Fails with `Syntax` if the rest does not begin with them. Records a number past its limit in the reader, and
+    /// continues.
     fn read(&mut self, reader: &mut Reader<'l>) -> Result<usize, Refusal> {
         reader.position()
     }
 }
 
-/// Reads what stands behind `SELECT`, a query. The errors are those of [`read_query`].
+/// Reads the query after `SELECT`. Fails as [`read_query`] does.
 pub(crate) fn read_select<'l>(reader: &mut Reader<'l>) -> Result<Command<'l>, Refusal>
     ensures { ReadsPhrase select literals_of reader.old reader.new result }
 {
@@ -110,8 +110,7 @@ pub(crate) fn read_select<'l>(reader: &mut Reader<'l>) -> Result<Command<'l>, Re
     Ok(Command::Select(query))
 }
 
-/// Reads what stands behind `EXPLAIN`: `SELECT` and a query. `Syntax` where the keyword does not stand there; the other errors
-/// are those of [`read_query`].
+/// Reads `SELECT` and a query after `EXPLAIN`. Fails with `Syntax` if the keyword is missing, and otherwise as [`read_query`] does.
 pub(crate) fn read_explain<'l>(reader: &mut Reader<'l>) -> Result<Command<'l>, Refusal>
     ensures { ReadsPhrase explain literals_of reader.old reader.new result }
 {
@@ -120,8 +119,8 @@ pub(crate) fn read_explain<'l>(reader: &mut Reader<'l>) -> Result<Command<'l>, R
     Ok(Command::Explain(query))
 }
 
-/// Reads what stands behind `WATCH`: a name, `SELECT` and a query. `Syntax` where the name or the keyword does not stand there;
-/// the other errors are those of [`read_query`].
+/// Reads a name, `SELECT` and a query after `WATCH`. Fails with `Syntax` if the name or the keyword is missing, and otherwise as
+/// [`read_query`] does.
 pub(crate) fn read_watch<'l>(reader: &mut Reader<'l>) -> Result<Command<'l>, Refusal>
     ensures { ReadsPhrase watch literals_of reader.old reader.new result }
 {
@@ -132,9 +131,9 @@ pub(crate) fn read_watch<'l>(reader: &mut Reader<'l>) -> Result<Command<'l>, Ref
     Ok(Command::Define(Definition::Watch(watched)))
 }
 
-/// Reads a query: `DISTINCT` if it is there, fields, `FROM` and tables, and then the tests of a WHERE
-/// and the positions of an ORDER if these are there. `Syntax` where one of the parts does not stand there, `Memory` where
-/// memory was refused. A literal or a position past its limit is no error yet: it is noted in the reader.
+/// Reads a query: `DISTINCT` if present, fields, `FROM` and tables, and then the tests of a WHERE and the positions of an ORDER if present.
+/// Fails with `Syntax` if another part is missing, and with `Memory` if an allocation fails. Records a literal or a position past its limit
+/// in the reader, and continues.
 fn read_query<'l>(reader: &mut Reader<'l>) -> Result<Query<'l>, Refusal>
     ensures { ReadsPhrase query query_literals reader.old reader.new result }
 {

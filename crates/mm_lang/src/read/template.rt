@@ -1,4 +1,4 @@
-//! Lines with holes, in whose place values are given later.
+//! Lines with holes, which later values fill.
 ghost use Rattle.std.specs.Prelude.{◌≡◌, ◌≢◌, ◌≤◌, ◌&&◌, ℕ, List, Some, length, false, Ok};
 ghost use Rattle.mm_query.specs.declared.command.Command.{Command as Com};
 ghost use Rattle.mm_query.specs.declared.command.Command.TheVariants.{Define};
@@ -17,20 +17,20 @@ use mm_query::Command;
 use mm_value::Refusal;
 use std::alloc::Global;
 
-/// What a line with holes was read as, which lives for `'l`.
+/// The parsed form of a line with holes, with the lifetime `'l`.
 #[derive(Debug, Drop)]
 pub struct Template<'l> {
-    /// The command. In place of each hole stands a 0; in place of one behind the sign of a shift, a 1 with that sign.
+    /// The command, with a 0 in place of each hole, and with a 1 or -1 in place of a hole after the sign of a shift.
     pub command: Command<'l>,
-    /// Whether each literal of the command is a hole, in written order.
+    /// For each literal of the command, in written order, whether it is a hole.
     pub holes: Vec<bool>,
 }
 
-/// Reads a line, without its line feed and carriage return, in which a `?` may stand for a literal: in the tuples of an INSERT,
-/// in the values of a SET, in the tests of a WHERE, and for the digits of a shift. Else it is a line as [`crate::parse`] reads it.
-/// `LineTooLong` where the line has more than 4,096 bytes; `Syntax` where it has no reading, or where a `?` stands in a change
-/// of the catalog, as in the query of a WATCH; else `NumberOutOfRange` or `TextTooLong` where its first literal from the left
-/// past its limit is a number or a text. `Memory` may come in place of any answer.
+/// Returns the command and the holes of a line, without its line feed and carriage return. A `?` may replace a literal in the tuples of an
+/// INSERT, in a SET and in a WHERE, and the digits of a shift. Otherwise the line is read as [`crate::parse`] does. Fails with
+/// `LineTooLong` if the line has more than 4,096 bytes. Fails with `Syntax` if it has no such form, or if a change of the catalog has a
+/// `?`, such as in the query of a WATCH. Otherwise fails with `NumberOutOfRange` or `TextTooLong` if the first literal past its limit is a
+/// number or a text. May instead fail with `Memory`.
 pub fn prepare(alloc: Global, line: &[u8]) -> Result<Template<'_>, Refusal>
     ensures { Prepares line.now result }
 {
@@ -51,14 +51,14 @@ pub fn prepare(alloc: Global, line: &[u8]) -> Result<Template<'_>, Refusal>
     Ok(Template { command, holes })
 }
 
-// Whether a hole stands in a line that begins as a change of the catalog.
+// Returns whether a line has a hole and begins as a change of the catalog.
 fn defines_with_hole(line: &[u8]) -> bool
     ensures { result ≡ (has_hole (tokens line.now) && begins_definition (tokens line.now)) }
 {
     has_hole(line) && begins_definition(line)
 }
 
-// Whether a line begins with the keyword of a change of the catalog.
+// Returns whether a line begins with the keyword of a change of the catalog.
 fn begins_definition(line: &[u8]) -> bool
     ensures { result ≡ begins_definition (tokens line.now) }
 {
@@ -77,13 +77,13 @@ fn is_definition_keyword(keyword: Keyword) -> bool
     )
 }
 
-/// A line without holes is read as [`crate::parse`] reads it; and a line's holes are told of as many literals as its command has.
+/// A line without holes is read as [`crate::parse`] does, and a line has one flag for each literal of its command.
 pub fn templates_read_as_lines()
     ensures plain { (line : List ℕ) → has_hole (tokens line) ≡ false → template_of line ≡ reading line }
     ensures places { (line : List ℕ) (command : Com) → template_of line ≡ Ok command → length (holes_of line) ≡ length (literals_of command) }
 {}
 
-/// A line with a hole never reads as a change of the catalog. All other commands may have holes: a line of at most 4,096 bytes whose tokens
+/// A line with a hole never reads as a change of the catalog. Any other command may have holes: a line of at most 4,096 bytes whose tokens
 /// spell one reads as it, unless a literal is past its limit.
 pub fn holes_are_in_no_definition()
     ensures definitions { (line : List ℕ) (definition : Definition) → template_of line ≡ Ok (Define definition) → has_hole (tokens line) ≡ false }

@@ -31,24 +31,24 @@ pub enum Symbol {
     Minus,
 }
 
-/// A token, as it stands in the line.
+/// A token, as written in the line.
 #[derive(Clone, Copy)]
 pub enum Token<'a> {
     /// Letters, digits and `_`.
     Word(&'a [u8]),
-    /// A minus and the word directly behind it.
+    /// A minus and the word directly after it.
     Signed(&'a [u8]),
-    /// A text with its quotes, each quote in it doubled.
+    /// A text with its quotes, in which each quote is doubled.
     Quoted(&'a [u8]),
     /// A symbol.
     Mark(Symbol),
-    /// `?`, in whose place a value is given later.
+    /// `?`, a parameter.
     Hole,
-    /// A byte or an unclosed quote that stands in no command.
+    /// A byte or an unclosed quote that no command contains.
     Unreadable,
 }
 
-/// Whether each byte may stand in a word: a letter, a digit or `_`.
+/// For each byte, whether a word may contain it: a letter, a digit or `_`.
 static WORD_BYTES: [bool; 256] = [
     false, false, false, false, false, false, false, false, false, false, false, false, false,
     false, false, false, false, false, false, false, false, false, false, false, false, false,
@@ -71,8 +71,7 @@ static WORD_BYTES: [bool; 256] = [
     false, false, false, false, false, false, false, false, false, false,
 ];
 
-/// The first token, and the bytes behind it; none where there are only blanks.
-/// There is nothing behind what can't be read.
+/// Returns the first token and the bytes after it, or `None` if there are only blanks. No bytes follow an unreadable token.
 pub fn split_token(bytes: &[u8]) -> Option<(Token<'_>, &[u8])>
     ensures { MatchOption result (tokens bytes.now ≡ []) (λ r. Splits (tokens bytes.now) (length bytes.now) r.0 r.1.now) }
 {
@@ -91,7 +90,7 @@ fn skip_blanks(bytes: &[u8]) -> &[u8]
     &bytes[blank_len(bytes)..]
 }
 
-/// The length of the longest run of blanks at the front.
+/// Returns the length of the longest run of blanks at the front.
 pub fn blank_len(bytes: &[u8]) -> usize
     ensures run { result ≡ prefix_len is_blank bytes.now }
     ensures in_range { result ≤ length bytes.now }
@@ -114,7 +113,7 @@ fn split_first_token(bytes: &[u8]) -> (Token<'_>, &[u8])
     (Token::Word(word), rest)
 }
 
-/// The length of the longest run of letters, digits and `_` at the front.
+/// Returns the length of the longest run of letters, digits and `_` at the front.
 pub fn word_len(bytes: &[u8]) -> usize
     ensures run { result ≡ prefix_len is_word_byte bytes.now }
     ensures in_range { result ≤ length bytes.now }
@@ -122,7 +121,7 @@ pub fn word_len(bytes: &[u8]) -> usize
     bytes.iter().take_while(|b| is_word_byte(**b)).count()
 }
 
-/// Whether some bytes begin with a letter, a digit or `_`.
+/// Returns whether bytes begin with a letter, a digit or `_`.
 pub fn begins_word(bytes: &[u8]) -> bool
     ensures { result ≡ begins_word bytes.now }
 {
@@ -132,7 +131,7 @@ pub fn begins_word(bytes: &[u8]) -> bool
     }
 }
 
-// Of bytes whose first is no blank, quote or byte of a word.
+// Splits off the first token of bytes that begin with neither a blank, a quote nor a byte of a word.
 fn split_symbol(bytes: &[u8]) -> (Token<'_>, &[u8])
     requires { 0 < length bytes.now }
     ensures { Splits (onto_symbol (slice_index bytes.now 0) (drop 1 bytes.now) (tokens (drop 1 bytes.now))) (length bytes.now) result.0 result.1.now }
@@ -154,7 +153,7 @@ fn split_symbol(bytes: &[u8]) -> (Token<'_>, &[u8])
     (Token::Mark(symbol), rest)
 }
 
-// An equals sign at once behind `alone` makes it `joined`.
+// Returns `joined` if an equals sign follows directly, and otherwise `alone`.
 fn split_comparison(rest: &[u8], alone: Symbol, joined: Symbol) -> (Token<'_>, &[u8])
     ensures { Splits (onto_equal alone joined (begins_equal rest.now) (tokens rest.now)) (length rest.now + 1) result.0 result.1.now }
 {
@@ -164,7 +163,7 @@ fn split_comparison(rest: &[u8], alone: Symbol, joined: Symbol) -> (Token<'_>, &
     }
 }
 
-// Of bytes that begin with a minus.
+// Splits off the first token of bytes that begin with a minus.
 fn split_minus(bytes: &[u8]) -> (Token<'_>, &[u8])
     requires nonempty { 0 < length bytes.now }
     requires minus { slice_index bytes.now 0 ≡ 45 }
@@ -179,7 +178,7 @@ fn split_minus(bytes: &[u8]) -> (Token<'_>, &[u8])
     }
 }
 
-// Of bytes that begin with a quote.
+// Splits off the first token of bytes that begin with a quote.
 fn split_text(bytes: &[u8]) -> (Token<'_>, &[u8])
     requires nonempty { 0 < length bytes.now }
     requires quote { slice_index bytes.now 0 ≡ 39 }
@@ -198,14 +197,14 @@ fn split_text(bytes: &[u8]) -> (Token<'_>, &[u8])
     }
 }
 
-/// What a text goes on with.
+/// The next piece inside a text.
 #[derive(Clone, Copy)]
 enum Piece {
-    /// This many bytes that stand for one byte of the text.
+    /// This many bytes, which spell one byte of the text.
     Bytes(usize),
     /// The closing quote.
     End,
-    /// The end of the line or a line feed, before a closing quote.
+    /// A line feed or the end of the line, without a closing quote.
     Fault,
 }
 
@@ -232,7 +231,7 @@ fn is_word_byte(byte: u8) -> bool
     is_marked(&WORD_BYTES, byte)
 }
 
-// Whether a table of all bytes marks this one.
+// Returns whether a table of all bytes marks this one.
 #[inline(always)]
 fn is_marked(table: &[bool; 256], byte: u8) -> bool
     ensures { result ≡ slice_index_or table.now byte false }

@@ -1,4 +1,4 @@
-//! The tuples of an INSERT.
+//! The tuples of INSERT.
 ghost use Rattle.std.specs.List.{flat_map};
 ghost use Rattle.mm_lang.specs.Grammar.{comma_list, literal_of};
 ghost use Rattle.mm_lang.specs.Phrases.{one};
@@ -9,7 +9,7 @@ use crate::read::reader::Reader;
 use crate::read::token::Symbol;
 use mm_value::{Refusal, Tuple};
 
-/// How a tuple is read: literals in parentheses, with a comma between each two. Its item has their values.
+/// The phrase of a tuple: literals in parentheses, separated by commas. Its item is the tuple of their values.
 #[derive(Drop)]
 pub(crate) struct TuplePhrase;
 
@@ -25,8 +25,8 @@ impl<'l> Phrase<'l> for TuplePhrase {
 
     ghost never_longer = { tuple_never_longer };
 
-    /// Reads a tuple. `Syntax` where none stands first in the rest, `Memory` where memory was refused for a text, or for
-    /// more than 4 values. A literal past its limit is no error yet: it is noted in the reader.
+    /// Reads a tuple. Fails with `Syntax` if the rest does not begin with one, and with `Memory` if an allocation fails, for a text or for
+    /// more than 4 values. Records a literal past its limit in the reader, and continues.
     fn read(&mut self, reader: &mut Reader<'l>) -> Result<Tuple, Refusal> {
         reader.symbol(Symbol::Open)?;
         let mut tuple = Tuple::with_capacity(reader.alloc(), 0)?;
@@ -36,8 +36,7 @@ impl<'l> Phrase<'l> for TuplePhrase {
     }
 }
 
-// Reads one or more literals, with a comma between each two, and puts their values behind those of the tuple, so that they need no
-// list of their own.
+// Reads one or more literals, separated by commas, and appends their values to the tuple, without a list of their own.
 fn read_values(reader: &mut Reader<'_>, tuple: &mut Tuple) -> Result<(), Refusal>
     ensures { ReadsItems (comma_list (one literal_of)) (flat_map only_literal) reader.old reader.new tuple.old tuple.new result }
 {

@@ -1,4 +1,4 @@
-//! The text of rows in a buffer.
+//! The text of buffered rows.
 ghost use Rattle.std.specs.Prelude.{◌≡◌, false};
 ghost use Rattle.mm_lang.specs.ReplyText.{rows_text};
 ghost use Rattle.mm_value.specs.Device.{Writes};
@@ -9,8 +9,8 @@ use mm_query::RowBuffer;
 use mm_value::{Watched, WriteError};
 use std::io::Write;
 
-/// Writes the reply of the rows in a buffer: their lines, and how many they are. It takes no memory. After `WriteError` the writer has
-/// failed, and a front of the text was written.
+/// Writes the reply with the rows of a buffer: their lines, and their number. Allocates nothing. After `WriteError` the writer has failed,
+/// and a prefix of the text was written.
 pub fn write_buffered_rows<W: Write>(
     rows: &RowBuffer,
     writer: &mut Watched<W>,

@@ -15,9 +15,9 @@ use mm_schema::{Column, IndexDef, IndexKind, OnDelete, Role, TableDef};
 use mm_value::{ColType, Watched, WriteError, put_all};
 use std::io::Write;
 
-/// Writes the listing of a catalog: a line for each table with its columns and its number of rows, and behind it one
-/// for each of its indexes; then a line for each standing query with the number of rows that it shows; and then the
-/// number of tables. Takes no memory. After `WriteError` the writer has failed, and a front of the text was written.
+/// Writes the listing of a catalog. Each table has a line with its columns and its number of rows, followed by a line for each of its
+/// indexes. Then follow a line for each standing query with its number of rows, and the number of tables. Allocates nothing. After
+/// `WriteError` the writer has failed, and a prefix of the text was written.
 pub(crate) fn write_listing<W: Write>(
     listing: &Listing,
     writer: &mut Watched<W>,
@@ -63,8 +63,8 @@ fn write_table_line<W: Write>(
     write_count(b" rows ", listed.rows, writer)
 }
 
-/// Writes a table as the TABLE that creates it, without a line feed. Takes no memory. After `WriteError` the writer has failed, and a
-/// front of the text was written.
+/// Writes a table as the TABLE that creates it, without a line feed. Allocates nothing. After `WriteError` the writer has failed, and a
+/// prefix of the text was written.
 pub fn write_table_definition<W: Write>(
     definition: &TableDef,
     writer: &mut Watched<W>,
@@ -76,7 +76,7 @@ pub fn write_table_definition<W: Write>(
     write_columns(definition.columns.as_slice(), writer)
 }
 
-/// Writes columns in parentheses, behind a space.
+/// Writes a space, and columns in parentheses.
 fn write_columns<W: Write>(columns: &[Column], writer: &mut Watched<W>) -> Result<(), WriteError>
     requires { has_failed writer.old ≡ false }
     ensures { Writes W.contents writer.old writer.new result (codes " (" ++ columns_text columns.now ++ codes ")") }
@@ -86,7 +86,7 @@ fn write_columns<W: Write>(columns: &[Column], writer: &mut Watched<W>) -> Resul
     put_all(writer, b")")
 }
 
-/// Writes columns, a comma and a space between each two.
+/// Writes columns, separated by a comma and a space.
 fn write_column_list<W: Write>(
     columns: &[Column],
     writer: &mut Watched<W>,
@@ -104,7 +104,7 @@ fn write_column_list<W: Write>(
     Ok(())
 }
 
-/// Writes a column that stands after another one.
+/// Writes a comma, a space and a column.
 fn write_next_column<W: Write>(column: &Column, writer: &mut Watched<W>) -> Result<(), WriteError>
     requires { has_failed writer.old ≡ false }
     ensures { Writes W.contents writer.old writer.new result (44 ∷ 32 ∷ column_text column.now) }
@@ -113,7 +113,7 @@ fn write_next_column<W: Write>(column: &Column, writer: &mut Watched<W>) -> Resu
     write_column(column, writer)
 }
 
-/// Writes a column as TABLE has it.
+/// Writes a column as in TABLE.
 fn write_column<W: Write>(column: &Column, writer: &mut Watched<W>) -> Result<(), WriteError>
     requires { has_failed writer.old ≡ false }
     ensures { Writes W.contents writer.old writer.new result (column_text column.now) }
@@ -123,7 +123,7 @@ fn write_column<W: Write>(column: &Column, writer: &mut Watched<W>) -> Result<()
     write_role(&column.role, writer)
 }
 
-/// Writes what a column is for, as TABLE has it.
+/// Writes the role of a column as in TABLE.
 fn write_role<W: Write>(role: &Role, writer: &mut Watched<W>) -> Result<(), WriteError>
     requires { has_failed writer.old ≡ false }
     ensures { Writes W.contents writer.old writer.new result (role_text role.now) }
@@ -135,7 +135,7 @@ fn write_role<W: Write>(role: &Role, writer: &mut Watched<W>) -> Result<(), Writ
     }
 }
 
-/// Writes that a column refers to a table, and what becomes of its rows when those of the table are deleted.
+/// Writes the reference of a column to a table, and CASCADE if it cascades.
 fn write_reference<W: Write>(
     table: &[u8],
     on_delete: OnDelete,
@@ -149,7 +149,7 @@ fn write_reference<W: Write>(
     write_on_delete(on_delete, writer)
 }
 
-/// Writes what becomes of the rows that refer to a row that is deleted, as TABLE has it.
+/// Writes CASCADE if a reference cascades, as in TABLE.
 fn write_on_delete<W: Write>(on_delete: OnDelete, writer: &mut Watched<W>) -> Result<(), WriteError>
     requires { has_failed writer.old ≡ false }
     ensures { Writes W.contents writer.old writer.new result (on_delete_text on_delete) }
@@ -160,7 +160,7 @@ fn write_on_delete<W: Write>(on_delete: OnDelete, writer: &mut Watched<W>) -> Re
     }
 }
 
-/// The word of a type.
+/// Returns the word of a type.
 fn type_text(col_type: ColType) -> &'static [u8]
     ensures { result.now ≡ keyword_text (type_word col_type) }
 {
@@ -181,8 +181,8 @@ fn write_indexes<W: Write>(indexes: &[IndexDef], writer: &mut Watched<W>) -> Res
     Ok(())
 }
 
-/// Writes the line of an index: the INDEX that creates it, and a line feed. Takes no memory. After `WriteError` the writer has failed, and a
-/// front of the line was written.
+/// Writes the line of an index: the INDEX that creates it, and a line feed. Allocates nothing. After `WriteError` the writer has failed,
+/// and a prefix of the line was written.
 pub fn write_index<W: Write>(index: &IndexDef, writer: &mut Watched<W>) -> Result<(), WriteError>
     requires { has_failed writer.old ≡ false }
     ensures { Writes W.contents writer.old writer.new result (index_line index.now) }
@@ -204,7 +204,7 @@ pub fn write_index<W: Write>(index: &IndexDef, writer: &mut Watched<W>) -> Resul
     put_all(writer, b"\n")
 }
 
-/// The word of a kind of index.
+/// Returns the word of a kind of index.
 fn kind_text(kind: IndexKind) -> &'static [u8]
     ensures { result.now ≡ keyword_text (kind_word kind) }
 {

@@ -18,7 +18,7 @@ use mm_schema::{Catalog, Column};
 use mm_value::{Value, Watched, WriteError, put_all};
 use std::io::Write;
 
-/// Writes a bound query without its SELECT, with the names of its fields from the catalog, in as few bytes as a line can have for it.
+/// Writes a bound query without its SELECT, with the names of its fields from the catalog, in as few bytes as a line can spell it.
 /// Allocates nothing. After `WriteError` the writer has failed, and a prefix of the text was written.
 pub fn write_query<W: Write>(
     catalog: &Catalog,
@@ -39,7 +39,7 @@ pub fn write_query<W: Write>(
     write_order(tests, query.order.as_slice(), writer)
 }
 
-/// How the items of a list are written.
+/// A way to write the items of a list.
 trait ItemText {
     /// The type of an item.
     type Item;
@@ -56,7 +56,7 @@ trait ItemText {
         ensures { Writes W.contents writer.old writer.new result (text self.now item.now) };
 }
 
-/// Writes items with a comma between two.
+/// Writes items, separated by commas.
 fn write_items<I: ItemText, W: Write>(
     how: &I,
     items: &[I::Item],
@@ -75,7 +75,7 @@ fn write_items<I: ItemText, W: Write>(
     Ok(())
 }
 
-/// Writes an item after another one.
+/// Writes a comma and an item.
 fn write_next_item<I: ItemText, W: Write>(
     how: &I,
     item: &I::Item,
@@ -88,7 +88,7 @@ fn write_next_item<I: ItemText, W: Write>(
     how.write_item(item, writer)
 }
 
-/// The names of a query's fields.
+/// Writes fields by the names of their tables and columns.
 #[derive(Clone, Copy)]
 struct FieldNames<'q> {
     catalog: &'q Catalog,
@@ -171,7 +171,7 @@ impl<'q> FieldNames<'q> {
         self.write_test_list(tests, writer)
     }
 
-    /// Writes tests with AND between two.
+    /// Writes tests, separated by AND.
     fn write_test_list<W: Write>(
         &self,
         tests: &[Atom<FieldPlace>],
@@ -191,7 +191,7 @@ impl<'q> FieldNames<'q> {
         Ok(())
     }
 
-    /// Writes a test after another one that ends in an operand.
+    /// Writes AND and a test, after a test that ends with `operand`.
     fn write_next_test<W: Write>(
         &self,
         operand: &Operand<FieldPlace>,
@@ -239,7 +239,7 @@ impl<'q> FieldNames<'q> {
         }
     }
 
-    /// Writes a field with a number that is added to it.
+    /// Writes a field and the number added to it.
     fn write_shifted<W: Write>(
         &self,
         field: &FieldPlace,
@@ -255,7 +255,7 @@ impl<'q> FieldNames<'q> {
     }
 }
 
-/// The tables of FROM.
+/// Writes the tables of FROM.
 #[derive(Clone, Copy)]
 struct Tables;
 
@@ -274,7 +274,7 @@ impl ItemText for Tables {
     }
 }
 
-/// The positions of ORDER, from columns counted from 0.
+/// Writes the positions of ORDER, given columns counted from 0.
 #[derive(Clone, Copy)]
 struct Positions;
 
@@ -311,7 +311,7 @@ fn write_order<W: Write>(
     write_items(&Positions, columns, writer)
 }
 
-/// Writes a number that is added to a field.
+/// Writes the number added to a field, with its sign.
 fn write_shift<W: Write>(by: i64, writer: &mut Watched<W>) -> Result<(), WriteError>
     requires { has_failed writer.old ≡ false }
     ensures { Writes W.contents writer.old writer.new result (shift_text by) }
@@ -321,7 +321,7 @@ fn write_shift<W: Write>(by: i64, writer: &mut Watched<W>) -> Result<(), WriteEr
     put_all(writer, buffer.format(by).as_bytes())
 }
 
-/// Returns the sign of a number that is not negative. The digits of a negative number have a minus.
+/// Returns a plus for a number that is not negative. The digits of a negative number have a minus.
 #[tactic(auto, using(crate::proofs::QueryTexts::with_minus, crate::proofs::QueryTexts::with_sign))]
 fn plus_of(by: i64) -> &'static [u8]
     ensures { shift_text by ≡ result.now ++ signed_decimal by }
@@ -329,7 +329,7 @@ fn plus_of(by: i64) -> &'static [u8]
     if by < 0 { b"" } else { b"+" }
 }
 
-/// Returns what separates an operand from a word after it.
+/// Returns the separator between an operand and a word after it.
 fn space_after(operand: &Operand<FieldPlace>) -> &'static [u8]
     ensures { result.now ≡ space_after operand.now }
 {
@@ -339,7 +339,7 @@ fn space_after(operand: &Operand<FieldPlace>) -> &'static [u8]
     }
 }
 
-/// Returns what separates tests, or tables without tests, from a word after them.
+/// Returns the separator between tests, or tables without tests, and a word after them.
 fn space_after_tests(tests: &[Atom<FieldPlace>]) -> &'static [u8]
     ensures { result.now ≡ space_after_tests tests.now }
 {

@@ -24,10 +24,15 @@ use mm_schema::IndexId;
 use mm_value::{Refusal, Tuple, Watched, WriteError, put_all};
 use std::io::Write;
 
-/// Writes a reply, each line of it with its line feed: `ok`, `ok` and a count, a line for each row and then their
-/// number, a line for each table of a plan and then their number, a line for each table, for each of its indexes and for each
-/// standing query and then the number of tables, or `error` with the number and the text of a refusal. Takes no memory.
-/// After `WriteError` the writer has failed, and a front of the reply's text was written.
+/// Writes a reply, with a line feed after each line. The lines are:
+///
+/// - `ok`, or `ok` and a count.
+/// - A line for each row, and then their number.
+/// - A line for each table of a plan, and then their number.
+/// - A line for each table, each of its indexes and each standing query, and then the number of tables.
+/// - `error` with the number and the text of a refusal.
+///
+/// Allocates nothing. After `WriteError` the writer has failed, and a prefix of the reply's text was written.
 pub fn write_reply<W: Write>(reply: &Reply, writer: &mut Watched<W>) -> Result<(), WriteError>
     requires { has_failed writer.old ≡ false }
     ensures { Writes W.contents writer.old writer.new result (reply_text reply.now) }
@@ -42,8 +47,8 @@ pub fn write_reply<W: Write>(reply: &Reply, writer: &mut Watched<W>) -> Result<(
     }
 }
 
-/// Writes the reply of rows: a line for each, and then their number. Takes no memory. After `WriteError` the writer has
-/// failed, and a front of the reply's text was written.
+/// Writes the reply with rows: a line for each, and then their number. Allocates nothing. After `WriteError` the writer has failed, and a
+/// prefix of the reply's text was written.
 fn write_rows<W: Write>(rows: &[Tuple], writer: &mut Watched<W>) -> Result<(), WriteError>
     requires { has_failed writer.old ≡ false }
     ensures { Writes W.contents writer.old writer.new result (rows_text rows.now) }
@@ -55,9 +60,8 @@ fn write_rows<W: Write>(rows: &[Tuple], writer: &mut Watched<W>) -> Result<(), W
     lines.finish(rows.len(), writer)
 }
 
-/// A reader of replies recognizes lines and refusals: each reply ends with a line feed, and exactly the refusals begin
-/// with `error ` and a digit. Of other replies only a plan may begin with `error `, where its first alias is that; behind it
-/// stands a letter.
+/// Lines and refusals can be recognized. Each reply ends with a line feed, and each refusal begins with `error ` and a digit. No other
+/// reply does, if the aliases in a plan are names. Of the other replies only a plan can begin with `error `.
 pub fn refusals_are_recognized()
     ensures line_feed { (reply : Reply) → (front : List ℕ) × (reply_text reply ≡ front ++ 10 ∷ []) }
     ensures refusals { (refusal : Refusal) → (digit : ℕ) × (rest : List ℕ) × IsTrue (is_ascii_digit digit)
@@ -68,16 +72,16 @@ pub fn refusals_are_recognized()
         → ((refusal : Refusal) × (reply ≡ Refused refusal)) ⊎ ((steps : List AnyLine) × (reply ≡ Steps steps)) }
 {}
 
-/// What is listed of a table, up to the number of its rows, reads as the TABLE that makes it, and the line of an index
-/// as the INDEX that makes it.
+/// The text listed for a table, up to its number of rows, reads as the TABLE that creates it, if its names are names and exactly one column
+/// is the key. The text listed for an index reads as the INDEX that creates it, if its names are names.
 pub fn definitions_are_listed_as_written()
     ensures table { (definition : TableDef) → HasTableNames definition → key_count definition.columns ≡ 1
         → command_of (tokens (table_listed definition)) ≡ Some (Define (MakeTable definition)) }
     ensures index { (index : IndexDef) → HasIndexNames index → command_of (tokens (index_listed index)) ≡ Some (Define (MakeIndex index)) }
 {}
 
-/// Writes the line that stands behind the rows of a reply: how many there are. Takes no memory. After `WriteError` the
-/// writer has failed, and a front of the line was written.
+/// Writes the line after the rows of a reply, which has their number. Allocates nothing. After `WriteError` the writer has failed, and a
+/// prefix of the line was written.
 pub(crate) fn write_row_count<W: Write>(
     count: usize,
     writer: &mut Watched<W>,
@@ -88,8 +92,8 @@ pub(crate) fn write_row_count<W: Write>(
     write_count(b"rows ", count, writer)
 }
 
-/// Writes the reply of a plan: a line for each table, and then their number. Takes no memory. After `WriteError` the
-/// writer has failed, and a front of the reply's text was written.
+/// Writes the reply with a plan: a line for each table, and then their number. Allocates nothing. After `WriteError` the writer has failed,
+/// and a prefix of the reply's text was written.
 fn write_steps<W: Write>(steps: &[PlanLine], writer: &mut Watched<W>) -> Result<(), WriteError>
     requires { has_failed writer.old ≡ false }
     ensures { Writes W.contents writer.old writer.new result (steps_text steps.now) }
@@ -110,7 +114,7 @@ fn write_step<W: Write>(step: &PlanLine, writer: &mut Watched<W>) -> Result<(), 
     put_all(writer, b"\n")
 }
 
-/// Writes how the rows of a table are reached.
+/// Writes how the rows of a table are found.
 fn write_access_method<W: Write>(step: &PlanLine, writer: &mut Watched<W>) -> Result<(), WriteError>
     requires { has_failed writer.old ≡ false }
     ensures { Writes W.contents writer.old writer.new result (access_method_text step.now) }
@@ -145,7 +149,7 @@ fn write_access_method<W: Write>(step: &PlanLine, writer: &mut Watched<W>) -> Re
     }
 }
 
-/// Writes that rows are found by a tree, and what of it.
+/// Writes that rows are found by a tree, and how the tree is used.
 fn write_tree<W: Write>(
     index: &IndexId,
     what: &[u8],
@@ -157,7 +161,7 @@ fn write_tree<W: Write>(
     write_four(b" tree ", index_bytes(index), b" ", what, writer)
 }
 
-/// How an index is written: `#key`, or its name.
+/// Returns the text of an index: `#key`, or its name.
 fn index_bytes(index: &IndexId) -> &[u8]
     ensures { result.now ≡ index_text index.now }
 {
@@ -167,7 +171,7 @@ fn index_bytes(index: &IndexId) -> &[u8]
     }
 }
 
-/// Writes two texts, one behind the other.
+/// Writes two texts, one after the other.
 pub(crate) fn write_two<W: Write>(
     first: &[u8],
     second: &[u8],
@@ -180,7 +184,7 @@ pub(crate) fn write_two<W: Write>(
     put_all(writer, second)
 }
 
-/// Writes four texts, one behind the other.
+/// Writes four texts, one after the other.
 pub(crate) fn write_four<W: Write>(
     first: &[u8],
     second: &[u8],
@@ -230,7 +234,7 @@ fn write_refusal<W: Write>(refusal: Refusal, writer: &mut Watched<W>) -> Result<
     put_all(writer, b"\n")
 }
 
-/// Writes a text behind a space.
+/// Writes a space and a text.
 pub(crate) fn write_after_space<W: Write>(
     text: &[u8],
     writer: &mut Watched<W>,

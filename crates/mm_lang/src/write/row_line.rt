@@ -1,4 +1,4 @@
-//! Lines of rows that are put together before they are written.
+//! Buffered lines of rows.
 ghost use Rattle.std.specs.Prelude.{◌≡◌, ◌<◌, [], ◌∷◌, ◌++◌, OnOk, codes, decimal, false, length, map};
 ghost use Rattle.mm_lang.specs.Buffered.{WritesBuffered};
 ghost use Rattle.mm_value.specs.Device.{Writes};
@@ -16,12 +16,12 @@ use mm_value::{AsRow, Value, ValueRef, Watched, WriteError, put_all};
 use std::io::Write;
 use std::marker::Model;
 
-/// The most bytes that are buffered.
+/// The maximum number of buffered bytes.
 const MAX_BUFFERED_BYTES: usize = 512;
 
 type BufferedBytes = ArrayVec<u8, MAX_BUFFERED_BYTES>;
 
-/// Lines of rows, buffered up to 512 bytes, so that a writer is called once for many rows. Seen as their bytes.
+/// Lines of rows, buffered up to 512 bytes, so that a writer is called once for many rows. The model is the buffered bytes.
 #[derive(Drop)]
 pub struct RowLines {
     buffered: BufferedBytes,
@@ -36,7 +36,7 @@ impl Model for RowLines {
 }
 
 impl RowLines {
-    /// No lines.
+    /// Returns an empty buffer.
     pub fn new() -> RowLines
         ensures { result ≡ [] }
     {
@@ -45,8 +45,8 @@ impl RowLines {
         }
     }
 
-    /// Adds the line of a row. What is buffered is written first where a piece of the line has no room behind it. Takes no memory.
-    /// After `WriteError` the writer has failed, and a front of those lines and of the new one was written.
+    /// Appends the line of a row. If a piece of the line does not fit into the buffer, the buffered bytes are written first. Allocates
+    /// nothing. After `WriteError` the writer has failed, and a prefix of the buffered lines and the new one was written.
     pub fn add_row<R: AsRow, W: Write>(
         &mut self,
         row: &R,
@@ -60,7 +60,7 @@ impl RowLines {
         self.put(b")\n", writer)
     }
 
-    /// Adds the line of a row as [`RowLines::add_row`] does, from its values where they stand.
+    /// Appends the line of a row as [`RowLines::add_row`] does, from references to its values.
     pub fn add_tuple<W: Write>(
         &mut self,
         values: &[ValueRef<'_>],
@@ -72,7 +72,7 @@ impl RowLines {
         self.add_row(&ValueRow { values }, writer)
     }
 
-    /// Adds the line of a row as [`RowLines::add_row`] does, from its values.
+    /// Appends the line of a row as [`RowLines::add_row`] does, from its values.
     pub(crate) fn add_values<W: Write>(
         &mut self,
         values: &[Value],
@@ -84,8 +84,8 @@ impl RowLines {
         self.add_row(&ValueRow { values }, writer)
     }
 
-    /// Writes the buffered lines, and behind them the line that says how many rows there are. Takes no memory. After
-    /// `WriteError` the writer has failed, and a front of these lines was written.
+    /// Writes the buffered lines, and then a line with the number of rows. Allocates nothing. After `WriteError` the writer has failed, and
+    /// a prefix of these lines was written.
     pub fn finish<W: Write>(
         mut self,
         count: usize,
@@ -98,7 +98,7 @@ impl RowLines {
         write_row_count(count, writer)
     }
 
-    /// Writes what is buffered.
+    /// Writes the buffered bytes, and clears the buffer.
     fn write_out<W: Write>(&mut self, writer: &mut Watched<W>) -> Result<(), WriteError>
         requires { has_failed writer.old ≡ false }
         ensures written { Writes W.contents writer.old writer.new result self.old }
@@ -109,7 +109,7 @@ impl RowLines {
         Ok(())
     }
 
-    /// Puts bytes behind what is buffered, which is written first where they have no room.
+    /// Buffers bytes. If they do not fit, the buffered bytes are written first.
     #[inline(always)]
     fn put<W: Write>(&mut self, bytes: &[u8], writer: &mut Watched<W>) -> Result<(), WriteError>
         requires { has_failed writer.old ≡ false }
@@ -121,7 +121,7 @@ impl RowLines {
         self.put_past(bytes, writer)
     }
 
-    /// Writes what is buffered, and puts bytes in its place, or writes them too where they are longer than what is buffered can be.
+    /// Writes the buffered bytes. Then buffers the new bytes, or writes them if they are longer than the buffer.
     fn put_past<W: Write>(
         &mut self,
         bytes: &[u8],
@@ -137,7 +137,7 @@ impl RowLines {
         put_all(writer, bytes)
     }
 
-    /// Puts the values of a row behind what is buffered, with a comma and a space between each two.
+    /// Buffers the values of a row, separated by a comma and a space.
     fn put_values<R: AsRow, W: Write>(
         &mut self,
         row: &R,
@@ -156,7 +156,7 @@ impl RowLines {
         Ok(())
     }
 
-    /// Puts a value behind another one that is buffered.
+    /// Buffers a comma, a space and a value.
     fn put_next<W: Write>(
         &mut self,
         value: ValueRef<'_>,
@@ -169,7 +169,7 @@ impl RowLines {
         self.put_value(value, writer)
     }
 
-    /// Puts a value behind what is buffered.
+    /// Buffers a value.
     fn put_value<W: Write>(
         &mut self,
         value: ValueRef<'_>,
@@ -187,7 +187,7 @@ impl RowLines {
         }
     }
 
-    /// Puts a text between quotes behind what is buffered, with each quote in it doubled.
+    /// Buffers a text between quotes, with each quote in it doubled.
     fn put_quoted<W: Write>(
         &mut self,
         text: &[u8],
@@ -201,7 +201,7 @@ impl RowLines {
         self.put(b"'", writer)
     }
 
-    /// Puts a text behind what is buffered, with each quote in it doubled. It goes from quote to quote.
+    /// Buffers a text with each quote in it doubled, piece by piece from quote to quote.
     fn put_doubled<W: Write>(
         &mut self,
         text: &[u8],
@@ -219,7 +219,7 @@ impl RowLines {
         self.put(rest, writer)
     }
 
-    /// Puts a piece before a quote behind what is buffered, and that quote doubled.
+    /// Buffers a piece that ends before a quote, and that quote doubled.
     fn put_to_quote<W: Write>(
         &mut self,
         piece: &[u8],

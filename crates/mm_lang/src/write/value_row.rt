@@ -1,9 +1,9 @@
-//! Values that stand one behind the other, as a row.
+//! A slice of values as a row.
 ghost use Rattle.std.specs.Prelude.{map};
 
 use mm_value::{AsRow, AsValue, ValueRef};
 
-/// A row of values that stand one behind the other.
+/// A row whose values are stored in a slice.
 #[derive(Drop)]
 pub(crate) struct ValueRow<'v, V> {
     pub(crate) values: &'v [V],

@@ -1,4 +1,4 @@
-//! What a foreign key refuses, asked before a command's edits are made.
+//! The checks of a foreign key, before a command's edits are made.
 ghost use Rattle.std.specs.Prelude.{◌≡◌, ◌↔◌, All, IsTrue};
 ghost use Rattle.std.specs.Bool.{OnFalse};
 ghost use Rattle.std.specs.List.{list_any};
@@ -34,8 +34,8 @@ impl Link {
         target
     }
 
-    /// Whether the row of a slot of the referring table, in use or hidden, has a value that no row in use of the target table has as
-    /// key. One search.
+    /// Returns whether the row of a slot of the referring table, in use or hidden, has a value that is the key of no row in use of the
+    /// target table. Makes one search.
     pub fn lacks_target(&self, from: &IndexedRows, to: &IndexedRows, at: RowRef) -> bool
         requires { IsTaken (slot_at from.now.places at) }
         ensures rows { result ≡ lacks_target_row self.now.reference.column to.now.key (rows_of to.now) (row_at (slot_at from.now.places) at) }
@@ -49,8 +49,8 @@ impl Link {
         }
     }
 
-    /// Whether an edit of the referring table, before it is made, brings a row that refers to none. A row that has the same value as
-    /// the row that it replaces needs no search.
+    /// Returns whether an edit of the referring table, before it is made, brings a row without a target. A row with the same value as the
+    /// row that it replaces needs no search.
     pub fn brings_orphan(&self, from: &IndexedRows, to: &IndexedRows, edit: Edit) -> bool
         requires follows { Follows self.now.reference.column to.now.key (slot_at from.now.places) (slot_at to.now.places) self.now.ties }
         requires fits { Fits from.now.key (slot_at from.now.places) edit }
@@ -67,7 +67,7 @@ impl Link {
         }
     }
 
-    /// Whether a hidden row of the referring table, which replaces a row in use, refers to none.
+    /// Returns whether a hidden row of the referring table, which replaces a row in use, has no target.
     fn replaces_by_orphan(
         &self,
         from: &IndexedRows,
@@ -90,7 +90,7 @@ impl Link {
         ) && self.lacks_target(from, to, other)
     }
 
-    /// Whether a row in use of the referring table refers to a row in use of the target table. O(1).
+    /// Returns whether a row in use of the referring table refers to a row in use of the target table. O(1).
     pub fn is_referred(&self, from: &IndexedRows, to: &IndexedRows, at: RowRef) -> bool
         requires follows { Follows self.now.reference.column to.now.key (slot_at from.now.places) (slot_at to.now.places) self.now.ties }
         requires live { IsLive to.now.places at }
@@ -104,7 +104,7 @@ impl Link {
         self.ties.is_referred(at)
     }
 
-    /// Whether an edit of the target table, before it is made, takes a row to which a row refers, or its key. O(1).
+    /// Returns whether an edit of the target table, before it is made, removes a row to which a row refers, or changes its key. O(1).
     pub fn leaves_orphan(&self, from: &IndexedRows, to: &IndexedRows, edit: Edit) -> bool
         requires follows { Follows self.now.reference.column to.now.key (slot_at from.now.places) (slot_at to.now.places) self.now.ties }
         requires fits { Fits to.now.key (slot_at to.now.places) edit }
@@ -122,7 +122,7 @@ impl Link {
     }
 }
 
-/// The row of a slot, in use or hidden.
+/// Returns the row of a slot, in use or hidden.
 fn row_in(rows: &IndexedRows, at: RowRef) -> RowView<'_>
     requires { IsTaken (slot_at rows.now.places at) }
     ensures { viewed result ≡ row_at (slot_at rows.now.places) at }

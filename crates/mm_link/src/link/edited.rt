@@ -1,4 +1,4 @@
-//! Ties that follow edits of the referring table.
+//! Updating ties after edits of the referring table.
 ghost use Rattle.std.specs.Prelude.{◌≡◌, ◌<◌, length, None};
 ghost use Rattle.mm_foreign_key.specs.Ties.{target_at};
 ghost use Rattle.mm_partition.specs.Places.{IsHidden, IsLive, Live, slot_at};
@@ -13,8 +13,8 @@ use mm_tables::Edit;
 use mm_value::{AsRow, RowRef, compare};
 
 impl Link {
-    /// Brings the ties up to the edits of a command, all of which were made in the referring table. A row in use that got another row's
-    /// values keeps its tie without a search if its value in the column is the same. Otherwise each row that came is one search.
+    /// Updates the ties after the edits of a command, all of which were made in the referring table. A row in use that got another row's
+    /// values keeps its tie without a search if its value in the column is the same. Any other new row takes one search.
     pub fn retie(&mut self, from: &IndexedRows, to: &IndexedRows, edits: &[Edit])
         requires column { self.old.reference.column < length from.now.places.types }
         requires made { IsMade self.old.reference.column to.now.key from.now.key (slot_at from.now.places) (slot_at to.now.places)
@@ -29,7 +29,7 @@ impl Link {
         }
     }
 
-    /// Brings the ties up to the undo of one edit of the referring table. At most one search.
+    /// Updates the ties after the undo of one edit of the referring table. Makes at most one search.
     pub fn retie_undone(&mut self, from: &IndexedRows, to: &IndexedRows, edit: Edit)
         requires column { self.old.reference.column < length from.now.places.types }
         requires undone { IsTakenBack self.old.reference.column to.now.key from.now.key (slot_at from.now.places) (slot_at to.now.places)
@@ -42,7 +42,7 @@ impl Link {
         self.retie_turned(from, to, edit);
     }
 
-    /// Brings the ties up to an edit that was made, or undone.
+    /// Updates the ties after an edit that was made or undone.
     fn retie_turned(&mut self, from: &IndexedRows, to: &IndexedRows, edit: Edit)
         requires column { self.old.reference.column < length from.now.places.types }
         requires pending { IsPending self.old.reference.column to.now.key (slot_at from.now.places) (slot_at to.now.places)
@@ -63,7 +63,7 @@ impl Link {
         }
     }
 
-    /// Brings the tie of a slot up that got a row in use, or lost it. Its tie shows which: a slot that had none is tied to none.
+    /// Updates the tie of a slot that got a row in use or lost it. The tie shows which: a slot that had no row is tied to none.
     fn retie_switched(&mut self, from: &IndexedRows, to: &IndexedRows, at: RowRef)
         requires column { self.old.reference.column < length from.now.places.types }
         requires switches { (was : Slots) × Switches was (slot_at from.now.places) at
@@ -81,7 +81,7 @@ impl Link {
         }
     }
 
-    /// Brings the tie of a row in use up that was exchanged with a hidden row. It stays if both have the same value in the column.
+    /// Updates the tie of a row in use that was exchanged with a hidden row. The tie stays if both have the same value in the column.
     fn retie_exchanged(&mut self, from: &IndexedRows, to: &IndexedRows, at: RowRef, other: RowRef)
         requires column { self.old.reference.column < length from.now.places.types }
         requires live { IsLive from.now.places at }
@@ -106,7 +106,7 @@ impl Link {
         self.tie(from, to, at);
     }
 
-    /// Ties the slot of a row in use, which is tied to none, to the row that its row refers to. One search.
+    /// Ties the slot of a row in use, which is tied to none, to the row that its row refers to. Makes one search.
     fn tie(&mut self, from: &IndexedRows, to: &IndexedRows, at: RowRef)
         requires column { self.old.reference.column < length from.now.places.types }
         requires live { IsLive from.now.places at }
@@ -128,7 +128,7 @@ impl Link {
     }
 }
 
-/// Whether two rows have the same value in a column.
+/// Returns whether two rows have the same value in a column.
 pub(crate) fn has_same_value<A: AsRow, B: AsRow>(a: &A, b: &B, column: usize) -> bool
     ensures { result ≡ same_in_column column (A.AsRow.row a.now) (B.AsRow.row b.now) }
 {

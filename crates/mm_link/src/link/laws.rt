@@ -1,11 +1,11 @@
-//! What keeps ties without a change of them.
+//! Laws: changes that keep the ties valid.
 ghost use Rattle.mm_link.specs.Laws.{FollowsUndo, KeptByCommand, KeptBySameRows, SourceRecordsKeep, StagedRecordKeeps, TargetRecordsKeep};
 
 use super::Link;
 
 impl Link {
-    /// Lemma: which edits keep the ties as they are, and what the records of a log keep so that the ties can follow their undo, one
-    /// record after the other. The call does nothing.
+    /// Lemma: which edits keep the ties valid, and what the records of a log guarantee so that the ties can follow their undo, one record
+    /// after the other. The call does nothing.
     pub fn are_kept(&self)
         ensures rows { KeptBySameRows self.now.reference.column self.now.ties }
         ensures command { KeptByCommand self.now.reference.column self.now.ties }

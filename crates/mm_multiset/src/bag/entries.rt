@@ -8,7 +8,7 @@ use mm_value::RowRef;
 use slot_counts::SlotCounts;
 use std::marker::Model;
 
-/// An iterator over entries of a bag, viewed as the list of the remaining ones.
+/// An iterator over entries of a bag. Its model is the list of the remaining ones.
 #[derive(Drop)]
 pub struct BagEntries<'a> {
     rows: &'a Partitions,
@@ -32,7 +32,7 @@ impl<'a> Model for BagEntries<'a> {
 }
 
 impl<'a> BagEntries<'a> {
-    /// Iterates the entries of the given slots.
+    /// Iterates over the entries of these slots.
     pub(crate) fn new(
         rows: &'a Partitions,
         counts: &'a SlotCounts,

@@ -1,4 +1,4 @@
-//! The slot of a row, found by the hash of its values.
+//! Finding the slot of a row by the hash of its values.
 ghost use Rattle.std.specs.Prelude.{◌≡◌, ◌≢◌, ℕ, IfNone, IfSome, IsPermutation};
 ghost use Rattle.std.specs.Bool.{Decides};
 ghost use Rattle.mm_multiset.specs.RowHash.{row_hash};
@@ -10,11 +10,11 @@ use mlhash::HashRefs;
 use mm_partition::{Partitions, RowView};
 use mm_value::{Row, RowRef, compare, hash64};
 
-/// 2^64 by the golden ratio, made odd (multiplicative hashing of Knuth, The Art of Computer Programming, volume 3, section 6.4).
+/// 2^64 divided by the golden ratio, made odd (multiplicative hashing of Knuth, The Art of Computer Programming, volume 3, section 6.4).
 const MULTIPLIER: u64 = 11400714819323198485;
 
-/// The hash of a row. Each value goes in by an exclusive or with its hash and a product, in which a bit changes those above it. So in
-/// the end the high half goes into the low one, by which a table finds the bucket.
+/// Returns the hash of a row. The hash of each value is combined by an exclusive or and a product. A product changes only bits above those
+/// that differ, so at the end the high half is combined into the low half, which selects the bucket of a hash table.
 pub(crate) fn hash_of(row: &Row) -> u64
     ensures { result ≡ row_hash row.now }
 {
@@ -25,7 +25,7 @@ pub(crate) fn hash_of(row: &Row) -> u64
     hash ^ (hash >> 32)
 }
 
-/// The reference to the row that is the same, if there is one. Of the rows it looks at those of this hash.
+/// Returns the reference of the equal row, if there is one. Compares only rows with this hash.
 pub(crate) fn find(rows: &Partitions, by_hash: &HashRefs, hash: u64, row: &Row) -> Option<RowRef>
     requires hash { hash ≡ row_hash row.now }
     requires hashed { IsPermutation by_hash.now.entries (pairs_from 0 rows.now.slots) }
@@ -40,7 +40,7 @@ pub(crate) fn find(rows: &Partitions, by_hash: &HashRefs, hash: u64, row: &Row) 
     None
 }
 
-/// Whether a stored row is the same as another.
+/// Returns whether a stored row equals another one.
 fn is_same(stored: RowView<'_>, row: &Row) -> bool
     ensures { Decides result (viewed stored.entry ≡ row.now) }
 {

@@ -1,4 +1,4 @@
-//! Rows of the types of a bag's columns.
+//! Types of rows.
 ghost use Rattle.std.specs.Bool.{Decides};
 ghost use Rattle.mm_partition.specs.Types.{HasTypes};
 
@@ -6,7 +6,7 @@ use crate::bag::Bag;
 use mm_value::Row;
 
 impl Bag {
-    /// Whether a row has the types of the columns.
+    /// Returns whether a row has the types of the columns.
     pub fn takes(&self, row: &Row) -> bool
         ensures { Decides result (HasTypes self.now.types row.now) }
     {

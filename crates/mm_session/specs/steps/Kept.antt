@@ -6,7 +6,7 @@ use Rattle.mm_query.specs.declared.reply.Reply.TheVariants as reply
 use Rattle.mm_session.specs.declared.replies.Kept.{Kept}
 use Rattle.mm_session.specs.declared.replies.Kept.TheVariants as kept
 
--- The reply that a `Kept` and the rows of the buffer stand for.
+-- The reply of a `Kept` and the rows of the buffer.
 abbrev pub reply_kept : List (List Value) → Kept → Option Reply
 reply_kept rows kept.Nothing = None
 reply_kept rows kept.InBuffer = Some (reply.Rows rows)

@@ -1,11 +1,11 @@
--- Parts of one shape have as many literals.
+-- Parts of the same shape have equally many literals.
 use Rattle.std.proofs.Common.{◌≡◌, List, length, refl, ap}
 use Rattle.mm_lang.specs.Reading.{operand_literals, test_literals}
 use Rattle.mm_query.specs.declared.atom.Operand.{Operand}
 use Rattle.mm_query.specs.declared.atom.Operand.TheVariants.{Literal, Column, Shifted}
 use Rattle.mm_statement.specs.Filling.{blank_assignment, blank_atom, blank_operand}
 
--- Things of one shape have as many literals.
+-- Parts of the same shape have equally many literals.
 abbrev pub IsCounted : {A V : Type 0} → (A → A) → (A → List V) → Type 0
 IsCounted {A} blank literals = (a b : A) → blank a ≡ blank b → length (literals a) ≡ length (literals b)
 

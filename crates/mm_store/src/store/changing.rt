@@ -55,8 +55,8 @@ impl Store {
         self.base.drop_table(table);
     }
 
-    /// Appends an index on a column of a table, over the rows in use, also inside a transaction. Fails with `AllocError` if an allocation
-    /// fails; then nothing changes.
+    /// Appends an index on a column of a table over the rows in use; also allowed inside a transaction. Fails with `AllocError` if an
+    /// allocation fails; then nothing changes.
     pub fn add_index(
         &mut self,
         alloc: Global,
@@ -77,7 +77,7 @@ impl Store {
         self.base.add_index(alloc, table, column, kind)
     }
 
-    /// Drops the index of a table at a place, counted from 0. The places of those after it fall by one.
+    /// Drops the index of a table at a place, counted from 0. The places of later indexes decrease by one.
     pub fn drop_index(&mut self, table: usize, index: usize)
         requires there { table < length self.old.tables }
         requires index { (stored : StoredRows) → IsAt self.old table stored → index < length stored.indexes }
@@ -90,7 +90,7 @@ impl Store {
         self.base.drop_index(table, index);
     }
 
-    /// Undoes all edits that the log has beyond a mark, the newest first. Allocates nothing and cannot fail.
+    /// Undoes all edits of the log after a mark, newest first. Allocates nothing and cannot fail.
     pub fn revert(&mut self, mark: usize)
         requires mark { IsMark self.old mark }
         ensures rows { map rows_of self.new.tables ≡ rows_at_mark mark self.old }
@@ -103,8 +103,8 @@ impl Store {
         rows_are_listed(&self.base);
     }
 
-    /// Ends the transaction: the rows in use stay, and the log is empty. Each tree of a table that it named keeps at most 64 spare nodes.
-    /// Allocates nothing and cannot fail.
+    /// Ends the transaction: the rows in use stay, and the log is empty. Each tree of a table that the log named keeps at most 64 spare
+    /// nodes. Allocates nothing and cannot fail.
     pub fn settle(&mut self)
         ensures rows { map rows_of self.new.tables ≡ map rows_of self.old.tables }
         ensures log { self.new.stored.log ≡ [] }
@@ -118,7 +118,7 @@ impl Store {
     }
 }
 
-/// Lemma: the rows of each table are those of its slots, in the order of its key. The call goes over the tables and does nothing else.
+/// Lemma: the rows of each table are those of its slots, in the order of its key. The call visits the tables and does nothing else.
 pub(super) fn rows_are_listed(base: &BaseTables)
     ensures { map rows_of (tables_of base.now).tables ≡ rows_now base.now.stored }
 {

@@ -27,7 +27,7 @@ use mm_value::{Refusal, RowRef, Value};
 use std::alloc::{AllocError, Global};
 
 impl Store {
-    /// Makes capacity to stage so many rows of a table. Fails with `AllocError` if an allocation fails; then there may be more capacity,
+    /// Reserves capacity to stage `rows` rows of a table. Fails with `AllocError` if an allocation fails; then there may be more capacity,
     /// and all else is as before.
     pub fn reserve_rows(
         &mut self,
@@ -46,8 +46,8 @@ impl Store {
         result
     }
 
-    /// Stages a new row of a table: moves its values into a free slot that is hidden, logs that, and returns its reference. Allocates
-    /// nothing.
+    /// Stages a new row of a table: moves its values into a free slot, which becomes hidden, logs this, and returns the slot's reference.
+    /// Allocates nothing.
     pub fn stage(&mut self, table: usize, values: &mut [Value]) -> RowRef
         requires there { table < length self.old.tables }
         requires room { CanStage 1 table self.old }
@@ -63,7 +63,7 @@ impl Store {
         at
     }
 
-    /// Whether a row in use and a staged row of a table have the same key.
+    /// Returns whether a row in use and a staged row of a table have the same key.
     pub fn keeps_key(&self, table: usize, at: RowRef, other: RowRef) -> bool
         requires there { table < length self.now.tables }
         requires live { (stored : StoredRows) → IsAt self.now table stored → IsLive stored.places at }
@@ -75,9 +75,9 @@ impl Store {
     }
 
     /// Makes edits of a table together. Fails with the first refusal that is due: `DuplicateKey` if two rows would have one key,
-    /// `NoTargetRow` if a row would refer to none, `RowIsReferenced` if a row to which a row of another table refers would be deleted or get
-    /// another key, or `TableFull` if there would be more than 1,048,576 rows; or with `Memory` in the place of any of these and of success.
-    /// Then all rows are as before, and so is the log: the rows that were staged for the edits stay until the log is undone.
+    /// `NoTargetRow` if a row would refer to no row, `RowIsReferenced` if a row to which a row of another table refers would be deleted or
+    /// get another key, or `TableFull` if there would be more than 1,048,576 rows. Or with `Memory` if an allocation fails. Then all rows
+    /// and the log are as before: the rows that were staged for the edits stay until the log is undone.
     pub fn make(&mut self, alloc: Global, table: usize, edits: &[Edit]) -> Result<(), Refusal>
         requires there { table < length self.old.tables }
         requires ready { (stored : StoredRows) → IsAt self.old table stored → AreReady stored edits.now }
@@ -112,7 +112,7 @@ impl Store {
     }
 }
 
-/// Makes capacity for edits of a table and makes them. Fails as [`Store::make`] does; then all rows and the log are as before.
+/// Reserves capacity for edits of a table and makes them. Fails as [`Store::make`] does; then all rows and the log are as before.
 fn make_edits(
     base: &mut BaseTables,
     alloc: Global,

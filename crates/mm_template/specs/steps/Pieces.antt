@@ -1,4 +1,4 @@
--- The pieces of a line, and what a cut does with each.
+-- The pieces of a line, and how a cut treats each.
 use Rattle.std.specs.Prelude.{◌≡◌, ◌⊎◌, ℕ, ◌<◌, ◌≤◌, ◌==◌, Bool, true, false, not, ◌&&◌, ◌||◌, List, [], ◌∷◌, ◌++◌, length, take, drop, slice_index}
 use Rattle.mm_value.specs.Literal.{Spells}
 use Rattle.mm_value.specs.declared.values.Value.{Value}
@@ -13,11 +13,11 @@ is_sign (Mark Plus) = true
 is_sign (Mark Minus) = true
 is_sign token = false
 
--- The byte is a symbol of its own, whatever follows it: `.`, `,`, `(` or `)`.
+-- The byte is a symbol by itself, whatever follows it: `.`, `,`, `(` or `)`.
 abbrev pub is_mark : ℕ → Bool
 is_mark b = (b == 46) || (b == 44) || (b == 40) || (b == 41)
 
--- The byte stands in a word, is a blank, or is such a symbol.
+-- The byte is part of a word, is a blank, or is such a symbol.
 abbrev pub is_kept_byte : ℕ → Bool
 is_kept_byte b = is_word_byte b || is_blank b || is_mark b
 
@@ -25,7 +25,7 @@ is_kept_byte b = is_word_byte b || is_blank b || is_mark b
 abbrev pub is_before_value : ℕ → Bool
 is_before_value b = (b == 44) || (b == 40)
 
--- The byte is kept, and nothing is looked for behind it: in an INSERT it is no symbol that a value follows.
+-- The byte is kept and skipped: in an INSERT it is not a symbol that a value follows.
 abbrev pub is_passed : Bool → ℕ → Bool
 is_passed is_insert b = is_kept_byte b && not (is_insert && is_before_value b)
 
@@ -42,30 +42,30 @@ begins_text (b ∷ bs) = b == 39
 abbrev pub BeginsAs : List ℕ → List ℕ → Type 0
 BeginsAs tail rest = (slice_index tail 0 ≡ slice_index rest 0) ⊎ (slice_index tail 0 ≡ 63)
 
--- The bytes are one token in front of the rest, and in front of all bytes that begin as the rest does. It is no hole.
+-- The bytes are one token before the rest, and before all bytes that begin as the rest does. The token is not a hole.
 pub record IsOneToken (may_be_sign : Bool) (front rest : List ℕ) : Type 0 where
   pub token : Token
   pub is : (tail : List ℕ) → BeginsAs tail rest → tokens (front ++ tail) ≡ token ∷ tokens tail
   pub no_hole : is_hole token ≡ false
   pub no_sign : may_be_sign ≡ false → is_sign token ≡ false
 
--- The first bytes, as many as this, are an operator: one token, and no sign if any literal may be cut behind it.
+-- The first `len` bytes are an operator: one token, and not a sign if any literal may be cut after it.
 pub record IsOperator (bytes : List ℕ) (takes_any : Bool) (len : ℕ) : Type 0 where
   pub some : 0 < len
   pub fits : len ≤ length bytes
   pub is : IsOneToken (not takes_any) (take len bytes) (drop len bytes)
 
--- The first bytes, as many as this, may be cut as a literal: they begin with a minus only if any literal may be cut there.
+-- The first `len` bytes may be cut as a literal: they begin with a minus only if any literal may be cut there.
 pub record MayBeCut (bytes : List ℕ) (takes_any : Bool) (len : ℕ) : Type 0 where
   pub fits : len ≤ length bytes
   pub unsigned : takes_any ≡ false → begins_minus (take len bytes) ≡ false
 
--- The first byte of a keyword whose lines are cut.
+-- The bytes begin with the first letter of a keyword whose lines are cut.
 abbrev pub begins_keyword : List ℕ → Bool
 begins_keyword [] = false
 begins_keyword (b ∷ bs) = (b == 83) || (b == 73) || (b == 85) || (b == 68)
 
--- A cut goes on with bytes that are kept, and then with a literal that is cut.
+-- A cut continues with bytes that are kept, and then with a literal that is cut.
 pub record CutsLiteral (old new : Cut) (kept bytes rest : List ℕ) : Type 0 where
   pub value : Value
   pub spelled : Spells bytes value
@@ -74,7 +74,7 @@ pub record CutsLiteral (old new : Cut) (kept bytes rest : List ℕ) : Type 0 whe
   pub template : new.template ≡ (old.template ++ kept) ++ 63 ∷ []
   pub values : new.values ≡ old.values ++ value ∷ []
 
--- A cut goes on with bytes that are kept.
+-- A cut continues with bytes that are kept.
 pub record Keeps (old new : Cut) (kept : List ℕ) : Type 0 where
   pub template : new.template ≡ old.template ++ kept
   pub values : new.values ≡ old.values

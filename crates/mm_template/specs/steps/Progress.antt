@@ -1,4 +1,4 @@
--- How far a line is cut.
+-- The progress of a cut.
 use Rattle.std.specs.Prelude.{◌≡◌, ℕ, Bool, true, false, List, ◌∷◌, ◌++◌, count_by, length}
 use Rattle.std.specs.List.{AllZip}
 use Rattle.mm_value.specs.declared.values.Value.{Value}
@@ -25,8 +25,8 @@ pub record IsWhole (line template : List ℕ) (values : List Value) : Type 0 whe
   pub are_texts : AllZip IsText texts values
   pub agrees : Agrees true line template texts
 
--- Of a line a front is cut, and this rest is left. The template has still to get the bytes before the rest. With each rest of a
--- template that agrees with the rest of the line, the template agrees with the line.
+-- A prefix of a line is cut, and this rest is left. The template still lacks the bytes before the rest. With each rest of a template that
+-- agrees with the rest of the line, the template agrees with the line.
 pub record IsCutTo (line left rest template : List ℕ) (values : List Value) (may_be_signed : Bool) : Type 0 where
   pub kept : List ℕ
   pub split : left ≡ kept ++ rest

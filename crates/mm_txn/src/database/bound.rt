@@ -1,4 +1,4 @@
-//! Queries and changes of rows that are bound once, and run as often as need be while the catalog stays.
+//! Queries and changes of rows that are bound once, and run any number of times while the catalog is unchanged.
 ghost use Rattle.std.specs.Prelude.{◌≡◌, ◌++◌, IfOk, OnErr, OnOk, Some, is_some, length, take};
 ghost use Rattle.std.specs.Option.{option_copied};
 ghost use Rattle.mm_query.specs.Binding.{binding_conditions};
@@ -26,14 +26,15 @@ use mm_value::Refusal;
 use std::alloc::Global;
 
 impl Db {
-    /// The catalog. A bound form is good as long as it stays the same.
+    /// Returns the catalog. A bound form is valid as long as the catalog is unchanged.
     pub fn catalog(&self) -> &Catalog
         ensures { result.now ≡ self.now.schema }
     {
         &self.contents.catalog
     }
 
-    /// The query of a standing query, with places in place of the names of its fields. None where none has the name.
+    /// Returns the query of the standing query with a name, with places instead of field names, or `None` if no standing query has the
+    /// name.
     pub fn standing_query(&self, name: &Name) -> Option<&BoundQuery>
         ensures { option_copied result ≡ query_named name.now self.now.schema.standing self.now.queries }
     {
@@ -42,15 +43,15 @@ impl Db {
         Some(contents.standing.query(place))
     }
 
-    /// Whether a transaction is open.
+    /// Returns whether a transaction is open.
     pub fn is_in_transaction(&self) -> bool
         ensures { result ≡ is_some self.now.saved }
     {
         self.is_open
     }
 
-    /// The bound form of a query, which has places in place of names, for [`Db::select_into`]. The refusals are those of
-    /// [`Question::Select`](crate::Question::Select) but for `ResultTooLarge`.
+    /// Returns the bound form of a query, with places instead of names, for [`Db::select_into`]. Fails as `SELECT` does in [`Db::ask`], but
+    /// not with `ResultTooLarge`.
     pub fn bind_query(&self, alloc: Global, query: Query<'_>) -> Result<Bound, Refusal>
         ensures due { AnswersDue (first_refusal (query_conditions query.entry self.now.schema)) result }
         ensures ok { IfOk result (IsBoundQuery self.now.schema query.entry) }
@@ -58,9 +59,11 @@ impl Db {
         mm_query::bind_query(alloc, &self.contents.catalog, query)
     }
 
-    /// The bound form of a change of rows, which has places in place of names, for [`Db::change_bound`]. The refusals are those of
-    /// [`Change::Edit`](crate::Change::Edit) by the catalog; `Memory` may come in their place and in that of success, except for
-    /// an INSERT, which takes none here.
+    /// Returns the bound form of a change of rows, with places instead of names, for [`Db::change_bound`]. Fails with the first refusal
+    /// that is due by the catalog: `NoSuchTable`; `NoSuchColumn` if an assignment or a test names a column that does not exist; `NameTaken`
+    /// if SET names a column twice; `TypeMismatch` if a value and its column or two sides differ in type, or a number is added to a text;
+    /// `WrongNumberOfValues` if a row has more or fewer values than its table has columns; `TooMany` if there are more than 16 tests. Or
+    /// with `Memory` if an allocation fails; an `INSERT` allocates nothing here.
     pub fn bind_change(&self, alloc: Global, mutation: Mutation<'_>) -> Result<BoundChange, Refusal>
         ensures due { AnswersDue (first_refusal (binding_conditions mutation.entry self.now.schema)) result }
         ensures ok { IfOk result (IsBoundChange self.now.schema mutation.entry) }
@@ -68,10 +71,10 @@ impl Db {
         mm_query::bind_change(alloc, &self.contents.catalog, mutation)
     }
 
-    /// Copies the rows that a bound query gives, in their order, behind those of a buffer; the query has to be bound by the catalog
-    /// as it is. `ResultTooLarge` where more than 1,048,576 combinations of rows fit; `Memory` may come in its place and in that of
-    /// success. Where it is refused, some of the rows may have been added, and those that were there stand as they did. Sets `reads` to
-    /// the number of rows read, up to `u64::MAX`: no more than the plan allows.
+    /// Appends copies of the rows of a bound query's result, in order, to a buffer. Requires that the query was bound by the current
+    /// catalog. Fails with `ResultTooLarge` if more than 1,048,576 combinations of rows match, and with `Memory` if an allocation fails;
+    /// then some of the rows may have been appended, and the rows before them are unchanged. Sets `reads` to the number of rows read, up to
+    /// `u64::MAX`: no more than the plan allows.
     pub fn select_into(
         &self,
         alloc: Global,
@@ -94,8 +97,8 @@ impl Db {
         outcome
     }
 
-    /// Returns the rows that a bound query gives, in their order, where they are stored; the query has to be bound by the catalog as it
-    /// is. Fails as [`Db::select_into`] does, and sets `reads` as it does.
+    /// Returns the rows of a bound query's result, in order, where they are stored. Requires that the query was bound by the current
+    /// catalog. Fails as [`Db::select_into`] does, and sets `reads` as it does.
     pub fn select_bound(
         &self,
         alloc: Global,
@@ -116,11 +119,15 @@ impl Db {
         rows
     }
 
-    /// Makes a change of rows by its bound form, which has to be bound by the catalog as it is, and replies `Count` or `Refused`.
-    /// The refusals are those of [`Change::Edit`](crate::Change::Edit) by the rows and by the standing queries; `Memory` may come
-    /// in their place and in that of success. A refused change changes nothing. It is one step of the machine of row lists; only
-    /// `Memory` may come in place of that step. Sets `reads` to the number of rows read for the lists of standing queries, up to
-    /// `u64::MAX`: no more than the edited rows and their matches allow.
+    /// Makes a change of rows by its bound form, and replies `Count` or `Refused`. Requires that the change was bound by the current
+    /// catalog. The call is one step of the machine of row lists, or the reply is `Memory`; a refused change changes nothing. Sets `reads`
+    /// to the number of rows read for the lists of standing queries, up to `u64::MAX`: no more than the edited rows and their matches
+    /// allow.
+    ///
+    /// The first refusal that is due is, by the rows: `ArithmeticOutOfRange` if a new value does not fit 64 bits; `DuplicateKey` if two
+    /// rows would have one key; `NoTargetRow` if a foreign key would refer to no row; `RowIsReferenced` if a row to which another one
+    /// refers would be deleted or get another key, and the referring row stays; `TableFull` if there would be more than 1,048,576 rows. By
+    /// the standing queries: `StandingListTooLarge` if more than 1,048,576 combinations of the rows after the change match one of them.
     pub fn change_bound(&mut self, alloc: Global, change: ChangeToRun<'_>, reads: &mut u64) -> Reply
         requires { (mutation : AnyMutation) × IsBoundChange self.old.schema mutation (bound_of change) }
         ensures step { (mutation : AnyMutation) → IsBoundChange self.old.schema mutation (bound_of change.entry)
@@ -131,8 +138,8 @@ impl Db {
         counted(self.run_change(alloc, change, reads))
     }
 
-    /// Makes a change of rows by its bound form, and tells how many rows of its table that concerned. The refusals are those of
-    /// [`Db::change_bound`], and so is what it sets `reads` to.
+    /// Makes a change of rows by its bound form, and returns the number of affected rows of its table. Fails as [`Db::change_bound`] does,
+    /// and sets `reads` as it does.
     pub(super) fn run_change(
         &mut self,
         alloc: Global,

@@ -1,4 +1,4 @@
--- What one line does: the reply is written, and the state is the one after it.
+-- The effect of one line: its reply was written, and the state is the one after it.
 use Rattle.std.specs.Prelude.{◌≡◌, Bool, false, List, [], ℕ, Option, Some, None, Result, Ok, Err}
 use Rattle.std.specs.Io.KnownBytes.{Keeps}
 use Rattle.mm_lang.specs.Answering.{answer}
@@ -13,14 +13,14 @@ use Rattle.mmdb_core.specs.declared.run_error.RunError.TheVariants.{Read, Write,
 use Rattle.mmdb_core.specs.declared.input.Input.{Input}
 use Rattle.mmdb_core.specs.declared.input.Next.TheVariants.{End}
 
--- The reply to a line was written, memory refused to it or not, and the state is the one after it.
+-- The reply to a line was written, whether or not its allocations failed, and the state is the one after the line.
 pub record RepliesToLine {W E : Type 0} (contents : W → Option (List ℕ)) (old new : Watched W) (line : List ℕ) (before after : State)
     (result : Result Bool E) : Type 0 where
   pub choice : Bool
   pub state : after ≡ (answer choice line before).state
   pub reply : WritesReply contents old new (answer choice line before).reply result
 
--- The next line is gone and was answered.
+-- The next line was dropped from the input, and its reply was written.
 pub record PassesReplied {R W E : Type 0} (remaining : R → Option (List ℕ)) (contents : W → Option (List ℕ)) (reader later : Watched R) (input next : Input)
     (before after : State) (old new : Watched W) (result : Result Bool E) : Type 0 where
   pub line : List ℕ
@@ -32,7 +32,7 @@ pub record WritesNothing {W : Type 0} (contents : W → Option (List ℕ)) (old 
   pub kept : Keeps (contents (inner_of old)) (contents (inner_of new))
   pub unfailed : has_failed new ≡ false
 
--- A run goes on by a line, ends with its input, or breaks off.
+-- A run continues after a line, ends with its input, or ends early.
 abbrev pub GoesOn : {R W : Type 0} → (R → Option (List ℕ)) → (W → Option (List ℕ)) → Watched R → Watched R → Input → Input → State → State → Watched W
     → Watched W → Result (Option Bool) RunError → Type 0
 GoesOn remaining contents reader later input next before after old new (Ok (Some is_refused)) =
@@ -46,7 +46,7 @@ GoesOn remaining contents reader later input next before after old new (Err Writ
 GoesOn remaining contents reader later input next before after old new (Err TooLong) =
     StopsInLine remaining reader later input next TooLong × WritesNothing contents old new
 
--- How a run goes on after a line was answered: by the line, or it breaks off where the writer failed.
+-- How a run continues after the reply to a line: with the next line, or it ends because the writer failed.
 abbrev pub goes_on_of : {E : Type 0} → Result Bool E → Result (Option Bool) RunError
 goes_on_of (Ok is_refused) = Ok (Some is_refused)
 goes_on_of (Err e) = Err Write

@@ -1,10 +1,10 @@
--- What was taken from the reader.
+-- Bytes that were read.
 use Rattle.std.specs.Prelude.{◌≡◌, ℕ, List, ◌++◌, length, Option}
 use Rattle.std.specs.Io.KnownBytes.{Consumes, IsAtEnd}
 use Rattle.mm_value.specs.Watched.{inner_of}
 use Rattle.mm_value.specs.declared.device.Watched.{Watched}
 
--- So many bytes were taken from the reader and put behind those that were there. None were only at the end.
+-- n bytes were read and appended to the earlier ones; 0 only at the end.
 pub record Takes {R : Type 0} (remaining : R → Option (List ℕ)) (reader after : Watched R) (old new : List ℕ) (n : ℕ) : Type 0 where
   pub given : List ℕ
   pub count : length given ≡ n

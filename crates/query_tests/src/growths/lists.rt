@@ -16,12 +16,12 @@ use std::alloc::{AllocError, Global};
 use std::process::Abort;
 use std::test::Fail;
 
-/// The reference to a slot.
+/// Returns the reference to a slot.
 fn at(slot: u32) -> RowRef {
     RowRef { slot }
 }
 
-/// Adds the combination of a slot and slot 9 to a list. Where memory is refused the list is to be as long as it was.
+/// Appends the combination of a slot and slot 9 to a list, again if an allocation fails; then the list still has its length.
 fn adds(rt: &(impl Abort + Print), list: &mut TempList, slot: u32) -> Result<(), Fail>
     requires { length list.old.tables ≡ 2 }
     ensures { length list.new.tables ≡ 2 }
@@ -36,7 +36,7 @@ fn adds(rt: &(impl Abort + Print), list: &mut TempList, slot: u32) -> Result<(),
     Ok(())
 }
 
-/// Looks at the three combinations of a list.
+/// Asserts the three combinations of a list.
 fn are_three(rt: &impl Abort, list: &TempList) {
     assert_same(rt, list.len(), 3);
     assert_same(rt, list.combo(0), [at(1), at(9)].as_slice());
@@ -44,7 +44,7 @@ fn are_three(rt: &impl Abort, list: &TempList) {
     assert_same(rt, list.combo(2), [at(3), at(9)].as_slice());
 }
 
-/// Adds three combinations to a list, of which they are to be all.
+/// Appends three combinations to a list, and asserts that they are all.
 fn adds_three(rt: &(impl Abort + Print), list: &mut TempList) -> Result<(), Fail>
     requires { length list.old.tables ≡ 2 }
 {
@@ -68,7 +68,7 @@ fn push_growths(rt: HostRuntime) -> Result<(), Fail> {
 /// The key and the value.
 const FIELDS: [FieldPlace; 2] = [OUTER_KEY, OUTER_VALUE];
 
-/// The rows of the first table.
+/// Returns the rows of the first table.
 fn all_rows(alloc: Global, store: &Store) -> Result<TempList<'_>, AllocError>
     requires { length store.now.tables ≡ 2 }
     ensures { IfOk result (λ list. All (AreLive store.now list.tables) list.combos) }
@@ -81,7 +81,7 @@ fn all_rows(alloc: Global, store: &Store) -> Result<TempList<'_>, AllocError>
     select(alloc, &mut view, descriptor, &[], Access::Scan)
 }
 
-/// Copies of the rows of a list in the order of the second field, made again where memory is refused.
+/// Returns copies of the rows of a list in the order of the second field, made again if an allocation fails.
 fn project_again(
     rt: &(impl Abort + Print),
     alloc: Global,
@@ -121,7 +121,7 @@ fn project_sorted_growths(rt: HostRuntime) -> Result<(), Fail> {
     }
 }
 
-/// Whether the rows that are shown are these pairs of whole numbers, in this order.
+/// Returns whether the shown rows are these pairs of integers, in this order.
 fn are_shown(rows: &ShownRows, pairs: &[(i64, i64)]) -> bool {
     if rows.len() != pairs.len() {
         return false;
@@ -135,7 +135,7 @@ fn are_shown(rows: &ShownRows, pairs: &[(i64, i64)]) -> bool {
     true
 }
 
-/// The rows of a list in the order of the second field, shown again where memory is refused.
+/// Returns the rows of a list in the order of the second field, again if an allocation fails.
 fn show_again<'s>(
     rt: &(impl Abort + Print),
     alloc: Global,

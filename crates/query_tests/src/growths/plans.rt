@@ -12,7 +12,7 @@ use std::alloc::Global;
 use std::process::Abort;
 use std::test::Fail;
 
-/// The steps of a query over five tables, which are more than have no block, asked for again where memory is refused.
+/// Returns the steps of a query over five tables, again if an allocation fails. Five steps are more than are stored inline.
 fn plan_again(
     rt: &(impl Abort + Print),
     alloc: Global,
@@ -31,8 +31,8 @@ fn plan_again(
     }
 }
 
-/// Asks for the steps of a query that compares the values of the first two of its tables. These have no index, so a hash table is to be
-/// built over those of the second, and nothing leads to the rows of the others.
+/// Asserts the steps of a query that compares the values of the first two of its tables. These have no index, so a hash table is built over
+/// those of the second table, and no atom leads to the rows of the other tables.
 fn ask_for_plan(rt: &(impl Abort + Print), alloc: Global, store: &Store) -> Result<(), Fail>
     requires { length store.now.tables ≡ 2 }
 {

@@ -1,4 +1,4 @@
-//! Queries run by the steps of their plans: by each selection, and by each join.
+//! Queries run by the steps of their plans: each selection and each join.
 ghost use Rattle.std.specs.Prelude.{◌≡◌, ◌<◌, ◌≤◌, length, All, IfOk};
 ghost use Rattle.mm_plan.specs.Steps.{AreSteps};
 ghost use Rattle.mm_templist.specs.Combos.{AreLive};
@@ -18,7 +18,7 @@ use std::alloc::Global;
 use std::process::Abort;
 use std::test::Fail;
 
-/// Runs a query by steps, and again where memory is refused.
+/// Runs a query by steps, again if an allocation fails.
 fn run_again<'a>(
     rt: &(impl Abort + Print),
     alloc: Global,
@@ -44,18 +44,18 @@ fn run_again<'a>(
     }
 }
 
-/// What a query is to give over a store.
+/// The expected result of a query over a store.
 #[derive(Clone, Copy)]
 struct Case<'a> {
     /// The places of its tables.
     tables: &'a [usize],
-    /// The step of the last of them.
+    /// The step of the last table.
     last: Step,
-    /// Its rows in the order of the first field.
+    /// The rows in the order of the first field.
     pairs: &'a [(i64, i64)],
 }
 
-/// Runs a query by its plan, and looks at the last step and the rows.
+/// Runs a query by its plan, and checks the last step and the rows.
 fn runs(
     rt: &(impl Abort + Print),
     alloc: Global,
@@ -79,7 +79,7 @@ fn runs(
     Ok(())
 }
 
-/// Finds the keys and values of the rows of the first table that fit an atom, along a step.
+/// Finds the keys and values of the rows of the first table that match an atom, along a step.
 fn selects(
     rt: &(impl Abort + Print),
     alloc: Global,
@@ -142,8 +142,8 @@ fn range_growths(rt: HostRuntime) -> Result<(), Fail> {
     }
 }
 
-/// Joins two tables of which the values fall as their keys rise: the first has 6 rows, and the second 5. The keys are to be those of
-/// the case.
+/// Joins two tables whose values decrease as their keys increase: the first has 6 rows, and the second 5. Asserts that the keys are those
+/// of the case.
 fn joins<const N: usize>(
     rt: &(impl Abort + Print),
     alloc: Global,
@@ -164,7 +164,7 @@ fn joins<const N: usize>(
     }
 }
 
-/// The keys of the rows of one value: those of the first table from 2 on have a partner, of which the key is less by 1.
+/// The keys of the rows with one value: each row of the first table from 2 on matches one whose key is less by 1.
 const OF_ONE_VALUE: [(i64, i64); 5] = [(2, 1), (3, 2), (4, 3), (5, 4), (6, 5)];
 
 /// The keys of the rows of the first table whose values are keys of the second.
@@ -226,7 +226,7 @@ fn tree_merge_growths(rt: HostRuntime) -> Result<(), Fail> {
 
 #[test]
 fn precomputed_growths(rt: HostRuntime) -> Result<(), Fail> {
-    // The values of the first table of the query are keys of the second one.
+    // The values of the query's first table are keys of its second table.
     let case = Case {
         tables: &[1, 0],
         last: Step::Precomputed { atom: 0 },

@@ -9,13 +9,13 @@ use std::process::Abort;
 use std::test::Fail;
 
 impl Case {
-    /// Whether the second table shows this.
+    /// Returns whether the second table shows these contents.
     pub fn second_shows(&self, alloc: Global, all: Shows) -> Result<bool, AllocError> {
         table_shows(&self.store, 1, alloc, all)
     }
 }
 
-/// Undoes a step of the second table. The table is to show one thing in front of the step, and another behind it.
+/// Undoes a step of the second table, and checks its contents before the step and after it.
 fn comes_back(
     rt: &impl Abort,
     alloc: Global,
@@ -35,7 +35,7 @@ fn comes_back(
     Ok(())
 }
 
-/// Makes a step of the second table that was refused memory: till then all is as it was.
+/// Makes a step of the second table again after an allocation failed, and asserts that nothing changed before.
 fn makes_again(
     rt: &(impl Abort + Print),
     alloc: Global,
@@ -50,7 +50,7 @@ fn makes_again(
     Ok(case.apply(alloc, step))
 }
 
-/// Makes a step of the second table and undoes it. The table is to show one thing in front of it, and another behind it.
+/// Makes a step of the second table and undoes it, and checks its contents before and after the step.
 fn goes_and_comes(
     rt: &(impl Abort + Print),
     alloc: Global,
@@ -74,7 +74,7 @@ const EMPTY: Shows = Shows {
     by_hash: &[(1, 0), (2, 0), (3, 0)],
 };
 
-/// The rows of three keys.
+/// Rows with three keys.
 const THREE: Shows = Shows {
     rows: &[(13, 3), (21, 1), (32, 2)],
     along_tree: &[21, 32, 13],
@@ -91,21 +91,21 @@ fn apply_growths(rt: HostRuntime) -> Result<(), Fail> {
     goes_and_comes(&rt, alloc, &mut case, step, [EMPTY, THREE])
 }
 
-/// The same where the first of them has another value.
+/// The three rows, the first of them with another value.
 const TURNED: Shows = Shows {
     rows: &[(13, 2), (21, 1), (32, 2)],
     along_tree: &[21, 13, 32],
     by_hash: &[(1, 1), (2, 2), (3, 0)],
 };
 
-/// The same without the last of them.
+/// The three rows without the last of them.
 const TWO: Shows = Shows {
     rows: &[(13, 2), (21, 1)],
     along_tree: &[21, 13],
     by_hash: &[(1, 1), (2, 1), (3, 0)],
 };
 
-/// Turns one row of three, and takes the last out.
+/// Updates one row of three, and deletes the last.
 fn turns_and_removes(
     rt: &(impl Abort + Print),
     alloc: Global,
@@ -133,7 +133,7 @@ const REFUSED: [(Step, Refusal); 2] = [
     (Step::Put(&[41, 34]), Refusal::NoTargetRow),
 ];
 
-/// Tries a step of the second table that is refused: then all is as it was.
+/// Tries a step of the second table that is refused, and asserts that nothing changed.
 fn refuses(
     rt: &(impl Abort + Print),
     alloc: Global,

@@ -1,4 +1,4 @@
-//! Tables and indexes, added.
+//! New tables and indexes.
 ghost use Rattle.std.specs.Prelude.{◌≡◌, ◌<◌, [], length, IfOk, OnOk};
 ghost use Rattle.store_tests.specs.SampleStore.{ArePlain};
 
@@ -12,7 +12,7 @@ use std::alloc::{AllocError, Global};
 use std::process::Abort;
 use std::test::Fail;
 
-/// Adds four tables of two columns each to none, and rows to the first.
+/// Appends four tables of two columns each to none, and inserts rows into the first.
 fn add_four(store: &mut Store, alloc: Global) -> Result<(), AllocError>
     requires none { store.old.tables ≡ [] }
     requires log { store.old.stored.log ≡ [] }
@@ -28,7 +28,7 @@ fn add_four(store: &mut Store, alloc: Global) -> Result<(), AllocError>
     Ok(())
 }
 
-/// Four tables of two columns each and no index but those on the keys. The first has rows.
+/// Returns four tables of two columns each, with no indexes but those on the keys. The first has rows.
 fn four_tables(alloc: Global) -> Result<Store, AllocError>
     ensures four { IfOk result (λ store. length store.tables ≡ 4) }
     ensures plain { IfOk result ArePlain }
@@ -39,7 +39,7 @@ fn four_tables(alloc: Global) -> Result<Store, AllocError>
     Ok(store)
 }
 
-/// The keys of the rows, each of which has its last digit beside it. A tree of so many has two nodes.
+/// The keys of the rows, each of which has its last digit as its value. A tree of this size has two nodes.
 const KEYS: [i64; 18] = [
     18, 1, 17, 2, 16, 3, 15, 4, 14, 5, 13, 6, 12, 7, 11, 8, 10, 9,
 ];
@@ -70,14 +70,14 @@ const BARE: Shows = Shows {
     by_hash: &[],
 };
 
-/// The second column of a fifth table refers to the first one.
+/// The second column of a fifth table refers to the first table.
 const TO_FIRST: Reference = Reference {
     from: 4,
     column: 1,
     to: 0,
 };
 
-/// Adds the table again, which was refused memory: till then all is as it was.
+/// Appends the table again after an allocation failed, and asserts that nothing changed before.
 fn adds_table_again(rt: &(impl Abort + Print), alloc: Global, store: &mut Store) -> Result<(), Fail>
     requires four { length store.old.tables ≡ 4 }
     requires log { store.old.stored.log ≡ [] }
@@ -89,7 +89,7 @@ fn adds_table_again(rt: &(impl Abort + Print), alloc: Global, store: &mut Store)
     Ok(())
 }
 
-/// Adds a table to four, which refers to the first of them.
+/// Appends a table to four, which refers to the first of them.
 fn adds_table(rt: &(impl Abort + Print), alloc: Global, store: &mut Store) -> Result<(), Fail>
     requires four { length store.old.tables ≡ 4 }
     requires log { store.old.stored.log ≡ [] }
@@ -117,7 +117,7 @@ fn add_table_growths(rt: HostRuntime) -> Result<(), Fail> {
     adds_table(&rt, alloc, &mut store)
 }
 
-/// Whether the first table has an index of a kind on its second column.
+/// Returns whether the first table has an index of a kind on its second column.
 fn has_index(store: &Store, kind: IndexKind) -> bool
     requires { 0 < length store.now.tables }
 {
@@ -128,7 +128,7 @@ fn has_index(store: &Store, kind: IndexKind) -> bool
     }
 }
 
-/// Adds the index again, which was refused memory: till then all is as it was.
+/// Appends the index again after an allocation failed, and asserts that nothing changed before.
 fn adds_index_again(
     rt: &(impl Abort + Print),
     alloc: Global,
@@ -145,7 +145,7 @@ fn adds_index_again(
     Ok(())
 }
 
-/// Adds an index of a kind to the first of four tables, which then is to show this.
+/// Appends an index of a kind to the first of four tables, which then must show these contents.
 fn adds_index(
     rt: &(impl Abort + Print),
     alloc: Global,
@@ -167,7 +167,7 @@ fn adds_index(
     Ok(())
 }
 
-/// The same with four tables made for it.
+/// Appends an index of a kind to the first of four new tables, which then must show these contents.
 fn indexes(
     rt: &(impl Abort + Print),
     alloc: Global,

@@ -15,24 +15,24 @@ use std::test::Fail;
 /// A call that appends references of rows of the second table.
 #[derive(Clone, Copy)]
 enum Search {
-    /// Of the keys between two.
+    /// Rows with keys between two.
     Keys(i64, i64),
-    /// Of the values between two, along the tree on the values that was created first.
+    /// Rows with values between two, along the tree on the values that was created first.
     Range(i64, i64),
-    /// Of a value, by the HASH index.
+    /// Rows with a value, by the HASH index.
     Hash(i64),
-    /// Of a value, by the index on the values that was created first.
+    /// Rows with a value, by the index on the values that was created first.
     First(i64),
 }
 
 impl Case {
-    /// Three targets, and rows that refer to them.
+    /// Returns three targets, and rows that refer to them.
     fn with_rows(alloc: Global) -> Result<Case, AllocError> {
         Case::new(alloc, &[1, 2, 3], &[13, 21, 32, 41, 51])
     }
 }
 
-/// Appends what a search finds.
+/// Appends the references that a search finds.
 fn append_found(
     store: &Store,
     alloc: Global,
@@ -110,7 +110,7 @@ fn by_first(
     view.matches(alloc, 1, index, ValueRef::Int(value), found)
 }
 
-/// Appends what a search finds to a list of one reference. The rows are then to be those of these keys.
+/// Appends the references that a search finds to a list of one, and asserts that the rows have these keys.
 fn appends_to(
     rt: &(impl Abort + Print),
     alloc: Global,
@@ -129,7 +129,7 @@ fn appends_to(
     Ok(())
 }
 
-/// The same behind the reference of the row of key 41.
+/// Appends the references that a search finds to that of the row with key 41, and asserts that the rows have these keys.
 fn appends_behind(
     rt: &(impl Abort + Print),
     alloc: Global,
@@ -144,7 +144,7 @@ fn appends_behind(
     appends_to(rt, alloc, case, sought, at, &mut found, keys)
 }
 
-/// The same in a case made for it.
+/// Appends the references that a search finds in a new case, and asserts that the rows have these keys.
 fn appends(
     rt: &(impl Abort + Print),
     alloc: Global,
@@ -177,8 +177,8 @@ fn matches_growths(rt: HostRuntime) -> Result<(), Fail> {
     appends(&rt, rt.alloc(), Search::First(1), &[41, 21, 41, 51])
 }
 
-/// The rows of the second table by their values, which have a HASH index, so that references are put in order for it. None where
-/// they have none.
+/// Returns the rows of the second table by their values, which have a HASH index, so that references are sorted for it. Returns `None` if
+/// they have no such index.
 fn by_value(store: &Store, alloc: Global) -> Result<Option<TableRows<'_>>, AllocError>
     requires there { 1 < length store.now.tables }
     requires plain { ArePlain store.now }
@@ -191,7 +191,7 @@ fn by_value(store: &Store, alloc: Global) -> Result<Option<TableRows<'_>>, Alloc
     Ok(Some(rows))
 }
 
-/// Whether rows are those of these keys, in this order.
+/// Returns whether rows are those with these keys, in this order.
 fn have_keys(rows: &TableRows, keys: &[i64]) -> bool {
     let mut reader = rows.reader();
     for key in keys {
@@ -205,7 +205,7 @@ fn have_keys(rows: &TableRows, keys: &[i64]) -> bool {
     reader.next().is_none()
 }
 
-/// Orders the rows of the second table by their values.
+/// Sorts the rows of the second table by their values.
 fn orders_values(rt: &(impl Abort + Print), alloc: Global, case: &Case) -> Result<(), Fail> {
     let rows = match by_value(&case.store, alloc) {
         Ok(rows) => rows,

@@ -1,4 +1,4 @@
-//! What a table shows.
+//! The contents of a table as its readers see them.
 ghost use Rattle.std.specs.Prelude.{◌<◌, length};
 
 use crate::stores::{at_key, value_at};
@@ -7,18 +7,18 @@ use mm_value::ValueRef;
 use std::alloc::{AllocError, Global};
 use ttree::Iter;
 
-/// What a table of whole numbers is to show.
+/// The expected contents of a table of integers.
 #[derive(Clone, Copy)]
 pub struct Shows<'a> {
-    /// The keys of all rows in their order, each with the value beside it.
+    /// The keys of all rows in order, each with its value.
     pub rows: &'a [(i64, i64)],
-    /// The keys in the order of the TREE index on these values. None where there is no such index.
+    /// The keys in the order of the TREE index on the values; empty if there is no such index.
     pub along_tree: &'a [i64],
-    /// Values, and for each how many rows the HASH index on them finds. None where there is no such index.
+    /// Values, each with the number of rows that the HASH index finds; empty if there is no such index.
     pub by_hash: &'a [(i64, usize)],
 }
 
-/// Whether a table shows this.
+/// Returns whether a table shows these contents.
 pub fn table_shows(
     store: &Store,
     table: usize,
@@ -33,7 +33,7 @@ pub fn table_shows(
     has_matches(store, table, alloc, all.by_hash)
 }
 
-/// Whether the rows of a table are these, in the order of the keys, and each is found by its key.
+/// Returns whether the rows of a table are these, in the order of the keys, and each is found by its key.
 fn has_rows(
     store: &Store,
     table: usize,
@@ -58,7 +58,7 @@ fn has_rows(
     Ok(walk.next().is_none())
 }
 
-/// Whether rows of a table are those of these keys, in this order.
+/// Returns whether rows of a table are those with these keys, in this order.
 fn goes_along(store: &Store, table: usize, walk: Iter, keys: &[i64]) -> bool
     requires { table < length store.now.tables }
 {
@@ -72,7 +72,7 @@ fn goes_along(store: &Store, table: usize, walk: Iter, keys: &[i64]) -> bool
     walk.next().is_none()
 }
 
-/// Whether the rows along the TREE index are those of these keys.
+/// Returns whether the rows along the TREE index are those with these keys.
 fn has_walk(store: &Store, table: usize, keys: &[i64]) -> bool
     requires { table < length store.now.tables }
 {
@@ -83,7 +83,7 @@ fn has_walk(store: &Store, table: usize, keys: &[i64]) -> bool
     goes_along(store, table, view.walk(table, index), keys)
 }
 
-/// Whether the HASH index finds so many rows for each of these values.
+/// Returns whether the HASH index finds these numbers of rows for these values.
 fn has_matches(
     store: &Store,
     table: usize,

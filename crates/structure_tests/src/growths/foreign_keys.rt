@@ -11,16 +11,16 @@ use std::test::Fail;
 
 const ROW: RowRef = RowRef { slot: 0 };
 
-/// A row far behind the first.
+/// A row far after the first.
 const FAR: RowRef = RowRef { slot: 499 };
 
-/// Makes room for rows and their targets, again where memory is refused. Then the first row is tied as before.
+/// Reserves capacity for rows and their targets, again if an allocation fails. Then the first row is tied as before.
 fn reserve_again(rt: &(impl Abort + AllocGlobal + Print), key: &mut ForeignKey) -> Result<(), Fail>
     ensures referrers { OnOk result (500 ≤ length key.new.targets) }
     ensures extent { OnOk result (500 ≤ key.new.extent) }
     ensures targets { KeepsTargets key.old key.new }
 {
-    // For the entries of the referring rows, and for the counts of their targets.
+    // One allocation for the entries of the referring rows, and one for the counts of their targets.
     if key.reserve(rt.alloc(), 500, 500).is_err() {
         asked_again(rt)?;
         assert_same(rt, key.target(ROW), Some(ROW));
@@ -30,7 +30,7 @@ fn reserve_again(rt: &(impl Abort + AllocGlobal + Print), key: &mut ForeignKey) 
     Ok(())
 }
 
-/// Ties the first row to itself, makes room, and ties the far row to itself.
+/// Ties the first row to itself, reserves capacity, and ties the far row to itself.
 fn tie_both(rt: &(impl Abort + AllocGlobal + Print), key: &mut ForeignKey) -> Result<(), Fail> {
     if key.reserve(rt.alloc(), 1, 1).is_err() {
         return Ok(());

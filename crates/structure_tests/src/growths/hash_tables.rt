@@ -1,4 +1,4 @@
-//! Bags of references by hash.
+//! Multisets of references by hash.
 ghost use Rattle.std.specs.Prelude.{◌<◌};
 
 use crate::assertions::{assert_same, assert_that};
@@ -11,7 +11,7 @@ use std::alloc::{AllocError, Global};
 use std::process::Abort;
 use std::test::Fail;
 
-/// Puts references of the hash 4 into a bag, and one of the hash 9.
+/// Inserts references of the hash 4 into a hash table, and one of the hash 9.
 fn put_three(alloc: Global, refs: &mut HashRefs) -> Result<(), AllocError> {
     refs.reserve(alloc, 3)?;
     refs.insert(4, slot(1));
@@ -20,7 +20,7 @@ fn put_three(alloc: Global, refs: &mut HashRefs) -> Result<(), AllocError> {
     Ok(())
 }
 
-/// Finds all references of `put_three` into an empty list, and then those of the hash 4.
+/// Appends all references of `put_three` to an empty list, and then those of the hash 4.
 fn find_three(
     rt: &impl Abort,
     alloc: Global,
@@ -35,13 +35,13 @@ fn find_three(
     Ok(())
 }
 
-/// Asserts that the three references of `put_three` are in a bag, and no more.
+/// Asserts that a hash table has exactly the three references of `put_three`.
 fn assert_three(rt: &impl Abort, alloc: Global, refs: &HashRefs) -> Result<(), AllocError> {
     let mut found = Vec::new(alloc);
     find_three(rt, alloc, refs, &mut found)
 }
 
-/// Puts a reference into a bag that has room for it, and takes it out again. Then there is room for 40 beside those of `put_three`.
+/// Inserts a reference into a hash table with capacity for it, and removes it. Then there is capacity for 40 besides those of `put_three`.
 fn use_room(rt: &impl Abort, alloc: Global, refs: &mut HashRefs)
     requires { 0 < refs.old.spare }
 {
@@ -51,8 +51,8 @@ fn use_room(rt: &impl Abort, alloc: Global, refs: &mut HashRefs)
     let _ = assert_three(rt, alloc, refs);
 }
 
-/// Makes room, again where memory is refused, and uses it. The bag does without bucket heads and places of its directory where memory
-/// is refused for them.
+/// Reserves capacity, again if an allocation fails, and uses it. The hash table does without bucket heads and directory entries whose
+/// allocation fails.
 fn reserve_again(rt: &(impl Abort + AllocGlobal + Print), refs: &mut HashRefs) -> Result<(), Fail> {
     if put_three(rt.alloc(), refs).is_err() {
         return Ok(());
@@ -74,7 +74,7 @@ fn hash_reserve_growths(rt: HostRuntime) -> Result<(), Fail> {
     reserve_again(&rt, &mut refs)
 }
 
-/// Finds the references of a hash, again where memory is refused.
+/// Finds the references of a hash, again if an allocation fails.
 fn match_again(
     rt: &(impl Abort + AllocGlobal + Print),
     refs: &mut HashRefs,
@@ -100,14 +100,14 @@ fn hash_matches_growths(rt: HostRuntime) -> Result<(), Fail> {
     match_again(&rt, &mut refs, &mut found)
 }
 
-/// A full list of one reference, which has to grow for the next.
+/// Returns a full list of one reference, which must grow for the next.
 fn full_list(alloc: Global) -> Result<Vec<RowRef>, AllocError> {
     let mut list = Vec::with_capacity(alloc, 1)?;
     list.push(slot(0))?;
     Ok(list)
 }
 
-/// Copies all references behind one, again where memory is refused.
+/// Appends copies of all references to a list of one, again if an allocation fails.
 fn copy_again(
     rt: &(impl Abort + AllocGlobal + Print),
     refs: &HashRefs,
@@ -124,7 +124,7 @@ fn copy_again(
     Ok(())
 }
 
-/// Fills an empty bag, and copies its references.
+/// Fills an empty hash table, and copies its references.
 fn copy_three(rt: &(impl Abort + AllocGlobal + Print), refs: &mut HashRefs) -> Result<(), Fail> {
     if put_three(rt.alloc(), refs).is_err() {
         return Ok(());

@@ -14,7 +14,7 @@ use std::process::Abort;
 use std::test::Fail;
 use ttree::TTree;
 
-/// Puts the references 3 and 70 into an empty list.
+/// Inserts the references 3 and 70 into an empty list.
 fn put_two<R: OrderedRefs>(alloc: Global, refs: &mut R) -> Result<(), AllocError>
     requires { R.refs refs.old ≡ [] }
     ensures { IsByPlace (R.refs refs.new) }
@@ -35,7 +35,7 @@ fn assert_two<R: OrderedRefs>(rt: &impl Abort, alloc: Global, refs: &R) -> Resul
     Ok(())
 }
 
-/// Makes room for 20 more references beside those of `put_two`.
+/// Reserves capacity for 20 more references besides those of `put_two`.
 fn assert_reserves<R: OrderedRefs>(
     rt: &(impl Abort + Print),
     alloc: Global,
@@ -57,12 +57,12 @@ fn assert_reserves<R: OrderedRefs>(
     Ok(())
 }
 
-/// The references that others are copied behind.
+/// Returns the references after which others are appended.
 fn front() -> [RowRef; 4] {
     [numbered(1), numbered(0), numbered(1), numbered(0)]
 }
 
-/// Copies those references of `put_two` that lie in the partition of 70, behind those of `front`.
+/// Appends the references of `put_two` in the partition of 70 to those of `front`.
 fn copy_behind<R: OrderedRefs>(
     rt: &(impl Abort + Print),
     alloc: Global,
@@ -83,7 +83,7 @@ fn copy_behind<R: OrderedRefs>(
     Ok(())
 }
 
-/// Copies references behind others, of which there are enough that the list has to grow.
+/// Appends references to others, of which there are enough that the list must grow.
 fn assert_copies<R: OrderedRefs>(
     rt: &(impl Abort + Print),
     alloc: Global,

@@ -12,7 +12,7 @@ use std::alloc::Global;
 use std::process::Abort;
 use std::test::Fail;
 
-/// The row of a text.
+/// Returns the row of a text.
 fn row_of(alloc: Global, text: &[u8]) -> Result<Row, Refusal>
     ensures { IfOk result (HasTypes (OfText ∷ [])) }
 {
@@ -21,7 +21,7 @@ fn row_of(alloc: Global, text: &[u8]) -> Result<Row, Refusal>
     Ok(Row::new(values))
 }
 
-/// Puts the row of `a` among rows, and answers its reference.
+/// Inserts the row of `a`, and returns its reference.
 fn place_a(alloc: Global, rows: &mut Partitions) -> Result<RowRef, Refusal>
     requires { rows.old.types ≡ OfText ∷ [] }
     ensures live { IfOk result (IsLive rows.new) }
@@ -33,7 +33,7 @@ fn place_a(alloc: Global, rows: &mut Partitions) -> Result<RowRef, Refusal>
     Ok(rows.place(row.into_values().as_mut_slice()))
 }
 
-/// Whether a row is that of a text.
+/// Returns whether a row is that of a text.
 fn is_row_of(row: RowView<'_>, text: &[u8]) -> bool {
     match row.get(0) {
         Some(ValueRef::Text(found)) => row.len() == 1 && found.bytes() == text,
@@ -41,7 +41,7 @@ fn is_row_of(row: RowView<'_>, text: &[u8]) -> bool {
     }
 }
 
-/// The prefixes of the first column, if they are kept.
+/// Returns the prefixes of the first column, if they are kept.
 fn prefixes_in(rows: &Partitions) -> Option<&[u64]> {
     match rows.keys(0) {
         ColumnKeys::Prefixes(prefixes) => Some(prefixes),
@@ -58,7 +58,7 @@ fn assert_a(rt: &impl Abort, rows: &Partitions, first: RowRef)
     assert_same(rt, prefixes_in(rows), Some(&[0xb080000000000000u64]));
 }
 
-/// Makes room for 200 rows more, and for their prefixes, beside the row of `a`.
+/// Reserves capacity for 200 more rows and their prefixes, besides the row of `a`.
 fn reserve(
     rt: &(impl Abort + AllocGlobal + Print),
     rows: &mut Partitions,
@@ -77,7 +77,7 @@ fn reserve(
     Ok(())
 }
 
-/// Puts the row of `b` behind that of `a`, into room that is made for it.
+/// Inserts the row of `b` after that of `a`, after reserving capacity for it.
 fn place_b(
     rt: &(impl Abort + AllocGlobal + Print),
     rows: &mut Partitions,
@@ -100,7 +100,7 @@ fn place_b(
     Ok(())
 }
 
-/// Puts the rows of `a` and `b` among rows whose column is tracked, and makes room between the two.
+/// Inserts the rows of `a` and `b` into rows whose column is tracked, and reserves capacity in between.
 fn reserve_between(
     rt: &(impl Abort + AllocGlobal + Print),
     rows: &mut Partitions,
@@ -127,7 +127,7 @@ fn reserve_growths(rt: HostRuntime) -> Result<(), Fail> {
     }
 }
 
-/// Tracks the column of the row of `a`, again where memory is refused.
+/// Tracks the column of the row of `a`, again if an allocation fails.
 fn track_a(rt: &(impl Abort + AllocGlobal + Print), rows: &mut Partitions) -> Result<(), Fail>
     requires { rows.old.types ≡ OfText ∷ [] }
 {

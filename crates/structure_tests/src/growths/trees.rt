@@ -13,7 +13,7 @@ use std::test::Fail;
 use ttree::TTree;
 use ttree_node::Spares;
 
-/// A tree over references in order, asked for again where memory is refused.
+/// Returns a tree over references in order, again if an allocation fails.
 fn build_again(rt: &(impl Abort + AllocGlobal + Print), refs: &[RowRef]) -> Result<TTree, Fail> {
     match TTree::from_sorted(rt.alloc(), refs) {
         Ok(tree) => Ok(tree),
@@ -24,7 +24,7 @@ fn build_again(rt: &(impl Abort + AllocGlobal + Print), refs: &[RowRef]) -> Resu
     }
 }
 
-/// Asserts that a tree of 40 references is as low as it can be, and that they are these.
+/// Asserts that a tree of 40 references has the least possible height, and that its references are these.
 fn assert_built(rt: &impl Abort, tree: &TTree, refs: &[RowRef]) {
     assert_same(rt, (tree.len(), tree.height(), tree.spare()), (40, 2, 0));
     assert_goes_over(rt, tree, refs);
@@ -40,7 +40,7 @@ fn from_sorted_growths(rt: HostRuntime) -> Result<(), Fail> {
     Ok(())
 }
 
-/// Copies all references of a tree into an empty list, again where memory is refused. They are these.
+/// Appends copies of all references of a tree to an empty list, again if an allocation fails, and asserts that they are these.
 fn copy_again(
     rt: &(impl Abort + AllocGlobal + Print),
     tree: &TTree,
@@ -69,7 +69,7 @@ fn copy_nodes(rt: &(impl Abort + AllocGlobal + Print), refs: &[RowRef]) -> Resul
     copy_again(rt, &tree, refs, &mut out)
 }
 
-// The range runs over three nodes, whose entries are appended one node after the other.
+// The range covers three nodes, whose entries are appended node by node.
 #[test]
 fn nodes_copy_growths(rt: HostRuntime) -> Result<(), Fail> {
     let Ok(refs) = ascending(rt.alloc(), 40) else {
@@ -78,7 +78,7 @@ fn nodes_copy_growths(rt: HostRuntime) -> Result<(), Fail> {
     copy_nodes(&rt, &refs)
 }
 
-// A refused pool keeps the nodes that it got.
+// After a failed reservation the pool keeps the nodes that it has.
 #[test]
 fn spares_growths(rt: HostRuntime) -> Result<(), Fail> {
     let alloc = rt.alloc();

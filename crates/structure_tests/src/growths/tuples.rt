@@ -7,7 +7,7 @@ use std::alloc::{AllocError, Global};
 use std::process::Abort;
 use std::test::Fail;
 
-/// A tuple of as many values as take no block: three whole numbers and a text, which has more than the 16 bytes that take no memory.
+/// Returns a tuple of as many values as are stored inline: three integers and a text that exceeds the 16 bytes that a text stores inline.
 fn four(alloc: Global) -> Result<Tuple, Refusal> {
     let mut tuple = Tuple::with_capacity(alloc, 4)?;
     tuple.push(Value::Int(7))?;
@@ -17,19 +17,19 @@ fn four(alloc: Global) -> Result<Tuple, Refusal> {
     Ok(tuple)
 }
 
-/// The same with one value more.
+/// Returns a tuple with one value more than `four`.
 fn five(alloc: Global) -> Result<Tuple, Refusal> {
     let mut tuple = four(alloc)?;
     tuple.push(Value::Int(5))?;
     Ok(tuple)
 }
 
-/// Whether two lists have the same values.
+/// Returns whether two lists have the same values.
 fn are_same(a: &[Value], b: &[Value]) -> bool {
     a.len() == b.len() && a.iter().zip(b).all(|(a, b)| is_equal(a, b))
 }
 
-/// Puts a fifth value into a tuple of four, again where memory is refused. Then the tuple is the same as another still.
+/// Appends a fifth value to a tuple of four, again if an allocation fails; then the tuple still equals another one.
 fn push_again(
     rt: &(impl Abort + Print),
     tuple: &mut Tuple,
@@ -54,7 +54,7 @@ fn tuple_push_growths(rt: HostRuntime) -> Result<(), Fail> {
     }
 }
 
-/// A tuple of copies of values, asked for again where memory is refused. Then the values are the same as others still.
+/// Returns a tuple of copies of values, again if an allocation fails; then the values still equal others.
 fn copy_again(
     rt: &(impl Abort + AllocGlobal + Print),
     values: &[Value],
@@ -70,7 +70,7 @@ fn copy_again(
     }
 }
 
-/// Asserts that a tuple of copies of values has others that are the same.
+/// Asserts that a tuple of copies of values equals others.
 fn assert_copied(
     rt: &(impl Abort + AllocGlobal + Print),
     values: &[Value],
@@ -89,7 +89,7 @@ fn tuple_copy_growths(rt: HostRuntime) -> Result<(), Fail> {
     }
 }
 
-/// Puts a number into a list, again where memory is refused. Then the list has the numbers that it had.
+/// Appends a number to a list, again if an allocation fails; then the list still has its numbers.
 fn add_again(
     rt: &(impl Abort + AllocGlobal + Print),
     few: &mut Few<u32>,

@@ -1,4 +1,4 @@
-//! Values and rows. Their texts have more than the 16 bytes that take no memory.
+//! Values and rows. Their texts exceed the 16 bytes that are stored inline.
 use crate::assertions::{assert_same, assert_that};
 use crate::growths::asked_again;
 use crate::samples::{is_equal, text};
@@ -7,14 +7,14 @@ use std::alloc::{AllocError, Global};
 use std::process::Abort;
 use std::test::Fail;
 
-/// Tells that a call was refused, for which there must have been no memory.
+/// Writes that a call failed, and asserts that it failed with `Memory`.
 fn assert_no_memory(rt: &(impl Abort + Print), refusal: Refusal) -> Result<(), Fail> {
     asked_again(rt)?;
     assert_same(rt, refusal, Refusal::Memory);
     Ok(())
 }
 
-/// The text of these bytes, asked for again where memory is refused.
+/// Returns the text of these bytes, again if an allocation fails.
 fn text_again(rt: &(impl Abort + AllocGlobal + Print), bytes: &[u8]) -> Result<Text, Fail> {
     match Text::new(rt.alloc(), bytes) {
         Ok(made) => Ok(made),
@@ -32,7 +32,7 @@ fn text_growths(rt: HostRuntime) -> Result<(), Fail> {
     Ok(())
 }
 
-/// A copy of a text, asked for again where memory is refused.
+/// Returns a copy of a text, again if an allocation fails.
 fn copy_again(rt: &(impl Abort + AllocGlobal + Print), text: &Text) -> Result<Text, Fail> {
     match text.copy(rt.alloc()) {
         Ok(copy) => Ok(copy),
@@ -59,7 +59,7 @@ fn text_copy_growths(rt: HostRuntime) -> Result<(), Fail> {
     }
 }
 
-/// A copy of a value, asked for again where memory is refused.
+/// Returns a copy of a value, again if an allocation fails.
 fn copy_value_again(rt: &(impl Abort + AllocGlobal + Print), value: &Value) -> Result<Value, Fail> {
     match value.copy(rt.alloc()) {
         Ok(copy) => Ok(copy),
@@ -85,7 +85,7 @@ fn value_copy_growths(rt: HostRuntime) -> Result<(), Fail> {
     }
 }
 
-/// A row of 7 and two long texts.
+/// Returns a row of 7 and two long texts.
 fn row(alloc: Global) -> Result<Row, Refusal> {
     let mut values = Vec::with_capacity(alloc, 3)?;
     values.push(Value::Int(7))?;
@@ -94,7 +94,7 @@ fn row(alloc: Global) -> Result<Row, Refusal> {
     Ok(Row::new(values))
 }
 
-/// Whether two rows have the same values.
+/// Returns whether two rows have the same values.
 fn is_same(a: &Row, b: &Row) -> bool {
     a.len() == b.len()
         && a.values()
@@ -103,7 +103,7 @@ fn is_same(a: &Row, b: &Row) -> bool {
             .all(|(a, b)| is_equal(a, b))
 }
 
-/// A copy of a row, asked for again where memory is refused. Then the row is the same as another still.
+/// Returns a copy of a row, again if an allocation fails; then the row still equals another one.
 fn copy_row_again(
     rt: &(impl Abort + AllocGlobal + Print),
     row: &Row,
@@ -119,7 +119,7 @@ fn copy_row_again(
     }
 }
 
-/// Asserts that a copy of a row is the same as another that is the same as the row.
+/// Asserts that a copy of a row equals another row that equals the row.
 fn assert_row_copied(
     rt: &(impl Abort + AllocGlobal + Print),
     first: &Row,
@@ -138,7 +138,7 @@ fn row_copy_growths(rt: HostRuntime) -> Result<(), Fail> {
     }
 }
 
-/// What a literal is read as, again where memory is refused.
+/// Returns the reading of a literal, again if an allocation fails.
 fn read_again(rt: &(impl Abort + AllocGlobal + Print), bytes: &[u8]) -> Result<Value, Fail> {
     match read_literal(rt.alloc(), bytes) {
         Ok(read) => Ok(read),
@@ -149,7 +149,7 @@ fn read_again(rt: &(impl Abort + AllocGlobal + Print), bytes: &[u8]) -> Result<V
     }
 }
 
-/// Asserts that a literal is read as a value.
+/// Asserts the reading of a literal.
 fn assert_read(
     rt: &(impl Abort + AllocGlobal + Print),
     bytes: &[u8],

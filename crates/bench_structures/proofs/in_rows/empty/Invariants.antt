@@ -3,7 +3,7 @@ use Rattle.mm_partition.specs.Places.{IsLive}
 use Rattle.bench_structures.specs.Apart.{AreApart}
 use Rattle.bench_structures.proofs.in_rows.empty.Given as goal
 
--- each row that is left lives, at a place of its own
+-- each remaining row is in use, at a place of its own
 abbrev pub invariant-loop-at : goal.invariant-loop-at
 invariant-loop-at l = record {
   live : All (IsLive l.rows) l.refs.items;

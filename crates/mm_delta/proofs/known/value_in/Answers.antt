@@ -1,4 +1,4 @@
--- Past its end a row reads as 0.
+-- A column that a row does not have reads as 0.
 use Rattle.std.proofs.Common.{pos, ap, ◌∙◌}
 use Rattle.std.specs.Option.{unwrap_or}
 use Rattle.std.proofs.lemmas.Option.{unwrap_or-slice_get}

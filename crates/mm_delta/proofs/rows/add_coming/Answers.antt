@@ -1,4 +1,4 @@
--- The row that one edit more brings is asked.
+-- The new row of one more edit is tested.
 use Rattle.std.proofs.Common.{◌++◌, [], map, ap, ◌∙◌}
 use Rattle.std.specs.List.{cons_option, filter_map}
 use Rattle.std.proofs.lemmas.List.{take_all}

@@ -6,7 +6,7 @@ use Rattle.mm_value.specs.declared.row_ref.RowRef.{RowRef}
 use Rattle.mm_delta.specs.Steps.{stays}
 use Rattle.mm_delta.proofs.rows.leave_standing.Goals as goal
 
--- Where there is no edit all references stay.
+-- Without an edit all references stay.
 all_stay : (refs : List RowRef) → refs ≡ filter (stays []) refs
 all_stay [] = refl
 all_stay (at ∷ refs) = ap (λ l. at ∷ l) (all_stay refs)

@@ -1,4 +1,4 @@
--- The row of one reference more is read.
+-- The row of one more reference is read.
 use Rattle.std.proofs.Common.{◌≡◌, ◌++◌, ◌∷◌, [], List, get_or, map, take, sym, ap, ◌∙◌, subst, arith}
 use Rattle.std.proofs.lemmas.List.{map-append, take_more}
 use Rattle.mm_partition.specs.Places.{slot_at, row_in}

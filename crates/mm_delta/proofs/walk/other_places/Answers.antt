@@ -13,7 +13,7 @@ append_none : (xs : List ℕ) → xs ++ [] ≡ xs
 append_none [] = refl
 append_none (x ∷ xs) = ap (λ l. x ∷ l) (append_none xs)
 
--- one place more
+-- one more place
 others_more : (n k : ℕ) → other_places_lem (n + 1) k ≡ other_places_lem n k ++ cond (not (n == k)) (n ∷ []) []
 others_more n k =
     let test : ℕ → Bool = λ j. not (j == k) in

@@ -9,7 +9,7 @@ use Rattle.mm_dump.specs.Dumps.{after_lines}
 use Rattle.mm_dump.specs.Entries.{Entry, FitsLine, IsPrintable, entry_command, entry_text}
 use Rattle.mm_dump.proofs.laws.dumped_lines_restore.Goals as goal
 
--- Lines that read as commands do what these do.
+-- Lines that read as commands have the effects of these commands.
 lines_done : ((entry : Entry) → IsPrintable entry → FitsLine entry → reading (entry_text entry) ≡ Ok (entry_command entry))
     → (entries : List Entry) → AllByRecursion IsPrintable entries → AllByRecursion FitsLine entries → (state : State)
     → after_lines (map entry_text entries) state ≡ after_all (map entry_command entries) state

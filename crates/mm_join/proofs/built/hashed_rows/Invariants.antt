@@ -6,7 +6,7 @@ use Rattle.mm_store.specs.Tables.{IsAt}
 use Rattle.mm_join.specs.AccessMethods.{hashed_row}
 use Rattle.mm_join.proofs.built.hashed_rows.Given as goal
 
--- the pairs of the rows so far are held, and for those of the others there is room
+-- the pairs of the rows so far are stored, and there is capacity for those of the others
 abbrev pub invariant-loop-at : goal.invariant-loop-at
 invariant-loop-at l = record {
   split : l.initial.at-iterator ≡ l.yielded ++ l.at-iterator;

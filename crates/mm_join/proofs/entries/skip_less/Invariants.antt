@@ -1,7 +1,7 @@
 use Rattle.std.proofs.Common.{◌-◌, ◌<◌, ◌≤◌, All, drop, length, take}
 use Rattle.mm_join.proofs.entries.skip_less.Given as goal
 
--- all entries before `low` are less, and none from `high` on is
+-- all entries before `low` are less, and none from `high` on
 abbrev pub invariant-loop-low : goal.invariant-loop-low
 invariant-loop-low l = record {
   from_start : l.start ≤ l.low;

@@ -4,7 +4,7 @@ use Rattle.mm_query.specs.Queries.{rows_read}
 use Rattle.mm_templist.specs.Combos.{AreLive, rows_of_combo}
 use Rattle.mm_join.proofs.inner.choose.Given as goal
 
--- the rows so far and those of the references that are left are the rows of the combination
+-- the rows so far, followed by those of the remaining references, are the rows of the combination
 abbrev pub invariant-loop-place : goal.invariant-loop-place
 invariant-loop-place l = record {
   same : l.view.store ≡ l.fn.view.store;

@@ -1,4 +1,4 @@
--- The two readings of the grammar are one.
+-- The two definitions of the grammar agree.
 use Rattle.mm_lang.proofs.SpelledCommands.{command_read, command_spelled, command_one}
 use Rattle.mm_lang.proofs.grammar.grammar_is_exact.Goals as goal
 

@@ -1,4 +1,4 @@
--- What is said of a command's literals is what its tokens say.
+-- A command's literals are those among its tokens.
 use Rattle.mm_lang.proofs.LiteralOrder.{read_literals, first_past}
 use Rattle.mm_lang.proofs.grammar.literals_are_in_written_order.Goals as goal
 

@@ -1,4 +1,4 @@
--- A row without an entry gets one at the end.
+-- A row without an entry gets one, after the others.
 use Rattle.std.proofs.Common.{◌≡◌, pos, ◌+ℤ◌, false, true≢false, Option, Some, None, is_some, refl, ap, sym, subst, ◌∙◌}
 use Rattle.std.proofs.lemmas.Int.{to_z-of_z}
 use Rattle.std.specs.HashMap.{Updates}

@@ -16,7 +16,7 @@ loop-row-init c =
     (sym (c.into_iter-row-iterator.ensures.into_iter_gives ∙ c.into_entries-row-items.ensures.entries))
     (passes_half comes goes c.args.found.now.items c.requires.counts c.into_entries-row-items.ensures.once c.requires.net)
 
--- nothing is brought by no rows, whether there is an entry or not
+-- a count of 0 results in no change, whether there is an entry or not
 none_brought : (b : Bool) → cond b (pos 0) (neg_ℤ (pos 0)) ≡ pos 0
 none_brought true = refl
 none_brought false = refl

@@ -5,7 +5,7 @@ use Rattle.mm_multiset.specs.Tally.{AreOnce, IsSmall}
 use Rattle.mm_multiset.specs.declared.signed.Signed.{Signed}
 use Rattle.mm_multiset.proofs.few.merged.Given as goal
 
--- what is found and what is left are in sum what both lists are
+-- the changes so far and the remaining ones have the same sum as both lists
 abbrev pub invariant-loop-change : goal.invariant-loop-change
 invariant-loop-change l = record {
   goes : (goal.iterator-loop-change).can_next l.change-iterator;

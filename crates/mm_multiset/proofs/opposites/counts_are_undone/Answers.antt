@@ -1,4 +1,4 @@
--- What is undone is as before.
+-- After the undo, each count is as before.
 use Rattle.mm_multiset.proofs.Undoing.{undone, found_all, kept_all}
 use Rattle.mm_multiset.proofs.opposites.counts_are_undone.Goals as goal
 

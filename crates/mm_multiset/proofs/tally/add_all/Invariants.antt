@@ -4,7 +4,7 @@ use Rattle.mm_multiset.specs.Counts.{count_in, signed_count}
 use Rattle.mm_multiset.specs.Tally.{AreListed}
 use Rattle.mm_multiset.proofs.tally.add_all.Given as goal
 
--- the counts and what is left are in sum the counts before and all that is added
+-- the counts and the remaining changes have the same sum as the counts before and all added changes
 abbrev pub invariant-loop-change : goal.invariant-loop-change
 invariant-loop-change l = record {
   goes : (goal.iterator-loop-change).can_next l.change-iterator;

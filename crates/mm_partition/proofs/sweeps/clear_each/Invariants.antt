@@ -5,7 +5,7 @@ use Rattle.mm_partition.specs.declared.columns.Column.{Column}
 use Rattle.mm_partition.proofs.CellLemmas.{Done, Rest}
 use Rattle.mm_partition.proofs.sweeps.clear_each.Given as goal
 
--- the texts of the slot are gone in the columns so far, and the other slots have what they had
+-- the columns so far have no text in the slot, and the other slots are unchanged
 abbrev pub invariant-loop-i : goal.invariant-loop-i
 invariant-loop-i l = record {
   types : types_of l.columns.items ≡ types_of l.initial.columns.items;

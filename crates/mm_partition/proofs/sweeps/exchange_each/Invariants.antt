@@ -4,7 +4,7 @@ use Rattle.mm_partition.specs.Cells.{types_of, row_of, Fits}
 use Rattle.mm_partition.proofs.CellLemmas.{seam, Rest}
 use Rattle.mm_partition.proofs.sweeps.exchange_each.Given as goal
 
--- in the columns so far the two slots have each other's cells
+-- the columns so far have the cells of the two slots exchanged
 abbrev pub invariant-loop-i : goal.invariant-loop-i
 invariant-loop-i l = record {
   types : types_of l.columns.items ≡ types_of l.initial.columns.items;

@@ -4,7 +4,7 @@ use Rattle.mm_partition.specs.Cells.{types_of, row_of, Fits}
 use Rattle.mm_partition.proofs.CellLemmas.{seam, Done, Rest}
 use Rattle.mm_partition.proofs.sweeps.push_each.Given as goal
 
--- the columns so far have the new slot too
+-- the columns so far have the new slot
 abbrev pub invariant-loop-i : goal.invariant-loop-i
 invariant-loop-i l = record {
   types : types_of l.columns.items ≡ types_of l.initial.columns.items;

@@ -4,7 +4,7 @@ use Rattle.mm_partition.specs.Cells.{types_of, row_of, Fits}
 use Rattle.mm_partition.proofs.CellLemmas.{Done}
 use Rattle.mm_partition.proofs.sweeps.reserve_each.Given as goal
 
--- the columns so far have the room
+-- the columns so far have the capacity
 abbrev pub invariant-loop-i : goal.invariant-loop-i
 invariant-loop-i l = record {
   types : types_of l.columns.items ≡ types_of l.initial.columns.items;

@@ -4,7 +4,7 @@ use Rattle.mm_partition.specs.Cells.{types_of, row_of, Fits}
 use Rattle.mm_partition.proofs.CellLemmas.{seam, Rest}
 use Rattle.mm_partition.proofs.sweeps.swap_each.Given as goal
 
--- the columns so far have the new values, and the list has the old ones
+-- the columns so far have the new values, and the list has their old ones
 abbrev pub invariant-loop-i : goal.invariant-loop-i
 invariant-loop-i l = record {
   types : types_of l.columns.items ≡ types_of l.initial.columns.items;

@@ -3,7 +3,7 @@ use Rattle.mm_partition.specs.Cells.{types_of, row_of, Fits}
 use Rattle.mm_partition.proofs.CellLemmas.{Done, Rest}
 use Rattle.mm_partition.proofs.sweeps.truncate_each.Given as goal
 
--- the columns so far are cut
+-- the columns so far are truncated
 abbrev pub invariant-loop-i : goal.invariant-loop-i
 invariant-loop-i l = record {
   types : types_of l.columns.items ≡ types_of l.initial.columns.items;

@@ -4,7 +4,7 @@ use Rattle.std.specs.List.Sorted.{IsNonDecreasing}
 use Rattle.mm_partition.specs.Stored.{IsFreeStack, IsCut}
 use Rattle.mm_partition.proofs.trimming.drop_highest.Given as goal
 
--- what is left is stacked in order
+-- the remaining free slots are on the stack, in order
 abbrev pub invariant-loop-states : goal.invariant-loop-states
 invariant-loop-states l = record {
   stack : IsFreeStack l.states.items l.free.items;

@@ -23,7 +23,7 @@ taken_first : (tables : List ℕ) (table : ℕ) → slice_get tables 0 ≡ Some 
 taken_first [] table at = cc
 taken_first (t ∷ tables) table at = ap (λ x. x ∷ []) (same_Some t table at)
 
--- The way that is taken is that of the steps.
+-- The access path of the call is that of the steps.
 taken : (c : After-select-arg-1) → Takes c.args.view.now.store c.args.query.now.atoms c.args.tables.now c.args.steps.now c.if-steps-lt2.access
 taken c =
     let store = c.args.view.now.store in

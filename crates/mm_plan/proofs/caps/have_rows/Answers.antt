@@ -7,7 +7,7 @@ use Rattle.mm_plan.proofs.Growing.{has_row}
 use Rattle.mm_store.specs.Tables.{rows_at}
 use Rattle.mm_plan.proofs.caps.have_rows.Goals as goal
 
--- What holds of the first of some numbers holds of one more where it holds of the next.
+-- A property of the first numbers and of the next one holds for one more number.
 one_more : (P : ℕ → Type 0) (items : List ℕ) (i : ℕ) → ((k d : ℕ) → k < i → P (get_or items k d)) → (item : ℕ) → i < length items
     → item ≡ get_or items i item → P item → (k d : ℕ) → k < i + 1 → P (get_or items k d)
 one_more P items i before item within is holds k d below =

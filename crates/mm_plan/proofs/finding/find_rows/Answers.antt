@@ -26,7 +26,7 @@ select_refs-requires-clause-served c = λ stored here.
     (subst (Reaches stored c.args.atoms.now) (sym c.first_step-step.ensures)
     (first_reaches c.args.view.now.store c.args.atoms.now c.args.table stored here))
 
--- As many rows lie along the way as the step may look at.
+-- As many rows are along the access path as the step may read.
 along : (c : After-select_refs) → count_by (is_along c.access_by-access.result) (rows_at c.args.view.now.store.tables c.args.table)
     ≡ count_by (may_look c.args.atoms.now 0 (first_step c.args.view.now.store c.args.atoms.now c.args.table) [])
     (rows_at c.args.view.now.store.tables c.args.table)

@@ -1,4 +1,4 @@
--- The closure compares by the keys, by a total order.
+-- The closure compares the keys, by a total order.
 use Rattle.std.proofs.Common.{rules}
 use Rattle.std.specs.Ordering.{is_lt}
 use Rattle.std.proofs.lemmas.Fn.{always_returns_same}

@@ -6,7 +6,7 @@ use Rattle.mm_indexed.specs.Kept.{StoredRows}
 use Rattle.mm_store.specs.Tables.{IsAt}
 use Rattle.mm_plan.proofs.finding.with_keys.Given as goal
 
--- the rows of the references so far were looked at, with their keys
+-- the rows of the references so far were read, with their keys
 abbrev pub invariant-loop-at : goal.invariant-loop-at
 invariant-loop-at l = record {
   same : l.view.store ≡ l.fn.view.store;

@@ -9,7 +9,7 @@ use Rattle.mm_plan.specs.declared.step.Step.TheVariants as step
 use Rattle.mm_store.specs.Tables.{rows_at}
 use Rattle.mm_templist.specs.Combos.{combo_rows}
 
--- What holds for both of two steps holds for one of them.
+-- A property of both steps holds for either one.
 by_either : (P : Step → Type 0) (own first second : Step) → (own ≡ first) ⊎ (own ≡ second) → P first → P second → P own
 by_either P own first second (inl is) one two = subst P (sym is) one
 by_either P own first second (inr is) one two = subst P (sym is) two

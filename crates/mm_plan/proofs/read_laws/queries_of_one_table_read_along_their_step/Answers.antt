@@ -17,7 +17,7 @@ returns-clause-scan c = λ column value rows. omega (arith, scan_counted rows)
 pub returns-clause-look_up : goal.returns-clause-look_up
 returns-clause-look_up c = λ index column value rows. omega arith
 
--- The end that an atom sets, where it is one of the column.
+-- The bound that an atom sets, if it is an atom of the column.
 abbrev set_end : Bool → Bool → Value → Option Value
 set_end own sets value = cond (own && sets) (Some value) None
 

@@ -4,7 +4,7 @@ use Rattle.mm_plan.specs.Steps.{plan_reads, steps_reads}
 use Rattle.mm_store.specs.Tables.{rows_at}
 use Rattle.mm_plan.proofs.run.run_plan.Given as goal
 
--- the list has the fitting combinations of the first tables; what was read and what the steps behind may read is not more than all may
+-- the list has the fitting combinations of the first tables; the reads so far and those of the remaining steps are within the bound
 abbrev pub invariant-loop-place : goal.invariant-loop-place
 invariant-loop-place l = record {
   same : l.view.store ≡ l.fn.view.store;

@@ -23,7 +23,7 @@ join_next-requires-clause-joins c = λ table at.
     (subst (λ n. slice_get steps n ≡ Some own) (sym c.requires.at)
     (slice_get-get_or steps c.args.place step.Scan (omega (arith, c.requires.left, c.requires.steps.each))))
 
--- The first table reads what its step may look at.
+-- The first table's step reads at most the rows that it may read.
 first_read : (c : After-begin) (table : ℕ) (own : Step) → slice_get c.args.tables.now c.args.place ≡ Some table
     → slice_get c.args.steps.now c.args.place ≡ Some own
     → c.begin.new.view.reads ≤ c.args.view.now.reads + step_reads c.args.query.now.atoms c.args.place own (rows_at c.args.view.now.store.tables table)

@@ -1,4 +1,4 @@
--- What is amiss with the columns of the table at the place of the name decides.
+-- The errors in the columns of the table at the name's position decide.
 use Rattle.std.proofs.Common.{Some, None, [], inl, refl, sym, ◌∙◌}
 use Rattle.mm_query.proofs.PlacedColumns.{bound_delete, due_by_columns, due_of_delete, none_missing, refused_nowhere}
 use Rattle.mm_query.proofs.bind.bind_delete.Goals as goal

@@ -1,4 +1,4 @@
--- The tuples were tested against the columns of the table at the place of the name.
+-- The tuples were checked against the columns of the table at the name's position.
 use Rattle.std.proofs.Common.{◌≡◌, true, false, sym, subst, ◌∙◌}
 use Rattle.std.specs.List.{list_any}
 use Rattle.mm_query.specs.Binding.{has_other_length}

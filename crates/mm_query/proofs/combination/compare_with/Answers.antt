@@ -1,4 +1,4 @@
--- The row is there, and its value is shifted.
+-- The row exists, and a number is added to its value.
 use Rattle.std.proofs.Common.{rules, ◌≡◌, FitsSigned, Some, of_z, to_z, sym, ap, ◌∙◌}
 use Rattle.std.proofs.lemmas.Int.{to_z-of_z}
 use Rattle.std.specs.Int.{w64}

@@ -3,7 +3,7 @@ use Rattle.std.specs.List.{list_any}
 use Rattle.mm_query.specs.Atoms.{is_past_range, updated_from, updated_row}
 use Rattle.mm_query.proofs.update.updated_row.Given as goal
 
--- what was computed so far, and then the rest of the new row; none of the former is past the range
+-- the values so far and the rest are the new row; none of the values so far is past the range
 abbrev pub invariant-loop-column : goal.invariant-loop-column
 invariant-loop-column g l = record {
   rest : l.values.items ++ updated_from l.assignments (g.R.AsRow.row l.row) l.column (drop l.column (g.R.AsRow.row l.row))

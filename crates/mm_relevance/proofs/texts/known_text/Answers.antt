@@ -1,4 +1,4 @@
--- Past its end a row reads as 0, which is no text.
+-- Past its end a row counts as 0, which is not a text.
 use Rattle.std.proofs.Common.{◌≡◌, ◌==◌, Bool, true, Some, None, cond, pos, sym, ap, ◌∙◌, arith}
 use Rattle.std.specs.Option.{unwrap_or}
 use Rattle.std.proofs.lemmas.Bool.Decides.{nat_tests}

@@ -1,6 +1,5 @@
-use Rattle.std.proofs.Common.{Ok, Some, refl, sym, ap, subst, ◌∙◌}
+use Rattle.std.proofs.Common.{refl, sym, subst}
 use Rattle.mm_query.specs.Machine.{refused_outcome}
-use Rattle.mm_query.specs.declared.command.Command.{Command}
 use Rattle.mm_lang.specs.Answering.{MayLeadTo}
 use Rattle.mm_reply.proofs.Delivered.{delivers_keep}
 use Rattle.mm_reply.specs.Sinks.{Delivers, defines}
@@ -8,16 +7,14 @@ use Rattle.mm_reply.proofs.responding.respond.Goals as goal
 
 pub returns-in-Ok-clause-delivers : goal.returns-in-Ok-clause-delivers
 returns-in-Ok-clause-delivers g c =
-    subst (λ read. Delivers g.S.ReplySink.takes c.args.sink.now c.answer_request.new.sink c.answer_request.result c.answer_request.new.database
-    (MayLeadTo read c.args.database.now))
-    (ap (λ (command : Command). Ok command) c.of.ensures ∙ sym c.in-Ok.is) c.answer_request.ensures
+    subst (λ read. Delivers g.S.ReplySink.takes c.args.sink.now c.execute.new.sink c.execute.result c.execute.new.database
+    (MayLeadTo read c.args.database.now)) (sym c.in-Ok.is) c.execute.ensures
 
 pub returns-in-Ok-clause-schema : goal.returns-in-Ok-clause-schema
 returns-in-Ok-clause-schema g c other =
-    let is = ap (λ (command : Command). Ok command) c.of.ensures ∙ sym c.in-Ok.is in
     delivers_keep c.args.database.now c.args.read other
-    (subst (λ read. Delivers g.S.ReplySink.takes c.args.sink.now c.answer_request.new.sink c.answer_request.result c.answer_request.new.database
-    (MayLeadTo read c.args.database.now)) is c.answer_request.ensures)
+    (subst (λ read. Delivers g.S.ReplySink.takes c.args.sink.now c.execute.new.sink c.execute.result c.execute.new.database
+    (MayLeadTo read c.args.database.now)) (sym c.in-Ok.is) c.execute.ensures)
 
 pub returns-in-Err-clause-delivers : goal.returns-in-Err-clause-delivers
 returns-in-Err-clause-delivers g c =

@@ -16,7 +16,7 @@ use Rattle.mm_select.proofs.Covered.{IsCandidate, all_match, candidates, kept_ma
 use Rattle.mm_select.proofs.selecting.keep_fitting.Goals.{After-deref, then-admits, else-admits}
 use Rattle.mm_select.proofs.selecting.keep_fitting.Goals as goal
 
--- What is found along an access, all of it live, are candidates.
+-- Live references found along an access path are candidates.
 all_candidates : (store : Tables) (table : ℕ) (access : Access) (found : List RowRef) → table < length store.tables
     → ((stored : StoredRows) → IsAt store table stored → AreAlong stored access found)
     → ((stored : StoredRows) → IsAt store table stored → All (IsLive stored.places) found) → All (IsCandidate store table access) found
@@ -24,7 +24,7 @@ all_candidates store table access found there along live =
     let (stored, here) = some_at store.tables table there in
     candidates store table stored here access found (along stored here) (live stored here)
 
--- A list whose elements are written over by those of the list with one set is that list.
+-- Overwriting the elements of a list by those of the list with one element set gives the latter list.
 refill_set : (refs : List RowRef) (i : ℕ) (at : RowRef) → refill (length refs) refs (slice_set refs i at) ≡ slice_set refs i at
 refill_set refs i at = take_at (slice_set refs i at) (drop (length (slice_set refs i at)) refs) (length refs) (length-set refs i at)
 

@@ -5,7 +5,7 @@ use Rattle.mm_select.proofs.Covered.{IsCandidate}
 use Rattle.mm_templist.specs.Combos.{row_of}
 use Rattle.mm_select.proofs.selecting.keep_fitting.Given as goal
 
--- of the candidates so far, those of the rows that fit were kept, and each was read at most once
+-- the candidates so far whose rows fit were kept, and each was read at most once
 abbrev pub invariant-loop-i : goal.invariant-loop-i
 invariant-loop-i l = record {
   same : l.view.store ≡ l.fn.view.store;

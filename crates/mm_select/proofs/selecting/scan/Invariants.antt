@@ -5,7 +5,7 @@ use Rattle.mm_select.specs.Matches.{matching}
 use Rattle.mm_select.specs.declared.access.Access.TheVariants as access
 use Rattle.mm_select.proofs.selecting.scan.Given as goal
 
--- of the references so far, those of the rows that fit were found, and each was read at most once
+-- the references so far whose rows fit were found, and each was read at most once
 abbrev pub invariant-loop-at : goal.invariant-loop-at
 invariant-loop-at l = record {
   same : l.view.store ≡ l.fn.view.store;

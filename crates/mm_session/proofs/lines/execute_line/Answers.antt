@@ -1,4 +1,4 @@
-use Rattle.std.proofs.Common.{Ok, map, sym, ap, subst, ◌∙◌}
+use Rattle.std.proofs.Common.{map, sym, ap, subst, ◌∙◌}
 use Rattle.std.specs.List.{All}
 use Rattle.mm_schema.specs.Schema.{Schema}
 use Rattle.mm_reply.proofs.Delivered.{delivers_as, leads_to_answer}
@@ -8,29 +8,15 @@ use Rattle.mm_session.specs.steps.Places.{line_in}
 use Rattle.mm_session.specs.steps.Templates.{AreReady}
 use Rattle.mm_session.proofs.lines.execute_line.Goals as goal
 
-pub bound-requires : goal.bound-requires
-bound-requires g c = (c.args.database.now.schema, c.args.line.now, c.in-Some.ensures.found)
-
-pub run_bound-requires-clause-bound : goal.run_bound-requires-clause-bound
-run_bound-requires-clause-bound g c =
-    let at = c.in-Some.ensures.found in
-    (at.command, c.bound.ensures c.args.database.now.schema c.args.line.now at)
+pub run-requires-clause-found : goal.run-requires-clause-found
+run-requires-clause-found g c = (c.args.line.now, c.in-Some.ensures.found)
 
 pub returns-in-Some-clause-delivers : goal.returns-in-Some-clause-delivers
-returns-in-Some-clause-delivers g c =
-    let before = c.args.database.now in
-    let line = c.args.line.now in
-    let at = c.in-Some.ensures.found in
-    delivers_as (leads_to_answer line before (Ok at.command) at.read)
-    (c.run_bound.ensures.delivers at.command (c.bound.ensures before.schema line at))
+returns-in-Some-clause-delivers g c = c.run.ensures.delivers c.args.line.now c.in-Some.ensures.found
 
 pub returns-in-Some-clause-statements : goal.returns-in-Some-clause-statements
 returns-in-Some-clause-statements g c =
-    subst (λ (schema : Schema). All (IsReady schema) c.args.statements.now.items) (sym c.run_bound.ensures.schema) c.requires.statements
-
-pub returns-in-Some-clause-templates : goal.returns-in-Some-clause-templates
-returns-in-Some-clause-templates g c =
-    subst (λ (schema : Schema). AreReady schema c.find.new.self) (sym c.run_bound.ensures.schema) c.in-Some.ensures.ready
+    subst (λ (schema : Schema). All (IsReady schema) c.args.statements.now.items) (sym c.run.ensures.schema) c.requires.statements
 
 pub returns-then-is_definition-clause-delivers : goal.returns-then-is_definition-clause-delivers
 returns-then-is_definition-clause-delivers g c =

@@ -1,69 +1,82 @@
--- One change more is made, and is in the log.
-use Rattle.std.proofs.Common.{◌≡◌, ◌++◌, ◌∷◌, [], List, inr, subst, sym, ap, ◌∙◌, arith}
-use Rattle.mm_standing.specs.Bags.{IsRecorded, IsSound, Made, undos}
-use Rattle.mm_standing.specs.declared.change.UndoRecord.{UndoRecord}
-use Rattle.mm_standing.specs.declared.change.Prepared.{Prepared}
-use Rattle.mm_standing.proofs.Steps.{made_more, made_none, next_room, next_there, next_typed, next_within, sound_made, undo_is}
-use Rattle.mm_standing.proofs.Recorded.{joined, recorded_made}
+-- One more change is applied and logged.
+use Rattle.std.proofs.Common.{◌≡◌, ℕ, ℤ, pos, false, ◌+◌, ◌<◌, ◌++◌, ◌∷◌, [], List, drop, length, get_or, refl, subst, sym, ap, ◌∙◌, arith}
+use Rattle.std.proofs.lemmas.List.{at_drop_more, drop_all}
+use Rattle.mm_multiset.specs.Counts.{Counts}
+use Rattle.mm_standing.specs.Bags.{AddedTo, IsSound, IsThere, IsWithin, Made, change_of, done_of, row_of, undos}
+use Rattle.mm_standing.specs.declared.change.RowChange.{RowChange}
+use Rattle.mm_standing.specs.declared.change.ListChange.{ListChange}
+use Rattle.mm_standing.proofs.Steps.{made_more, made_none, next_short, next_there, next_within, sound_made}
 use Rattle.mm_standing.proofs.bags.make_all.Goals as goal
-use Rattle.mm_standing.proofs.bags.make_all.Goals.{In-Some}
 
-pub loop-next-init : goal.loop-next-init
-loop-next-init c = record {
+pub loop-change-init : goal.loop-change-init
+loop-change-init c = record {
   sound = c.requires.sound;
-  recorded = c.requires.recorded;
   room = c.requires.room;
-  made = made_none c.args.bags.now.items c.args.prepared.now.items (undos c.args.log.now.items);
+  made = made_none c.args.bags.now.items (done_of c.args.bags.now.items c.args.prepared.now) (undos c.args.bags.now.items c.args.log.now.items);
 }
 
-sound_with : (c : In-Some) → IsSound c.loop-next.bags.items (c.pop.new.self.items ++ c.in-Some.next ∷ []) (undos c.loop-next.log.items)
-sound_with c =
-    subst (λ (ps : List Prepared). IsSound c.loop-next.bags.items ps (undos c.loop-next.log.items)) c.in-Some.ensures.items c.loop-next.invariant.sound
+abbrev none : ListChange
+none = record { list = 0; entry = record { slot = record { slot = 0 }; hash = 0 }; by = pos 0; is_new = false }
 
-pub add_to-is_new-requires-clause-there : goal.add_to-is_new-requires-clause-there
-add_to-is_new-requires-clause-there c =
-    next_there c.loop-next.bags.items c.pop.new.self.items c.in-Some.next (undos c.loop-next.log.items)
-    (sound_with (goal.at.add_to-is_new-requires-clause-there c).In-Some)
+abbrev at : List ListChange → ℕ → ListChange
+at cs i = get_or cs i none
 
-pub add_to-is_new-requires-clause-typed : goal.add_to-is_new-requires-clause-typed
-add_to-is_new-requires-clause-typed c =
-    next_typed c.loop-next.bags.items c.pop.new.self.items c.in-Some.next (undos c.loop-next.log.items)
-    (sound_with (goal.at.add_to-is_new-requires-clause-typed c).In-Some)
+-- The rest begins with the change.
+parts : (cs : List ListChange) (i : ℕ) → i < length cs → drop i cs ≡ at cs i ∷ drop (i + 1) cs
+parts cs i within = at_drop_more (λ (l : List ListChange). l) cs i none within
 
-pub add_to-is_new-requires-clause-room : goal.add_to-is_new-requires-clause-room
-add_to-is_new-requires-clause-room c =
-    inr (next_room c.loop-next.bags.items c.pop.new.self.items c.in-Some.next (undos c.loop-next.log.items)
-    (sound_with (goal.at.add_to-is_new-requires-clause-room c).In-Some))
+sound_with : (bags : List Counts) (cs log : List ListChange) (i : ℕ) → i < length cs → IsSound bags (drop i cs) log
+    → IsSound bags (at cs i ∷ drop (i + 1) cs) log
+sound_with bags cs log i within sound = subst (λ (ps : List ListChange). IsSound bags ps log) (parts cs i within) sound
 
-pub add_to-is_new-requires-clause-within : goal.add_to-is_new-requires-clause-within
-add_to-is_new-requires-clause-within c =
-    next_within c.loop-next.bags.items c.pop.new.self.items c.in-Some.next (undos c.loop-next.log.items)
-    (sound_with (goal.at.add_to-is_new-requires-clause-within c).In-Some)
+there : (bags : List Counts) (cs log : List ListChange) (i : ℕ) → i < length cs → IsSound bags (drop i cs) log → IsThere bags (at cs i)
+there bags cs log i within sound = next_there bags (at cs i) (drop (i + 1) cs) log (sound_with bags cs log i within sound)
 
-pub loop-next-preserved : goal.loop-next-preserved
-loop-next-preserved c =
-    let bags = c.loop-next.bags.items in
-    let rest = c.pop.new.self.items in
-    let next = c.in-Some.next in
-    let log = c.loop-next.log.items in
-    let sound = sound_with (goal.at.loop-next-preserved c).In-Some in
-    let adds = c.add_to-is_new.ensures in
-    let bags' = c.add_to-is_new.new.bags.items in
-    let entry : UndoRecord = record { undo = next.undo; is_new = c.add_to-is_new.result } in
-    let made = subst (λ (ps : List Prepared). Made c.args.bags.now.items c.args.prepared.now.items (undos c.args.log.now.items) bags ps (undos log))
-    c.in-Some.ensures.items c.loop-next.invariant.made in
-    let room = c.loop-next.invariant.room in
-    let more = c.push_reserved.ensures in
-    let less = c.in-Some.ensures.cases in
-    let longer : undos c.push_reserved.new.self.items ≡ undos log ++ next.undo ∷ [] =
-    ap (λ (l : List UndoRecord). undos l) more.items ∙ joined log entry in
-    let is = undo_is bags rest next (undos log) sound bags' adds.added in
+-- the change of the row's count by a number
+abbrev with_number : List Counts → ListChange → ℤ → RowChange
+with_number bags c z = record { list = c.list; change = record { row = row_of bags c; count = z } }
+
+pub add-requires-clause-list : goal.add-requires-clause-list
+add-requires-clause-list c =
+    (there c.loop-change.bags.items c.args.prepared.now c.loop-change.log.items c.loop-change.change-index c.loop-change-test.true
+    c.loop-change.invariant.sound).list
+
+pub add-requires-clause-entry : goal.add-requires-clause-entry
+add-requires-clause-entry c =
+    (there c.loop-change.bags.items c.args.prepared.now c.loop-change.log.items c.loop-change.change-index c.loop-change-test.true
+    c.loop-change.invariant.sound).entry
+
+pub add-requires-clause-within : goal.add-requires-clause-within
+add-requires-clause-within c =
+    let bags = c.loop-change.bags.items in
+    let cs = c.args.prepared.now in
+    let i = c.loop-change.change-index in
+    let sound = sound_with bags cs c.loop-change.log.items i c.loop-change-test.true c.loop-change.invariant.sound in
+    subst (λ (z : ℤ). IsWithin bags (with_number bags (at cs i) z ∷ [])) (sym (next_short bags (at cs i) (drop (i + 1) cs) c.loop-change.log.items sound))
+    (next_within bags (at cs i) (drop (i + 1) cs) c.loop-change.log.items sound)
+
+pub loop-change-preserved : goal.loop-change-preserved
+loop-change-preserved c =
+    let bags = c.loop-change.bags.items in
+    let new = c.add.new.bags.items in
+    let cs = c.args.prepared.now in
+    let i = c.loop-change.change-index in
+    let change = at cs i in
+    let rest = drop (i + 1) cs in
+    let log = c.loop-change.log.items in
+    let is = parts cs i c.loop-change-test.true in
+    let sound = sound_with bags cs log i c.loop-change-test.true c.loop-change.invariant.sound in
+    let adds : AddedTo (change_of bags change) bags new =
+    subst (λ (z : ℤ). AddedTo (with_number bags change z) bags new) (next_short bags change rest log sound) c.add.ensures in
+    let longer = c.push_reserved.ensures in
+    let room = c.loop-change.invariant.room in
+    let bags0 = c.args.bags.now.items in
     record {
-      sound = subst (λ l. IsSound bags' rest l) (sym longer) (sound_made bags rest next (undos log) sound bags' adds.added);
-      recorded = subst (λ (l : List UndoRecord). IsRecorded bags' l) (sym more.items)
-          (subst (λ u. let m : UndoRecord = record { undo = u; is_new = c.add_to-is_new.result } in IsRecorded bags' (log ++ m ∷ [])) (sym is)
-          (recorded_made next.done bags bags' adds.added log c.add_to-is_new.result sound.logged c.loop-next.invariant.recorded adds.is_new));
-      room = omega (arith, room, more.len, more.capacity, less);
-      made = subst (λ l. Made c.args.bags.now.items c.args.prepared.now.items (undos c.args.log.now.items) bags' rest l) (sym longer)
-          (made_more bags rest next (undos log) sound bags' adds.added c.args.bags.now.items c.args.prepared.now.items (undos c.args.log.now.items) made);
+      sound = subst (λ (l : List ListChange). IsSound new rest l) (sym longer.items) (sound_made bags new change rest log sound adds);
+      room = omega (arith, room, longer.len, longer.capacity, ap (λ (ps : List ListChange). length ps) is);
+      made = subst (λ (l : List ListChange). Made bags0 (done_of bags0 cs) (undos bags0 c.args.log.now.items) new (done_of new rest) (undos new l))
+          (sym longer.items)
+          (made_more bags new change rest log sound adds bags0 (done_of bags0 cs) (undos bags0 c.args.log.now.items)
+          (subst (λ (ps : List ListChange). Made bags0 (done_of bags0 cs) (undos bags0 c.args.log.now.items) bags (done_of bags ps) (undos bags log))
+          is c.loop-change.invariant.made));
     }

@@ -1,87 +1,119 @@
--- The newest change of what is left of the log is undone.
-use Rattle.std.proofs.Common.{◌≡◌, ℕ, ◌++◌, ◌∷◌, [], ◌-◌, ◌≤◌, ◌<◌, List, drop, take, length, get_or, refl, sym, ap, ◌∙◌, subst, arith}
+-- The newest remaining change of the log is undone.
+use Rattle.std.proofs.Common.{◌≡◌, ℕ, zero, suc, pos, false, ◌+◌, ◌+ℤ◌, ◌++◌, ◌∷◌, [], ◌-◌, ◌≤◌, ◌<◌, List, drop, take, length, map, get_or, refl, sym, ap}
+use Rattle.std.proofs.Common.{◌∙◌, subst, arith}
 use Rattle.std.proofs.lemmas.Grind.{take_at_read}
 use Rattle.std.proofs.lemmas.List.{drop-append-le, length-map, length-take-le, take_all}
-use Rattle.mm_standing.specs.Bags.{IsRecorded, IsSound, count_with, undos}
+use Rattle.std.proofs.Math.Seq.{take-append_seam}
+use Rattle.mm_value.specs.declared.values.Value.{Value}
+use Rattle.mm_multiset.specs.Counts.{Counts, count_in}
+use Rattle.mm_standing.specs.Bags.{IsSound, change_of, count_with, entries_at, opposite, row_change, sum_over, undos}
 use Rattle.mm_standing.specs.declared.change.ListChange.{ListChange}
-use Rattle.mm_standing.specs.declared.change.UndoRecord.{UndoRecord}
-use Rattle.mm_standing.proofs.Stages.{count_moved}
-use Rattle.mm_standing.proofs.Steps.{newest_entry, newest_within, sound_undone}
-use Rattle.mm_standing.proofs.Recorded.{joined, recorded_undone, same_with, sound_purged}
+use Rattle.mm_standing.specs.declared.change.RowChange.{RowChange}
+use Rattle.mm_standing.proofs.Stages.{count_moved, nothing_left}
+use Rattle.mm_standing.proofs.Steps.{newest_there, newest_within, sound_back, undos_back, undos_push}
+use Rattle.mm_standing.proofs.Dropping.{counts_removed, sound_removed, types_removed, undos_removed, size_removed}
+use Rattle.mm_standing.proofs.Purging.{slot_inside}
 use Rattle.mm_standing.proofs.bags.undo_behind.Goals as goal
-use Rattle.mm_standing.proofs.bags.undo_behind.Goals.{After-index-log-left}
 
--- The log up to a place is what stands before it and the change there.
-split : (log : List UndoRecord) (left : ℕ) (made : UndoRecord) → 0 < left → left ≤ length log → made ≡ get_or log (left - 1) made
-    → take left log ≡ take (left - 1) log ++ made ∷ []
-split log left made some within is =
-    ap (λ n. take n log) (omega (arith, some)) ∙ (take_at_read log (left - 1) made (omega (arith, some, within))).1
-    ∙ ap (λ m. take (left - 1) log ++ m ∷ []) (sym is)
+abbrev none : ListChange
+none = record { list = 0; entry = record { slot = record { slot = 0 }; hash = 0 }; by = pos 0; is_new = false }
 
-parts : (c : After-index-log-left) → take c.loop-left.left c.args.log.now ≡ take (c.loop-left.left - 1) c.args.log.now ++ c.index-log-left.result ∷ []
-parts c =
-    let test = c.loop-left-test.true in
-    split c.args.log.now c.loop-left.left c.index-log-left.result (omega (arith, test)) c.loop-left.invariant.most c.index-log-left.is
+abbrev last : List ListChange → ℕ → ListChange
+last log left = get_or log (left - 1) none
 
-sound_with : (c : After-index-log-left) → IsSound c.loop-left.bags.items []
-    (undos (take (c.loop-left.left - 1) c.args.log.now) ++ c.index-log-left.result.undo ∷ [])
-sound_with c =
-    subst (IsSound c.loop-left.bags.items []) (ap (λ (l : List UndoRecord). undos l) (parts c)
-    ∙ joined (take (c.loop-left.left - 1) c.args.log.now) c.index-log-left.result)
-    c.loop-left.invariant.sound
+-- The log up to a place consists of the part before it and the change there.
+parts : (log : List ListChange) (left : ℕ) → 0 < left → left ≤ length log → take left log ≡ take (left - 1) log ++ last log left ∷ []
+parts log left some within = ap (λ n. take n log) (omega (arith, some)) ∙ (take_at_read log (left - 1) none (omega (arith, some, within))).1
+
+sound_with : (bags : List Counts) (log : List ListChange) (left : ℕ) → 0 < left → left ≤ length log → IsSound bags [] (take left log)
+    → IsSound bags [] (take (left - 1) log ++ last log left ∷ [])
+sound_with bags log left some within sound = subst (IsSound bags []) (parts log left some within) sound
+
+-- The prefix of a list that has one more element.
+front : (us : List RowChange) (u : RowChange) (all : List RowChange) (n : ℕ) → length us ≡ n → take (n + 1) all ≡ us ++ u ∷ [] → us ≡ take n all
+front us u all n many is =
+    sym (take-append_seam us (u ∷ [])) ∙ ap (λ k. take k (us ++ u ∷ [])) many ∙ ap (take n) (sym is) ∙ take_less n (n + 1) (omega arith) all
+  where
+    take_less : (k m : ℕ) → k ≤ m → (xs : List RowChange) → take k (take m xs) ≡ take k xs
+    take_less zero m less xs = refl
+    take_less (suc k) zero less xs = absurd (omega (arith, less))
+    take_less (suc k) (suc m) less [] = refl
+    take_less (suc k) (suc m) less (x ∷ xs) = ap (λ l. x ∷ l) (take_less k m (omega (arith, less)) xs)
+
+counts_with : (old new : List Counts) (cs : List RowChange)
+    → ((list : ℕ) (row : List Value) → count_in row (entries_at new list) ≡ count_in row (entries_at old list))
+    → (list : ℕ) (row : List Value) → count_with new cs list row ≡ count_with old cs list row
+counts_with old new cs same list row = ap (λ n. pos n +ℤ sum_over (row_change list row) cs) (same list row)
 
 pub loop-left-init : goal.loop-left-init
 loop-left-init c =
-    let all = sym (take_all (length c.args.log.now) c.args.log.now (omega arith)) in
+    let bags = c.args.bags.now.items in
+    let log = c.args.log.now in
+    let all = sym (take_all (length log) log (omega arith)) in
     record {
-      sound = subst (λ (l : List UndoRecord). IsSound c.args.bags.now.items [] (undos l)) all c.requires.sound;
-      recorded = subst (λ (l : List UndoRecord). IsRecorded c.args.bags.now.items l) all c.requires.recorded;
+      sound = subst (λ (l : List ListChange). IsSound bags [] l) all c.requires.sound;
+      log = ap (undos bags) (sym all)
+          ∙ sym (take_all (length log) (undos bags log) (omega (arith, length-map log (λ (d : ListChange). opposite (change_of bags d)))));
       least = c.requires.mark;
       most = omega arith;
-      counts = λ earlier within list row. ap (λ (l : List UndoRecord). count_with c.args.bags.now.items (drop earlier (undos l)) list row) (sym all);
+      counts = λ earlier within list row. ap (λ (l : List ListChange). count_with bags (drop earlier (undos bags l)) list row) (sym all);
       types = refl;
       size = refl;
     }
 
-pub undo-requires-clause-found : goal.undo-requires-clause-found
-undo-requires-clause-found c =
-    newest_entry c.loop-left.bags.items (undos (take (c.loop-left.left - 1) c.args.log.now)) c.index-log-left.result.undo
-    (sound_with (goal.at.undo-requires-clause-found c).After-index-log-left)
+pub undo-requires-clause-there : goal.undo-requires-clause-there
+undo-requires-clause-there c =
+    newest_there c.loop-left.bags.items (take (c.loop-left.left - 1) c.args.log.now) (last c.args.log.now c.loop-left.left)
+    (sound_with c.loop-left.bags.items c.args.log.now c.loop-left.left (omega (arith, c.loop-left-test.true)) c.loop-left.invariant.most
+    c.loop-left.invariant.sound)
 
 pub undo-requires-clause-within : goal.undo-requires-clause-within
 undo-requires-clause-within c =
-    newest_within c.loop-left.bags.items (undos (take (c.loop-left.left - 1) c.args.log.now)) c.index-log-left.result.undo
-    (sound_with (goal.at.undo-requires-clause-within c).After-index-log-left)
+    newest_within c.loop-left.bags.items (take (c.loop-left.left - 1) c.args.log.now) (last c.args.log.now c.loop-left.left)
+    (sound_with c.loop-left.bags.items c.args.log.now c.loop-left.left (omega (arith, c.loop-left-test.true)) c.loop-left.invariant.most
+    c.loop-left.invariant.sound)
+
+pub undo-requires-clause-now : goal.undo-requires-clause-now
+undo-requires-clause-now c = nothing_left c.loop-left.bags.items (undos c.loop-left.bags.items (take c.loop-left.left c.args.log.now))
+    c.loop-left.invariant.sound.undo
 
 pub loop-left-preserved : goal.loop-left-preserved
 loop-left-preserved c =
     let bags = c.loop-left.bags.items in
     let new = c.undo.new.bags.items in
-    let rest = take (c.loop-left.left - 1) c.args.log.now in
-    let made = c.index-log-left.result in
-    let added = c.undo.ensures.0 in
+    let log = c.args.log.now in
+    let rest = take (c.loop-left.left - 1) log in
+    let change = last c.args.log.now c.loop-left.left in
+    let mid = c.undo.ensures.0 in
     let adds = c.undo.ensures.1 in
-    let purges = c.undo.ensures.2 in
-    let is = parts (goal.at.loop-left-preserved c).After-index-log-left in
+    let removed = c.undo.ensures.2 in
+    let kept = c.undo.ensures.3 in
+    let is = parts log c.loop-left.left (omega (arith, c.loop-left-test.true)) c.loop-left.invariant.most in
+    let sound = sound_with c.loop-left.bags.items c.args.log.now c.loop-left.left (omega (arith, c.loop-left-test.true)) c.loop-left.invariant.most
+    c.loop-left.invariant.sound in
     let test = c.loop-left-test.true in
     let so_far = c.loop-left.invariant in
     let most = so_far.most in
-    let recorded : IsRecorded bags (rest ++ made ∷ []) = subst (λ (l : List UndoRecord). IsRecorded bags l) is so_far.recorded in
-    let long = length-map rest (λ (m : UndoRecord). m.undo) ∙ length-take-le (c.loop-left.left - 1) c.args.log.now (omega (arith, most, test)) in
+    let short = length-take-le (c.loop-left.left - 1) log (omega (arith, most, test)) in
+    let long = length-map rest (λ (d : ListChange). opposite (change_of bags d)) ∙ short in
+    let back = sound_back bags mid rest change sound adds in
+    let undone : undos new rest ≡ undos bags rest = undos_removed mid [] rest change back new removed kept ∙ undos_back bags mid rest change sound adds in
+    let joined : undos bags (take c.loop-left.left log) ≡ undos bags rest ++ opposite (change_of bags change) ∷ [] = ap (undos bags) is ∙ undos_push bags rest
+    change in
     record {
-      sound = sound_purged rest made bags added new recorded adds purges
-          (sound_undone bags (undos rest) made.undo (sound_with (goal.at.loop-left-preserved c).After-index-log-left) added adds);
-      recorded = recorded_undone rest made bags added new recorded adds purges;
+      sound = sound_removed mid [] rest change back new removed kept;
+      log = undone ∙ front (undos bags rest) (opposite (change_of bags change)) (undos c.args.bags.now.items log) (c.loop-left.left - 1) (omega (arith, long))
+          (ap (λ n. take n (undos c.args.bags.now.items log)) (omega (arith, test)) ∙ sym so_far.log ∙ joined);
       least = omega (arith, test);
       most = omega (arith, most);
       counts = λ earlier within list row.
-          same_with rest made bags added new recorded adds purges (drop earlier (undos rest)) list row
-          ∙ count_moved made.undo bags added adds (drop earlier (undos rest)) list row
-          ∙ ap (λ (cs : List ListChange). count_with bags cs list row)
-          (sym (drop-append-le earlier (undos rest) (made.undo ∷ []) (omega (arith, within, long))))
-          ∙ ap (λ (cs : List ListChange). count_with bags (drop earlier cs) list row) (sym (joined rest made))
-          ∙ ap (λ (l : List UndoRecord). count_with bags (drop earlier (undos l)) list row) (sym is)
+          counts_with mid new (drop earlier (undos new rest)) (counts_removed mid [] rest change back new removed kept) list row
+          ∙ ap (λ (us : List RowChange). count_with mid (drop earlier us) list row) undone
+          ∙ count_moved (opposite (change_of bags change)) bags mid adds (drop earlier (undos bags rest)) list row
+          ∙ ap (λ (us : List RowChange). count_with bags us list row)
+          (sym (drop-append-le earlier (undos bags rest) (opposite (change_of bags change) ∷ []) (omega (arith, within, long))))
+          ∙ ap (λ (us : List RowChange). count_with bags (drop earlier us) list row) (sym joined)
           ∙ so_far.counts earlier (omega (arith, within)) list row;
-      types = purges.types ∙ adds.types ∙ so_far.types;
-      size = purges.size ∙ adds.size ∙ so_far.size;
+      types = types_removed mid [] rest change back new removed kept ∙ adds.types ∙ so_far.types;
+      size = size_removed mid [] rest change back new removed kept ∙ adds.size ∙ so_far.size;
     }

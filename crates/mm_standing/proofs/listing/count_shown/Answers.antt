@@ -1,4 +1,4 @@
--- As many rows are shown as the bag has, or as it has entries whose count is not 0.
+-- The number of shown rows is that of the bag's rows, or of its entries whose count is not 0.
 use Rattle.std.proofs.Common.{length, sym, ap, ◌∙◌}
 use Rattle.mm_standing.specs.Showing.{rows_shown}
 use Rattle.mm_standing.proofs.Totals.{distinct_shown, total_shown}

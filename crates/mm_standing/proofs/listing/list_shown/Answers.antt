@@ -1,4 +1,4 @@
--- The values are those of the rows that are shown, and these are as wide as the query.
+-- The values are those of the shown rows, each of which has as many values as the query has fields.
 use Rattle.std.proofs.Common.{◌≡◌, ◌*◌, ◌++◌, List, length, sym, ap, ◌∙◌}
 use Rattle.std.specs.List.{All}
 use Rattle.std.proofs.lemmas.List.{length-map}

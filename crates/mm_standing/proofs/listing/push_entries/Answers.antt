@@ -1,4 +1,4 @@
--- The values of one entry more stand at the end.
+-- The values of one more entry are at the end.
 use Rattle.std.proofs.Common.{◌≡◌, ◌++◌, List, length, replicate, sym, ap, ◌∙◌, arith}
 use Rattle.std.proofs.lemmas.List.{append-nil}
 use Rattle.mm_value.specs.declared.values.Value.{Value}

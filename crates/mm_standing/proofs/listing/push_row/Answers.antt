@@ -1,4 +1,4 @@
--- One value more stands at the end.
+-- One more value is at the end.
 use Rattle.mm_partition.specs.Views.{viewed}
 use Rattle.mm_templist.specs.Runs.{referred}
 use Rattle.mm_standing.proofs.Pushing.{pushed_value}

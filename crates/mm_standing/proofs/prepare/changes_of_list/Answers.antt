@@ -1,4 +1,4 @@
--- The changes of a query's bag are those of its list, and bring it to as many rows as its query has after the edits.
+-- The changes of a query's bag are those of its list, which then has as many rows as its query after the edits.
 use Rattle.std.proofs.Common.{◌≡◌, inl, ◌+ℤ◌, ◌-ℤ◌, ℕ, pos, Bool, true, false, cond, List, Some, None, length, map, ap, ◌∙◌, arith}
 use Rattle.std.proofs.lemmas.Bool.{le-ltb, lt-ltb}
 use Rattle.std.proofs.lemmas.Int.{ints}
@@ -69,7 +69,7 @@ returns-clause-brings c =
     brings c.args.bag.now.entries c.in_ok-changed.changed.items c.put_gains_first.new.changes.items
     (bag_over (after_at c.args.view.now.store c.args.changes.now) c.args.watched.now) (bag_over (before_at c.args.view.now.store) c.args.watched.now)
     c.in_ok-changed.ensures.once c.len.ensures.once c.requires.fits (change (goal.at.returns-clause-brings c).After-new_total)
-    c.put_gains_first.ensures.permutation c.put_gains_first.ensures.order c.requires.few (omega (arith, ints, is, few)) c.in_ok-changed.ensures.small
+    c.put_gains_first.ensures.permutation c.put_gains_first.ensures.order c.requires.few (omega (arith, ints, is, few))
 
 pub returns-clause-typed : goal.returns-clause-typed
 returns-clause-typed c =

@@ -1,4 +1,4 @@
--- One list more has its changes, or is too large.
+-- The changes of one more list are found, or it is too large.
 use Rattle.std.proofs.Common.{◌≡◌, ◌+◌, ◌+ℤ◌, ◌<◌, ◌≤◌, ◌≤ℤ◌, ◌⊎◌, inl, inr, ℕ, Bool, true, false, cond, true≢false, add-one, is_some, List, [], ◌++◌, Some}
 use Rattle.std.proofs.Common.{None, get_or, length, map, pos, take, refl, sym, ap, ◌∙◌, subst, arith}
 use Rattle.std.specs.List.{All, list_any, sum_by}
@@ -23,7 +23,7 @@ use Rattle.mm_standing.specs.Bags.{Brings, IsTyped, entries_at, types_at}
 use Rattle.mm_standing.specs.Queries.{GivesTyped, StandingQuery, bag_over, is_too_large}
 use Rattle.mm_standing.specs.Reads.{query_reads}
 use Rattle.mm_standing.specs.State.{AreOfTypes}
-use Rattle.mm_standing.specs.declared.change.ListChange.{ListChange}
+use Rattle.mm_standing.specs.declared.change.RowChange.{RowChange}
 use Rattle.mm_standing.proofs.Adding.{at_map, entries_here}
 use Rattle.mm_standing.proofs.Segments.{All_more, IsStage, stage_more}
 use Rattle.mm_standing.proofs.prepare.changes_of_lists.Goals as goal
@@ -62,7 +62,7 @@ changes_of_list-requires-clause-few c =
     subst (λ (es : Entries). total_of es ≤ most_rows) (entries_here bags list bag bag there c.index-bags-list.is)
     (few_now (total_of (entries_at bags list)) ((c.requires.within 0).totals list))
 
--- What is read for one list more.
+-- The rows read for one more list.
 reads_within : (f : StandingQuery → ℕ) (queries : List StandingQuery) (list : ℕ) (query : StandingQuery) (now was first one : ℕ)
     → list < length queries → query ≡ get_or queries list query → now ≤ was + one → one ≡ f query
     → was ≤ first + sum_by f (take list queries) → (now ≤ first + sum_by f (take (list + 1) queries)) × (now ≤ first + sum_by f queries)
@@ -115,8 +115,8 @@ changes_of_list-requires-clause-after c =
     (subst (λ (q : StandingQuery). GivesTyped (after_at c.args.view.now.store c.args.changes.now) q) (sym c.index-queries-list.is)
     (c.requires.after c.loop-list.list query c.loop-list-test.true))
 
--- The changes of one list more have the types of its columns.
-typed_more : (queries : List StandingQuery) (bags : List Counts) (list : ℕ) (query : StandingQuery) (found : List ListChange) (changed : List Signed)
+-- The changes of one more list have the types of its columns.
+typed_more : (queries : List StandingQuery) (bags : List Counts) (list : ℕ) (query : StandingQuery) (found : List RowChange) (changed : List Signed)
     → AreOfTypes queries bags → list < length queries → query ≡ get_or queries list query → All (IsTyped bags) found
     → All (λ (change : Signed). HasTypes query.types change.row) changed
     → All (IsTyped bags) (found ++ map (λ change. record { list = list; change = change }) changed)

@@ -8,7 +8,7 @@ use Rattle.mm_standing.specs.Reads.{AreOfCyclicRows, RowTests, query_reads}
 use Rattle.mm_standing.proofs.Segments.{IsStage}
 use Rattle.mm_standing.proofs.prepare.changes_of_lists.Given as goal
 
--- the changes of the lists so far, none of which is too large, and what was read for them
+-- the changes of the lists so far, none of which is too large, and the rows read for them
 abbrev pub invariant-loop-list : goal.invariant-loop-list
 invariant-loop-list l = record {
   stage : IsStage l.bags l.queries (bag_over (after_at l.fn.view.store l.changes)) l.list l.found.items;

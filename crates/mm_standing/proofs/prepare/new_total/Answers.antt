@@ -1,4 +1,4 @@
--- One change more is in the sum.
+-- One more change is in the sum.
 use Rattle.std.proofs.Common.{◌≡◌, ◌+◌, ◌^◌, ◌+ℤ◌, ◌<ℤ◌, neg_ℤ, pos, take, sym, ap, ◌∙◌, subst, arith, add-one}
 use Rattle.std.proofs.lemmas.Int.{ints}
 use Rattle.mm_multiset.specs.declared.signed.Signed.{Signed}

@@ -3,7 +3,7 @@ use Rattle.std.specs.List.Sorted.{IsPermutation}
 use Rattle.mm_standing.proofs.Gains.{AreParted}
 use Rattle.mm_standing.proofs.prepare.put_gains_first.Given as goal
 
--- of the changes so far those that bring rows stand first
+-- of the changes so far, those that add rows are first
 abbrev pub invariant-loop-i : goal.invariant-loop-i
 invariant-loop-i l = record {
   moved : IsPermutation l.fn.changes.items l.changes.items;

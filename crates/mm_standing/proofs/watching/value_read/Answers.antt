@@ -1,4 +1,4 @@
--- The value is that of the row that is there, and 0 where there is none.
+-- The value is that of the row, and 0 if there is none.
 use Rattle.std.proofs.Common.{◌≡◌, List, Option, Some, length, pos, refl, sym, ap, subst, ◌∙◌}
 use Rattle.std.specs.Option.{option_map, unwrap_or}
 use Rattle.std.proofs.lemmas.Bool.{ltb-false}

@@ -8,7 +8,7 @@ use Rattle.mm_statement.specs.steps.Fills.{Fills}
 use Rattle.mm_statement.proofs.Fills.{fills_next, one_read}
 use Rattle.mm_statement.proofs.parts.fill_tuples.Goals as goal
 
--- the tuples of a list, each of which is its literals
+-- the tuples of a list, each as its literals
 abbrev Filled : Filler → Filler → List (List Value) → List (List Value) → Type 0
 Filled old new tuples filled = Fills (map (map blank_value)) (flat_map (λ (t : List Value). t)) old new tuples filled
 

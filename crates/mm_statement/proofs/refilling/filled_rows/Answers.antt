@@ -10,7 +10,7 @@ use Rattle.mm_statement.proofs.Fills.{one_read}
 use Rattle.mm_statement.proofs.Refillers.{next_refilled, whole_refilled}
 use Rattle.mm_statement.proofs.refilling.filled_rows.Goals as goal
 
--- the rows of a list, each of which is its literals
+-- the rows of a list, each as its literals
 abbrev Refilled : Refiller → Refiller → List (List Value) → List (List Value) → Type 0
 Refilled old new rows filled = RefillsPart (map (map blank_value)) (flat_map (λ (t : List Value). t)) old new rows filled
 

@@ -18,7 +18,7 @@ use Rattle.mm_indexed.proofs.OneKey.{tied_by_value}
 use Rattle.mm_tables.proofs.Slots.{holds_at}
 use Rattle.mm_tables.proofs.twins.brings_key.Goals as goal
 
--- a value that ties with none is none
+-- a value that compares equal to no value is no value
 ties_with_none : (o : Option Value) → option_cmp value_cmp o None ≡ Equal → o ≡ None
 ties_with_none None tie = refl
 ties_with_none (Some x) tie = let no : ⊥ = cc in absurd no
@@ -36,7 +36,7 @@ module _ (key : ℕ) (now : Slots) (refs : List RowRef) (held : (r : RowRef) →
         tied_by_value key now value r at fits own,
       )
 
-  -- .. and where none is found, there is none
+  -- .. and if none is found, there is none
   not_found : (value : Value) → slice_get (row_at now at) key ≡ Some value → (r : Option RowRef)
       → IfNone r (All (λ x. slice_get (row_at now x) key ≢ Some value) refs) → HasTwin key now at → IsSome r
   not_found value own (Some r) none twin = refl

@@ -1,4 +1,4 @@
--- The value is that of the row that is there.
+-- The value is that of the row.
 use Rattle.std.proofs.Common.{◌≡◌, ap, ◌∙◌, arith}
 use Rattle.std.proofs.lemmas.Grind.{common_steps}
 use Rattle.mm_partition.specs.Views.{viewed}

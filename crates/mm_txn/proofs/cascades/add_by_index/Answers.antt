@@ -1,4 +1,4 @@
--- For each row that goes those are found that have its key.
+-- For each deleted row, the rows that have its key are found.
 use Rattle.std.proofs.Common.{◌<◌, length, get_or, slice_get, take, ap, ◌∙◌, subst, sym, arith}
 use Rattle.std.proofs.lemmas.List.{get_or_default, take_all, take_more}
 use Rattle.mm_partition.specs.Places.{slot_at, row_in}

@@ -6,7 +6,7 @@ use Rattle.mm_txn.specs.Cascades.{AddsReferrers}
 use Rattle.mm_txn.proofs.Referrers.{rows_taken, tests}
 use Rattle.mm_txn.proofs.cascades.add_by_index.Given as goal
 
--- the references were added of the rows that have the key of a row of the edits so far
+-- the references of the rows that have the key of a row of the edits so far were appended
 abbrev pub invariant-loop-edit : goal.invariant-loop-edit
 invariant-loop-edit l = record {
   same : l.view.store ≡ l.fn.view.store;

@@ -1,4 +1,4 @@
--- Each row is asked whether the row that it refers to goes.
+-- Each row is tested for whether the row that it refers to is deleted.
 use Rattle.std.proofs.Common.{◌≡◌, true, false, List, [], ◌∷◌, ◌++◌, append_assoc, append-nil, ap, ◌∙◌, refl, subst, sym}
 use Rattle.std.specs.List.{All, filter}
 use Rattle.mm_partition.specs.Places.{IsLive, slot_at}

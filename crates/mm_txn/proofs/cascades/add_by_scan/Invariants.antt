@@ -7,7 +7,7 @@ use Rattle.mm_store.specs.Tables.{IsAt}
 use Rattle.mm_txn.specs.Cascades.{is_cascaded_by}
 use Rattle.mm_txn.proofs.cascades.add_by_scan.Given as goal
 
--- of the references so far, those of the cascaded rows were added
+-- of the references so far, those of the cascaded rows were appended
 abbrev pub invariant-loop-at : goal.invariant-loop-at
 invariant-loop-at l = record {
   split : l.initial.at-iterator ≡ l.yielded ++ l.at-iterator;

@@ -4,7 +4,7 @@ use Rattle.mm_store.specs.Tables.{IsAt}
 use Rattle.mm_txn.specs.Cascades.{AddsReferrers, is_cascaded_by_some, placed_cascade}
 use Rattle.mm_txn.proofs.cascades.cascaded_edits.Given as goal
 
--- the references of the rows that are cascaded by the columns so far were found
+-- the references of the rows to which deletions cascade by the columns so far were found
 abbrev pub invariant-loop-cascade : goal.invariant-loop-cascade
 invariant-loop-cascade l = record {
   same : l.view.store ≡ l.store;

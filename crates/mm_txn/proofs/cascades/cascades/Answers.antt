@@ -1,4 +1,4 @@
--- Table by table the cascaded rows are found.
+-- The cascaded rows are found table by table.
 use Rattle.std.proofs.Common.{◌≡◌, ◌≢◌, ◌<◌, ◌≤◌, ◌+◌, List, [], ◌∷◌, ◌++◌, Some, drop, length, map, slice_get, ap, ◌∙◌, rules, subst, sym, arith, eq-eqb}
 use Rattle.std.specs.List.{All, filter}
 use Rattle.std.proofs.lemmas.Bool.{eqb-true, false≢true}

@@ -6,7 +6,7 @@ use Rattle.mm_plan.specs.Kept.{instance_of}
 use Rattle.mm_txn.specs.PlacedEdits.{AreEdits, PlacedEdits, named, placed}
 use Rattle.mm_txn.proofs.cascades.cascades.Given as goal
 
--- what the tables so far add was found
+-- the deletions of the tables so far were found
 abbrev pub invariant-loop-table : goal.invariant-loop-table
 invariant-loop-table l = record {
   are : AreEdits l.store (placed l.own ∷ map placed l.cascaded.items);

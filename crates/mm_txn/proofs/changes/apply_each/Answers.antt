@@ -1,4 +1,4 @@
--- Each table's edits come once those of the tables behind are made.
+-- Each table's edits are made after those of the later tables.
 use Rattle.std.proofs.Common.{List, [], ◌≡◌, ◌∙◌, refl, sym, subst, arith}
 use Rattle.std.specs.Prelude.{Err, Ok, OnOk}
 use Rattle.mm_indexed.specs.Kept.{StoredRows}

@@ -1,4 +1,4 @@
--- The edits of the tables behind are made.
+-- The edits of the later tables are made.
 use Rattle.std.proofs.Common.{◌≡◌, ◌≤◌, ℕ, vec_len}
 use Rattle.mm_indexed.specs.Index.{EachTurns}
 use Rattle.mm_store.specs.Marks.{KeepsMarks, mark_of}

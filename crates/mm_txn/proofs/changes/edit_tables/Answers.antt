@@ -96,15 +96,17 @@ returns-in-Err-clause-made c =
       listed = let prepared = c.prepare_lists-prepared.new.standing in
           subst (λ (r : Instance). AreListed r c.discard.new.self) (sym rows)
           (listed_still (instance_of store.tables) c.args.standing.now c.discard.new.self
-          (ap (λ (l : Lists). l.queries) c.discard.ensures ∙ c.prepare_lists-prepared.ensures.queries) c.requires.listed
-          (λ list row. ap (λ (l : Lists). count_now l list row) c.discard.ensures
-          ∙ same_counts c.args.standing.now prepared c.prepare_lists-prepared.ensures.entries list row)
-          (ap (λ (l : Lists). l.prepared) c.discard.ensures));
+          (ap (λ (l : Lists). l.queries) c.discard.ensures.rest ∙ c.prepare_lists-prepared.ensures.queries) c.requires.listed
+          (λ list row. same_counts prepared c.discard.new.self c.discard.ensures.counts list row
+          ∙ same_counts c.args.standing.now prepared c.prepare_lists-prepared.ensures.counts list row)
+          (ap (λ (l : Lists). l.prepared) c.discard.ensures.rest));
       queries = search rules;
       log = search rules;
       log_longer = grind (arith, common_steps);
-      undone = λ mark within list row. ap (λ (l : Lists). count_at mark list row l) c.discard.ensures
-          ∙ same_at mark c.args.standing.now c.prepare_lists-prepared.new.standing c.prepare_lists-prepared.ensures.entries
+      undone = λ mark within list row.
+          same_at mark c.prepare_lists-prepared.new.standing c.discard.new.self c.discard.ensures.counts
+          (ap (λ (l : Lists). l.log) c.discard.ensures.rest) list row
+          ∙ same_at mark c.args.standing.now c.prepare_lists-prepared.new.standing c.prepare_lists-prepared.ensures.counts
           c.prepare_lists-prepared.ensures.log list row;
     }
 
@@ -124,7 +126,7 @@ returns-clause-made c = record {
       let lists = c.prepare_lists-prepared.new.standing in
       let u = c.in_default-and.field-0 in
       let both = sym c.in_default-and.ensures in
-      listed_made c.args.standing.now lists c.apply_prepared.new.self c.prepare_lists-prepared.ensures.entries c.apply_prepared.ensures.made
+      listed_made c.args.standing.now lists c.apply_prepared.new.self c.prepare_lists-prepared.ensures.counts c.apply_prepared.ensures.made
       (instance_of c.apply_each.new.store.tables) after
       (rows_made store c.apply_each.new.store all (first_ok applied prepared u both c.apply_each.ensures.ok))
       (second_ok applied prepared u both

@@ -1,4 +1,4 @@
--- The new index stands in the catalog and in the relation at the same place.
+-- The new index is at the same place in the catalog and in the relation.
 use Rattle.std.proofs.Common.{◌≡◌, [], List, Some, None, inl, sym, ap, subst, ◌∙◌, arith}
 use Rattle.std.proofs.lemmas.Result.{err_from_is_err_and}
 use Rattle.mm_indexed.specs.Kept.{StoredRows}

@@ -1,4 +1,4 @@
--- The catalog's new table and the new relation beside it are the state's new table.
+-- The catalog's new table and its new relation are the state's new table.
 use Rattle.std.proofs.Common.{◌≡◌, ◌≢◌, ℕ, ◌-◌, List, ◌++◌, length, sym, ap, subst, ◌∙◌, arith}
 use Rattle.std.specs.List.{All, remove}
 use Rattle.std.proofs.lemmas.List.{length-map, length_push}

@@ -1,4 +1,4 @@
--- The index goes from the catalog and from the relation of its table.
+-- The index is dropped from the catalog and from the relation of its table.
 use Rattle.std.proofs.Common.{◌≡◌, [], cond, Some, None, inl, sym, ap, subst, ◌∙◌, arith}
 use Rattle.std.proofs.lemmas.Result.{err_from_is_err_and}
 use Rattle.mm_schema.specs.Schema.{Schema}

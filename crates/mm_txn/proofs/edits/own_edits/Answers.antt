@@ -1,4 +1,4 @@
--- The edits are those of the change that is bound.
+-- The edits are those of the bound change.
 use Rattle.std.proofs.Common.{◌≡◌, ℕ, ◌<◌, Err, List, Some, length, map, slice_get, refl, sym, ap, subst, ◌∙◌}
 use Rattle.std.proofs.lemmas.Option.{get_or_from_slice_get, slice_get_within}
 use Rattle.std.proofs.lemmas.Result.{err_from_is_err_and}

@@ -1,4 +1,4 @@
--- The edits of the table that a change is for, and with a DELETE those of the cascaded rows.
+-- The edits of the table that a change names, and for a DELETE those of the cascaded rows.
 use Rattle.std.proofs.Common.{◌≡◌, List, map, sym, ap, subst, ◌∙◌}
 use Rattle.mm_plan.specs.Kept.{AreKept, AreOf}
 use Rattle.mm_query.specs.Binding.{Binds}
@@ -11,7 +11,7 @@ use Rattle.mm_txn.proofs.RowsBeside.{AreOf-formed}
 use Rattle.mm_txn.proofs.edits.staged_edits.Goals as goal
 use Rattle.mm_txn.proofs.edits.staged_edits.Goals.{In_ok-own, in-Delete, in_default, then-cascades_rows+in_ok-cascaded, else-cascades_rows}
 
--- the staged store has the tables of the catalog still
+-- the staged store still has the tables of the catalog
 are : (c : In_ok-own) → AreOf c.args.catalog.now.tables c.own_edits.new.store.tables
 are c =
     AreOf-formed c.args.catalog.now.tables c.args.store.now.tables c.own_edits.new.store.tables c.own_edits.ensures.store.form c.requires.kept.relations

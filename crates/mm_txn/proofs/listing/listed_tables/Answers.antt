@@ -1,4 +1,4 @@
--- Each table of the catalog is there by its name.
+-- Each table of the catalog is found by its name.
 use Rattle.std.proofs.Common.{◌<◌, length, slice_index_or, ap, subst, ◌∙◌}
 use Rattle.mm_txn.proofs.Placed.{there_at}
 use Rattle.mm_txn.proofs.listing.listed_tables.Goals as goal

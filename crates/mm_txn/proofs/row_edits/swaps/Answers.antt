@@ -45,7 +45,7 @@ module _ (table : ℕ) (start : Tables) (there : table < length start.tables) (o
   there_still : table < length old.tables
   there_still = staged_within table start old kept_so_far there
 
-  -- of references of rows in use
+  -- for references of rows in use
   module _ (refs : List RowRef) (i : ℕ) (within : i < length refs)
       (live : (stored : StoredRows) → IsAt start table stored → All (IsLive stored.places) refs) where
     live_still : (stored : StoredRows) → IsAt old table stored → IsLive stored.places (get_or refs i none)
@@ -53,7 +53,7 @@ module _ (table : ℕ) (start : Tables) (there : table < length start.tables) (o
         let from = staged_from table start old kept_so_far there stored at in
         live_kept from.0 stored from.2 (get_or refs i none) (All-get_or (IsLive from.0.places) refs i none within (live from.0 from.1))
 
-    -- the row of the reference is the one that it was
+    -- the row of the reference is unchanged
     row_still : (was stored : StoredRows) → IsAt start table was → IsAt old table stored
         → row_at (slot_at stored.places) (get_or refs i none) ≡ row_at (slot_at was.places) (get_or refs i none)
     row_still was stored before at =

@@ -11,7 +11,7 @@ use Rattle.mm_txn.specs.RowEdits.{Stages, updates_of}
 use Rattle.mm_txn.proofs.NewValues.{values_of}
 use Rattle.mm_txn.proofs.row_edits.swaps.Given as goal
 
--- the rows for the references so far were staged, no value of theirs is past the range, and there is capacity for those to come
+-- the rows for the references so far were staged, none of their values is past the range, and there is capacity for the others
 abbrev pub invariant-loop-at : goal.invariant-loop-at
 invariant-loop-at l = record {
   made : (stored : StoredRows) → IsAt l.fn.store l.table stored

@@ -1,4 +1,4 @@
--- Of the refusal of the query and that of the name the earlier is due.
+-- The earlier of the refusals of the query and of the name is due.
 use Rattle.std.proofs.Common.{Some, inl, inr, sym, ap, ◌∙◌, ⊎_elim}
 use Rattle.mm_value.specs.declared.refusal.Refusal.{Refusal}
 use Rattle.mm_txn.specs.Rest.{earlier_refusal}

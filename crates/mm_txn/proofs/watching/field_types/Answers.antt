@@ -1,4 +1,4 @@
--- The type of one field more was found.
+-- The type of one more field was found.
 use Rattle.std.proofs.Common.{◌≡◌, ◌<◌, ⊎_elim, Option, Some, None, List, [], ◌∷◌, ◌++◌, get_or, length, map, take, sym, ap, ◌∙◌, subst, arith}
 use Rattle.std.specs.List.{All}
 use Rattle.std.specs.Option.{option_and_then, option_map, option_map_or}
@@ -14,7 +14,7 @@ use Rattle.mm_query.specs.declared.query.FromItem.{FromItem}
 use Rattle.mm_laws.specs.Typing.{type_at}
 use Rattle.mm_txn.proofs.watching.field_types.Goals as goal
 
--- A field that is there has a type.
+-- An existing field has a type.
 has_type : (schema : Schema) (from : List FromItem) (field : FieldPlace) → IsFieldWithin schema from field
     → (col_type : ColType) × (type_at schema from field ≡ Some col_type)
 has_type schema from field within = by (slice_get from field.place) within
@@ -31,7 +31,7 @@ has_type schema from field within = by (slice_get from field.place) within
         (λ past. absurd (omega (arith, h, past.0)))
         (slice_get_cases (columns_named item.table schema) field.column).1
 
--- What stands where no field does.
+-- A value for places without a field.
 abbrev nowhere : FieldPlace
 nowhere = record { place = 0; column = 0 }
 

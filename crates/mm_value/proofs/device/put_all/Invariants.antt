@@ -3,7 +3,7 @@ use Rattle.std.specs.Io.KnownBytes.{Appends}
 use Rattle.mm_value.specs.Watched.{inner_of, has_failed}
 use Rattle.mm_value.proofs.device.put_all.Given as goal
 
--- the writer has not failed, and a front of the bytes was written, of which `rest` is what is left
+-- the writer has not failed, and all bytes before `rest` were written
 abbrev pub invariant-loop-rest : goal.invariant-loop-rest
 invariant-loop-rest g l =
     (has_failed l.writer ≡ false) × ((n : ℕ) × (n + length l.rest ≡ length l.bytes) × (l.rest ≡ drop n l.bytes)

@@ -3,7 +3,7 @@ use Rattle.std.specs.List.{All}
 use Rattle.mm_value.specs.Literal.{doubled}
 use Rattle.mm_value.proofs.literals.unquote.Given as goal
 
--- a front of a text was read, and stands in the buffer as far as that goes
+-- a prefix of a text was read, and the buffer contains as much of it as fits
 abbrev pub invariant-loop-byte : goal.invariant-loop-byte
 invariant-loop-byte l =
     (front : List ℕ) × (l.body ≡ doubled front ++ l.rest) × All (λ b. b ≢ 10) front × (l.len ≡ length front)

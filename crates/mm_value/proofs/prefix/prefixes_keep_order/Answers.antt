@@ -1,4 +1,4 @@
--- The prefixes keep the order of values, and where they differ they tell it.
+-- Prefixes preserve the order of values, and distinct prefixes determine it.
 use Rattle.mm_value.proofs.Prefixes.{prefixes_keep, prefixes_tell}
 use Rattle.mm_value.proofs.prefix.prefixes_keep_order.Goals as goal
 

@@ -4,7 +4,7 @@ use Rattle.mm_value.specs.Device.{Writes}
 use Rattle.mm_value.specs.Literal.{doubled}
 use Rattle.mm_value.proofs.printed.write_doubled.Given as goal
 
--- what was written is the doubled text up to `rest`
+-- the doubled text up to `rest` was written
 abbrev pub invariant-loop-quote : goal.invariant-loop-quote
 invariant-loop-quote g l =
     (done : List ℕ) × (doubled l.text ≡ done ++ doubled l.rest)

@@ -1,4 +1,4 @@
--- The two orders are total, and tie equal values alone.
+-- The two orders are total, and only equal values tie.
 use Rattle.mm_value.proofs.Orders.{value_cmp_total, value_cmp_exact, row_cmp_total, row_cmp_exact}
 use Rattle.mm_value.proofs.values.orders_are_total.Goals as goal
 

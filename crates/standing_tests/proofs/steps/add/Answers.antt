@@ -1,4 +1,4 @@
--- What was staged changes nothing of the case.
+-- Staged rows do not change the case.
 use Rattle.store_tests.proofs.StagedRows.{still_there}
 use Rattle.standing_tests.proofs.Staging.{case_staged, mark_staged}
 use Rattle.standing_tests.proofs.steps.add.Goals as goal

@@ -1,4 +1,4 @@
--- The rows at the mark stay, and the log, so they are the current ones before and after.
+-- The rows at the mark and the log stay, so the rows are the current ones before and after.
 use Rattle.std.proofs.Common.{◌≡◌, ℕ, length, sym, ap, ◌∙◌, arith}
 use Rattle.mm_schema.specs.declared.index.IndexKind.TheVariants.{Hash}
 use Rattle.mm_store.specs.Marks.{rows_at_mark}

@@ -1,4 +1,4 @@
--- The view is of the store, and the edits of one table are those of a list with it alone.
+-- The view is of the store, and the edits of one table are those of a list with only it.
 use Rattle.std.proofs.Common.{◌∷◌, [], sym, subst}
 use Rattle.mm_delta.specs.Steps.{EachFit}
 use Rattle.mm_store.specs.Tables.{Tables}

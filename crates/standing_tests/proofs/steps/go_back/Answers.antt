@@ -1,4 +1,4 @@
--- Tables and lists go back to one mark.
+-- Tables and lists are rolled back to one mark.
 use Rattle.std.proofs.Common.{ap, ◌∙◌}
 use Rattle.mm_standing.specs.State.{Lists}
 use Rattle.standing_tests.proofs.CaseSteps.{case_back, mark_back}

@@ -1,4 +1,4 @@
--- The view is of the store, and the edits of one table are those of a list with it alone.
+-- The view is of the store, and the edits of one table are those of a list with only it.
 use Rattle.std.proofs.Common.{◌∷◌, [], OnOk, sym, ap, subst, ◌∙◌}
 use Rattle.std.specs.List.{All}
 use Rattle.mm_delta.specs.Edited.{after_at, before_at}

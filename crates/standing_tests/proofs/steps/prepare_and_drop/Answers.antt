@@ -1,4 +1,4 @@
--- What was staged changes nothing of the case, nor do lists that keep their counts.
+-- Neither staged rows nor lists that keep their counts change the case.
 use Rattle.std.proofs.Common.{arith}
 use Rattle.mm_store.proofs.MarkLaws.{KeepsMarks-same}
 use Rattle.standing_tests.proofs.CaseSteps.{case_listed, mark_still}

@@ -1,4 +1,4 @@
--- New tables have no rows, and an index brings none.
+-- New tables have no rows, and an index adds none.
 use Rattle.std.proofs.Common.{◌≡◌, ℕ, List, [], ◌∷◌, sym, subst, ◌∙◌}
 use Rattle.std.specs.List.{All}
 use Rattle.std.proofs.lemmas.List.Elements.{All-nil}
@@ -13,7 +13,7 @@ use Rattle.standing_tests.proofs.NumberRows.{numbers_behind}
 use Rattle.standing_tests.proofs.steps.tables.Goals.{then-indexed+in_ok-add_index, else-indexed}
 use Rattle.standing_tests.proofs.steps.tables.Goals as goal
 
--- all rows of the tables are of whole numbers
+-- all rows of the tables are of integers
 abbrev AreOfNumbers : List StoredRows → Type 0
 AreOfNumbers tables = (place : ℕ) → All (HasTypes plain_types) (rows_at tables place)
 

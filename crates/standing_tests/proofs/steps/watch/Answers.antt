@@ -1,4 +1,4 @@
--- The last list has the rows that its query gives over the tables of the case.
+-- The last list has the rows of its query over the tables of the case.
 use Rattle.std.proofs.Common.{ℕ, ◌<◌, ◌≤◌, List, length, map, replicate, sym, ap, subst, ◌∙◌}
 use Rattle.std.specs.List.{All}
 use Rattle.mm_delta.specs.Edited.{before_at}

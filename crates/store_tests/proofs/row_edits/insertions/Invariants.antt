@@ -3,7 +3,7 @@ use Rattle.mm_store.specs.Staging.{CanStage, HasStaged}
 use Rattle.store_tests.specs.RowEdits.{AreReadyAt}
 use Rattle.store_tests.proofs.row_edits.insertions.Given as goal
 
--- the rows so far are staged, there is capacity for those that are left, and the edits so far may be made
+-- the rows so far are staged, there is capacity for the others, and the edits so far may be made
 abbrev pub invariant-loop-row : goal.invariant-loop-row
 invariant-loop-row l = record {
   staged : HasStaged l.table l.fn.store l.store;

@@ -2,7 +2,7 @@ use Rattle.std.proofs.Common.{◌+◌, ◌<◌, ◌≤◌, All}
 use Rattle.structure_tests.specs.Orders.{IsByPlace}
 use Rattle.structure_tests.proofs.trees.grown.Given as goal
 
--- the references from 1000 - i on are in, in order
+-- the references from 1000 - i on are in the tree, in order
 abbrev pub invariant-down : goal.invariant-down
 invariant-down g l = record {
   ordered : IsByPlace l.tree.refs;
@@ -10,7 +10,7 @@ invariant-down g l = record {
   earlier : All (λ a. a.slot < 1000) l.tree.refs;
 }
 
--- the references below the next are in, in order
+-- the references below the next are in the tree, in order
 abbrev pub invariant-up : goal.invariant-up
 invariant-up g l = record {
   ordered : IsByPlace l.tree.refs;

@@ -1,6 +1,6 @@
 use Rattle.structure_tests.specs.Orders.{IsByPlace}
 use Rattle.structure_tests.proofs.trees.shrink.Given as goal
 
--- what is left is in order
+-- the remaining references are in order
 abbrev pub invariant-loop-number : goal.invariant-loop-number
 invariant-loop-number g l = IsByPlace l.tree.refs

@@ -5,7 +5,7 @@ use Rattle.mm_partition.specs.Places.{IsLive, slot_at}
 use Rattle.mm_indexed.specs.Twins.{HasTwin}
 use Rattle.tables_tests.proofs.commands.keys_are_apart.Given as goal
 
--- the references that are left are of rows in use, and each other row has no twin
+-- the remaining references are of rows in use, and each other row has no twin
 abbrev pub invariant-loop-at : goal.invariant-loop-at
 invariant-loop-at l = record {
   live : All (IsLive l.rows.places) l.at-iterator;

@@ -2,6 +2,7 @@ use Rattle.std.proofs.Common.{◌≡◌, ℕ, ◌+◌, ◌-◌, ◌/◌, ◌≤�
 use Rattle.ttree_node.specs.Tree.{tree_of, height_of}
 use Rattle.ttree.specs.Balanced.{IsNode}
 use Rattle.ttree.specs.Lowest.{IsLowest}
+use Rattle.ttree.proofs.Leaves.{count_from_fork}
 use Rattle.ttree.proofs.Lowest.{not_lower, one_level, IsLowest-root}
 use Rattle.ttree.proofs.builds.+build.Goals as goal
 
@@ -18,6 +19,15 @@ returns-clause-tree t c =
     let node : IsNode 1 (tree_of c.build-left.result) c.split_at-2.result.0.now (tree_of c.build-right.result) = record {
       filled = omega (arith, c.split_at-2.ensures.front_len, c.min.ensures, c.split_at.ensures.back_len, c.requires.filled, c.if-nodes-eq0.false);
       fits = omega (arith, c.split_at-2.ensures.front_len, c.min.ensures);
+      full = λ _ after. omega (
+        arith,
+        count_from_fork (tree_of c.build-right.result) after,
+        c.build-right.ensures.nodes,
+        c.split_at-2.ensures.front_len,
+        c.min.ensures,
+        c.split_at.ensures.back_len,
+        c.requires.filled,
+      );
       left_low = left_low;
       right_low = omega (arith, right_low);
     } in

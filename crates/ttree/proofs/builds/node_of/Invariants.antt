@@ -2,7 +2,7 @@ use Rattle.std.proofs.Common.{◌≡◌, ◌+◌, take}
 use Rattle.ttree_node.specs.Tree.{Empty}
 use Rattle.ttree.proofs.builds.node_of.Given as goal
 
--- the node has the references before the next
+-- The node has the references before `next`.
 abbrev pub invariant-loop-i : goal.invariant-loop-i
 invariant-loop-i l = record {
   node : l.node ≡ record { left = Empty; entries = take l.i l.refs; right = Empty };

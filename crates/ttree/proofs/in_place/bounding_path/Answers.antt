@@ -9,8 +9,7 @@ use Rattle.ttree_node.specs.Paths.{tree_at, trail}
 use Rattle.ttree_node.specs.declared.slides.Side.TheVariants.{Left, Right}
 use Rattle.ttree_node.proofs.PathLemmas.{tree_at-left, tree_at-right, trail-right}
 use Rattle.ttree.specs.Balanced.{IsTTree}
-use Rattle.ttree.proofs.Shuffles.{if_some}
-use Rattle.ttree.proofs.Walks.{IsFound, ordered_at, behind_left, found_here, found_before, behind_found}
+use Rattle.ttree.proofs.Walks.{IsFound, ordered_at, behind_left, found_here, found_before, behind_found, if_some}
 use Rattle.ttree.proofs.in_place.bounding_path.Goals as goal
 
 pub loop-rest-init : goal.loop-rest-init

@@ -7,7 +7,7 @@ use Rattle.ttree.specs.Balanced.{IsTTree}
 use Rattle.ttree.proofs.Walks.{IsFound}
 use Rattle.ttree.proofs.in_place.bounding_path.Given as goal
 
--- what is behind the way lies behind the reference, and what was found is on the way
+-- All entries to the right of the way are after the reference, and the node found is on the way.
 abbrev pub invariant-loop-rest : goal.invariant-loop-rest
 invariant-loop-rest g l = record {
   here : tree_at l.path.items (fork l.tree) ≡ tree_of (option_copied l.rest);

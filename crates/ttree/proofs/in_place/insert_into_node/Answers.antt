@@ -9,7 +9,7 @@ use Rattle.ttree_node.specs.Tree.{Root, fork, in_order, node_count}
 use Rattle.ttree_node.specs.Paths.{HasRoomOnLeft, tree_at, root_entries, entries_at, with_entries, with_tree, exchanged}
 use Rattle.ttree_node.proofs.PathLemmas.{same_count, count_with_tree, exchanged_count, exchanged_root}
 use Rattle.ttree.specs.Balanced.{IsTTree}
-use Rattle.ttree.proofs.Walks.{IsTTree-with, IsTTree-at, ordered_at, All-at, adds_at}
+use Rattle.ttree.proofs.Walks.{IsTTree-with, IsTTree-at, MayHave-more, ordered_at, All-at, adds_at}
 use Rattle.ttree.proofs.InPlace.{IsTTree-with_tree, IsTTree-exchanged, in_order-exchanged_at}
 use Rattle.ttree.proofs.in_place.insert_into_node.Goals as goal
 
@@ -41,7 +41,9 @@ returns-then-len-lt16-clause-tree g c =
     let long = length-insert entries at c.args.added within in
     let room : length entries < 16 = omega (arith, ap length is, ap length c.entries.ensures.value, c.len-len.ensures.value, c.if-len-lt16.true) in
     subst IsTTree (sym c.put_entry_at.ensures) (IsTTree-with path (insert entries at c.args.added) (fork c.args.root.now) c.requires.tree
-    (omega (arith, long)) (omega (arith, long, room)))
+    (omega (arith, long)) (omega (arith, long, room))
+    (MayHave-more (insert entries at c.args.added) (tree_at path (fork c.args.root.now))
+    (IsTTree-at path (fork c.args.root.now) c.requires.tree) (omega (arith, long))))
 
 pub returns-then-len-lt16-clause-nodes : goal.returns-then-len-lt16-clause-nodes
 returns-then-len-lt16-clause-nodes g c = ap node_count c.put_entry_at.ensures ∙ same_count c.as_slice.result.now _ (fork c.args.root.now)

@@ -1,14 +1,14 @@
-use Rattle.std.proofs.Common.{◌≡◌, ◌<◌, ◌≤◌, [], ◌∷◌, length, sym, ap, ◌∙◌, subst, arith}
+use Rattle.std.proofs.Common.{◌≡◌, ◌<◌, ◌≤◌, length, sym, ap, ◌∙◌, subst, arith}
 use Rattle.std.specs.Prelude.{Some, slice_get}
 use Rattle.std.proofs.lemmas.List.Edits.{length-remove}
 use Rattle.std.specs.List.{remove}
 use Rattle.mm_order.specs.Order.{IsOrdered}
+use Rattle.mm_order.specs.Refs.{AddsInOrder}
 use Rattle.ttree_node.specs.Tree.{Root, fork, in_order, node_count}
 use Rattle.ttree_node.specs.Paths.{HasSpareOnLeft, tree_at, root_entries, entries_at, with_entries, with_tree, borrowed}
 use Rattle.ttree_node.proofs.PathLemmas.{same_count, count_with_tree, borrowed_count, borrowed_root}
 use Rattle.ttree.specs.Balanced.{IsTTree}
-use Rattle.ttree.specs.Shuffle.{IsShuffle}
-use Rattle.ttree.proofs.Walks.{IsTTree-with, IsTTree-at, ordered_at}
+use Rattle.ttree.proofs.Walks.{IsTTree-with, IsTTree-at, MayHave, ordered_at}
 use Rattle.ttree.proofs.InPlace.{IsTTree-with_tree, IsTTree-borrowed, in_order-borrowed_at, loses_at_path, held_at_path}
 use Rattle.ttree.proofs.in_place.remove_from_node.Goals as goal
 
@@ -32,10 +32,14 @@ returns-then-has_spare-clause-tree g c =
     let is : entries ≡ c.in-Some.node.now.entries = ap (λ p. entries_at p whole) c.as_slice.ensures.value ∙ ap root_entries c.in-Some.ensures.at in
     let inside : at < length entries = omega (arith, ap length is, ap length c.entries.ensures.value, c.in-Some-find_held.ensures.in_bounds) in
     let short = length-remove entries at inside in
-    let spare : 2 ≤ length c.in-Some.node.now.entries = c.if-has_spare.ensures in
+    let n : Root = c.in-Some.node.now in
+    let spare : 2 ≤ length n.entries = c.if-has_spare.ensures.some in
+    let here : tree_at path whole ≡ fork n = ap (λ p. tree_at p whole) c.as_slice.ensures.value ∙ c.in-Some.ensures.at in
+    let may : MayHave (remove entries at) (tree_at path whole) = subst (MayHave (remove entries at)) (sym here)
+    (λ left right. omega (arith, c.if-has_spare.ensures.full left right, short, ap length is)) in
     subst IsTTree (sym c.take_entry_at.ensures.rest) (IsTTree-with path (remove entries at) whole c.requires.tree
     (omega (arith, short, spare, ap length is))
-    (omega (arith, short, ap length is, ap length c.entries.ensures.value, c.entries.ensures.at_most_16)))
+    (omega (arith, short, ap length is, ap length c.entries.ensures.value, c.entries.ensures.at_most_16)) may)
 
 pub returns-then-has_spare-clause-nodes : goal.returns-then-has_spare-clause-nodes
 returns-then-has_spare-clause-nodes g c = ap node_count c.take_entry_at.ensures.rest ∙ same_count c.as_slice.result.now _ (fork c.args.root.now)
@@ -52,8 +56,8 @@ returns-then-has_spare-clause-taken g c =
     ∙ ap (λ es. with_entries path (remove es at) whole) is in
     let inside : at < length n.entries = omega (arith, ap length c.entries.ensures.value, c.in-Some-find_held.ensures.in_bounds) in
     let found : slice_get n.entries at ≡ Some c.args.gone = rw c.entries.ensures.value at c.in-Some-find_held.ensures.found in
-    subst (λ t. IsShuffle (in_order whole) (c.args.gone ∷ []) (in_order t)) (sym made)
-    (loses_at_path path at c.args.gone n whole c.in-Some.ensures.at inside found)
+    subst (λ t. AddsInOrder (g.O.RefOrder.cmp c.args.order.now) (in_order t) c.args.gone (in_order whole)) (sym made)
+    (loses_at_path _ _ path at c.args.gone n whole c.requires.ordered c.in-Some.ensures.at inside found)
 
 pub returns-then-has_spare-clause-held : goal.returns-then-has_spare-clause-held
 returns-then-has_spare-clause-held g c =
@@ -96,7 +100,8 @@ returns-then-borrow_entry_at-clause-taken g c =
     let found : slice_get n.entries at ≡ Some c.args.gone = rw c.entries.ensures.value at c.in-Some-find_held.ensures.found in
     let made : in_order (fork c.borrow_entry_at.new.self) ≡ in_order (with_entries path (remove n.entries at) whole) =
     ap in_order (c.if-borrow_entry_at.ensures.done ∙ ap (λ t. with_tree path (borrowed at t) whole) here) ∙ in_order-borrowed_at path at n whole here spare in
-    subst (IsShuffle (in_order whole) (c.args.gone ∷ [])) (sym made) (loses_at_path path at c.args.gone n whole here inside found)
+    subst (λ xs. AddsInOrder (g.O.RefOrder.cmp c.args.order.now) xs c.args.gone (in_order whole)) (sym made)
+    (loses_at_path _ _ path at c.args.gone n whole c.requires.ordered here inside found)
 
 pub returns-then-borrow_entry_at-clause-held : goal.returns-then-borrow_entry_at-clause-held
 returns-then-borrow_entry_at-clause-held g c =

@@ -1,11 +1,12 @@
-use Rattle.std.proofs.Common.{◌≡◌, ◌≢◌, ◌-◌, ◌<◌, [], ◌∷◌, ◌++◌, List, length, take, drop, get_or, sym, ap, ◌∙◌, subst, rules}
+use Rattle.std.proofs.Common.{◌≡◌, ◌≢◌, ◌-◌, ◌<◌, ◌≤◌, [], ◌∷◌, ◌++◌, List, length, take, drop, get_or, sym, ap, ◌∙◌, subst, arith, rules}
+use Rattle.std.proofs.lemmas.List.Edits.{length-insert, length-remove}
 use Rattle.std.proofs.lemmas.Option.{get_or_from_slice_get}
 use Rattle.std.specs.List.{All, insert, remove}
 use Rattle.std.specs.declared.cmp.Ordering.TheVariants.{Less, Equal, Greater}
 use Rattle.mm_value.specs.declared.row_ref.RowRef.{RowRef}
 use Rattle.mm_order.specs.Refs.{AddsInOrder}
 use Rattle.mm_order.proofs.Pairs.{All-append_left, All-append_right}
-use Rattle.ttree_node.specs.Tree.{fork, in_order}
+use Rattle.ttree_node.specs.Tree.{Root, fork, height_of, in_order}
 use Rattle.ttree.proofs.Parts.{IsOrdered-middle, adds_between, below_last, moved_least}
 use Rattle.ttree.proofs.inserts.insert_between.Goals as goal
 
@@ -53,3 +54,17 @@ returns-clause-adds g c =
     subst (AddsInOrder cmp (left ++ entries ++ right) c.args.added)
     (sym (made ∙ ap (λ xs. xs ++ right) (moved_least left entries at least c.args.added c.place_among-at.ensures.above_first c.requires.tree.2.filled
     least_is))) adds
+
+pub returns-clause-full : goal.returns-clause-full
+returns-clause-full g c low high =
+    let n = c.args.node in
+    let at = c.place_among-at.result in
+    let left : height_of c.set_left.new.self.left ≤ 1 = search rules in
+    let right : height_of c.set_left.new.self.right ≡ 0 = search rules in
+    let stays : c.balance.result ≡ c.set_left.new.self = c.balance.ensures.stays (omega (arith, left, right)) (omega (arith, left, right)) in
+    let is : c.set_left.new.self.entries ≡ insert (remove n.entries 0) (at - 1) c.args.added = search rules in
+    let long : length n.entries ≡ 16 = search rules in
+    let fewer = length-remove n.entries 0 (omega (arith, long)) in
+    let within : at ≤ 16 = search rules in
+    subst (λ (r : Root). 15 ≤ length r.entries) (sym stays)
+    (omega (arith, ap length is, length-insert (remove n.entries 0) (at - 1) c.args.added (omega (arith, within, long, fewer)), fewer, long))

@@ -3,7 +3,7 @@ use Rattle.std.specs.List.{AllWithin}
 use Rattle.std.specs.declared.cmp.Ordering.TheVariants.{Less, Greater}
 use Rattle.ttree.proofs.inserts.place_among.Given as goal
 
--- the first entry of the range lies before the reference, and what is behind the range lies after it
+-- The first entry of the range is before the reference, and all entries past the range are after it.
 abbrev pub invariant-loop : goal.invariant-loop
 invariant-loop g l = record {
   some : 1 ≤ l.size;

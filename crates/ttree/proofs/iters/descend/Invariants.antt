@@ -5,7 +5,7 @@ use Rattle.ttree.specs.Balanced.{IsTTree}
 use Rattle.ttree.specs.Path.{IsPath, to_come}
 use Rattle.ttree.proofs.iters.descend.Given as goal
 
--- what is left of the tree comes before what the path gives
+-- The rest of the tree comes before the entries of the path.
 abbrev pub invariant-loop-edge : goal.invariant-loop-edge
 invariant-loop-edge l = record {
   path : IsPath 28 l.path.items;

@@ -8,13 +8,13 @@ use Rattle.ttree.specs.Path.{IsPath, IsStep, from_root, to_come}
 use Rattle.ttree.proofs.Path.{IsPath-front, IsPath-last, to_come-push}
 use Rattle.ttree.proofs.iters.next_entries.Goals as goal
 
--- no node of a path is missing
+-- Lemma: no node of a path is missing.
 never : (old new : List (Option (Bor Root))) (node : Option (Bor Root)) → IsPath 28 old → old ≡ new ++ node ∷ [] → node ≡ None → ⊥
 never old new node was is none =
     let step : IsStep (28 - length new) (tree_of (option_copied node)) = IsPath-last 28 new node (subst (IsPath 28) is was) in
     (subst (λ o. IsStep (28 - length new) (tree_of (option_copied o))) none step).some
 
--- the deepest node
+-- Lemma: the deepest node fits the levels that are left.
 deepest : (old new : List (Option (Bor Root))) (node : Option (Bor Root)) (root : Bor Root) → IsPath 28 old → old ≡ new ++ node ∷ [] → node ≡ Some root
     → IsStep (28 - length new) (fork root.now)
 deepest old new node root was is some =

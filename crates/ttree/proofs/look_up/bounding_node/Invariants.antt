@@ -5,7 +5,7 @@ use Rattle.ttree.specs.Balanced.{IsTTree}
 use Rattle.ttree.proofs.Decides.{Narrows, entries_of}
 use Rattle.ttree.proofs.look_up.bounding_node.Given as goal
 
--- what was found and what is still to be searched decide
+-- The entries found and the rest of the tree decide the search.
 abbrev pub invariant-loop-rest : goal.invariant-loop-rest
 invariant-loop-rest g l = record {
   probe : l.seek.probe ≡ l.initial.seek.probe;

@@ -1,7 +1,7 @@
 use Rattle.std.proofs.Common.{◌≡◌, ◌+◌, ◌≤◌, ◌++◌, length, take, vec_len, vec_capacity}
 use Rattle.ttree.proofs.ranges.copy_all.Given as goal
 
--- the entries below i are in, and there is room for the others
+-- The entries below i are appended, and there is capacity for the others.
 abbrev pub invariant-loop-i : goal.invariant-loop-i
 invariant-loop-i l = record {
   appended : l.out.items ≡ l.initial.out.items ++ take l.i l.entries;

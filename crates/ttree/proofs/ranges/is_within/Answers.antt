@@ -7,7 +7,7 @@ use Rattle.ttree.proofs.Between.{all_between}
 use Rattle.ttree.proofs.Reached.{reached_first, reached_last, risen}
 use Rattle.ttree.proofs.ranges.is_within.Goals as goal
 
--- what a test that holds shows
+-- Lemma: a consequence of a test that is true.
 OnTrue-shown : (b : Bool) (P : Type 0) → (b ≡ true → P) → OnTrue b P
 OnTrue-shown true P shown = shown refl
 OnTrue-shown false P shown = tt

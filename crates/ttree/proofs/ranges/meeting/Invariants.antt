@@ -5,7 +5,7 @@ use Rattle.ttree_node.specs.Tree.{in_order, node_count, tree_of}
 use Rattle.ttree.specs.Searchable.{IsSearchable}
 use Rattle.ttree.proofs.ranges.meeting.Given as goal
 
--- all that lies in the range lies in what is left of the tree
+-- All entries in the range are in the rest of the tree.
 abbrev pub invariant-loop-at : goal.invariant-loop-at
 invariant-loop-at g l = record {
   low : IsSearchable (g.O.RefOrder.covers l.order) (g.O.RefOrder.cmp l.order) (g.L.Probe.covers l.low) (g.L.Probe.place_of l.low)

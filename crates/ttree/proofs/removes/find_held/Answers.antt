@@ -8,8 +8,7 @@ use Rattle.std.specs.declared.cmp.Ordering.{Ordering}
 use Rattle.std.specs.declared.cmp.Ordering.TheVariants.{Less, Equal, Greater}
 use Rattle.mm_value.specs.declared.row_ref.RowRef.{RowRef}
 use Rattle.ttree.proofs.Halving.{halved}
-use Rattle.ttree.proofs.Taken.{itself}
-use Rattle.ttree.proofs.Along.{same_from_test}
+use Rattle.ttree.proofs.Taken.{itself, same_from_test}
 use Rattle.mm_order.proofs.Monotone.{IsMonotone-at}
 use Rattle.mm_order.proofs.Ordered.{IsNonDecreasingBy-places}
 use Rattle.mm_order.proofs.Places.{greater_from_is_le, not_greater_from_is_le, greater_from}

@@ -3,7 +3,7 @@ use Rattle.std.specs.List.{AllWithin}
 use Rattle.std.specs.declared.cmp.Ordering.TheVariants.{Greater}
 use Rattle.ttree.proofs.removes.find_held.Given as goal
 
--- before the range nothing but its first entry is sure not to lie after the reference
+-- The first entry of the range, unless it is the first of all, is not after the reference, and all entries past the range are after it.
 abbrev pub invariant-loop : goal.invariant-loop
 invariant-loop g l = record {
   some : 1 ≤ l.size;

@@ -1,12 +1,12 @@
-use Rattle.std.proofs.Common.{◌≡◌, ◌<◌, ◌∷◌, ◌++◌, drop, length, take, sym, ap, ◌∙◌, subst, arith, rules}
+use Rattle.std.proofs.Common.{◌≡◌, ◌<◌, ◌++◌, length, sym, ap, subst, arith, rules}
 use Rattle.std.specs.Prelude.{Some, Contains, slice_get}
 use Rattle.std.specs.List.{remove}
 use Rattle.std.proofs.lemmas.Option.{get_or_from_slice_get}
-use Rattle.ttree_node.specs.Tree.{Root, tree_of, in_order}
+use Rattle.mm_order.specs.Refs.{AddsInOrder}
+use Rattle.ttree_node.specs.Tree.{tree_of, in_order}
 use Rattle.ttree.proofs.Parts.{IsOrdered-middle}
-use Rattle.ttree.proofs.Shuffles.{loses_at, loses_middle}
+use Rattle.ttree.proofs.Taken.{adds_taken}
 use Rattle.ttree.proofs.removes.remove_among.Goals as goal
-use Rattle.ttree.specs.Shuffle.{IsShuffle}
 
 pub find_held-requires-clause-ordered : goal.find_held-requires-clause-ordered
 find_held-requires-clause-ordered g c =
@@ -27,15 +27,9 @@ pub returns-in-Some-clause-taken : goal.returns-in-Some-clause-taken
 returns-in-Some-clause-taken g c =
     let n = c.args.node in
     let i = c.in-Some.i in
-    let run = take c.take_along-along.result c.args.behind.now in
+    let cmp = g.O.RefOrder.cmp c.args.order.now in
     let inside : i < length n.entries = omega (arith, ap length c.entries.ensures.value, c.in-Some.ensures.in_bounds) in
     let found : slice_get n.entries i ≡ Some c.args.gone = rw c.entries.ensures.value at c.in-Some.ensures.found in
-    let taken = c.take_along-along.ensures.taken in
-    let first : c.take_entry.new.self.entries ≡ remove n.entries i = ap (λ (r : Root). r.entries) c.take_entry.ensures.rest in
-    let after = c.take_along-along.new.node.entries in
-    let made : in_order (tree_of c.refill.result) ≡ in_order n.left ++ after ++ in_order n.right = search rules in
-    subst (IsShuffle (in_order n.left ++ n.entries ++ in_order n.right) (c.args.gone ∷ run)) (sym made)
-    (loses_middle (c.args.gone ∷ run) (in_order n.left) n.entries (in_order n.right) after
-    (loses_at n.entries i c.args.gone run taken.0 after inside found
-    (ap (λ (r : Root). r.entries) taken.1 ∙ ap (λ es. take i es ++ taken.0) first)
-    (subst (λ es. IsShuffle (drop i es) run taken.0) first taken.2)))
+    let made : in_order (tree_of c.refill.result) ≡ in_order n.left ++ remove n.entries i ++ in_order n.right = search rules in
+    subst (λ xs. AddsInOrder cmp xs c.args.gone (in_order n.left ++ n.entries ++ in_order n.right)) (sym made)
+    (adds_taken _ cmp (in_order n.left) n.entries (in_order n.right) i c.args.gone c.requires.ordered inside found)

@@ -9,7 +9,7 @@ use Rattle.mm_order.proofs.Places.{greater_from, greater_from_is_le}
 use Rattle.ttree.proofs.search.quarter.Goals as goal
 use Rattle.ttree.proofs.search.quarter.Goals.{then-is_le, else-is_le, then-is_le-2, else-is_le-2}
 
--- all entries from a later one on lie after the sought place too
+-- Lemma: all entries from a later one on are after the position too.
 greater_past : (place : RowRef → Ordering) (entries : List RowRef) (at from : ℕ) (d : RowRef) → IsNonDecreasingBy (λ a. ordering_index (place a)) entries
     → at < length entries → place (get_or entries at d) ≡ Greater → at ≤ from → AllWithin (λ a. place a ≡ Greater) entries from (length entries)
 greater_past place entries at from d rising within is past k e above below = greater_from place entries at d rising within is k e (omega arith) below

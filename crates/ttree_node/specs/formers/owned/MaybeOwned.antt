@@ -1,4 +1,4 @@
--- `MaybeOwned` as a type that may hold the type that holds it.
+-- `MaybeOwned` as a type that may contain the type that contains it.
 use Rattle.std.specs.Prelude.{◌≡◌, Option, None, Some}
 use mathlib.Core.Path.{refl, ap}
 use mathlib.Core.Logic.{◌⊎◌, inl, inr}

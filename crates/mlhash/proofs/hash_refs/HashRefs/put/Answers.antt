@@ -12,7 +12,7 @@ use Rattle.mlhash.proofs.ChainLemmas.{chain_step}
 use Rattle.mlhash.proofs.TableLemmas.{IsStocked, stocked, room_for_node, bucket_in, put_all, put_entries}
 use Rattle.mlhash.proofs.hash_refs.HashRefs.put.Goals as goal
 
--- after the call of `stock`
+-- Lemma: the state after the call of `stock`.
 stock_is : (i : Inside) (b : Bag) → min (vec_capacity i.nodes) NIL - i.len ≡ b.spare → 0 < b.spare
     → IsTable i.heads i.nodes.items i.len i.place i.free → (ms : List Node) (new : ℕ) → Stocks i.nodes.items i.free ms new
     → IsStocked i.heads i.nodes.items i.len i.place ms new

@@ -1,4 +1,4 @@
--- Where nothing is required, all rows that come are read.
+-- If no value is required, all new rows are read.
 use Rattle.std.proofs.Common.{None, ◌++◌, map, ap, ◌∙◌}
 use Rattle.mm_partition.specs.Places.{slot_at}
 use Rattle.mm_partition.specs.Views.{viewed}

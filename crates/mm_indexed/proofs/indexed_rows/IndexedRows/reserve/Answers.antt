@@ -2,13 +2,13 @@ use Rattle.std.proofs.Common.{refl, arith}
 use Rattle.mm_indexed.proofs.Steps.{IsKept-same, IsKept-grown, table_same, all_same, grown_room, grown_entries, on_ok}
 use Rattle.mm_indexed.proofs.indexed_rows.IndexedRows.reserve.Goals as goal
 
--- memory is refused for the rows
+-- the allocation for the rows fails
 pub invariant_of-self : goal.invariant_of-self
 invariant_of-self c =
     IsKept-same _ _ c.reserve.ensures.types c.self.inside.key c.self.inside.rows c.reserve.new.self c.self.inside.by_key.refs c.self.inside.by_key.refs
     c.self.inside.indexes.items refl c.reserve.ensures.rows c.self.invariant
 
--- .. or for the index on the key
+-- .. or that for the index on the key
 pub invariant_of-self-in_err-reserve-2 : goal.invariant_of-self-in_err-reserve-2
 invariant_of-self-in_err-reserve-2 c =
     IsKept-same _ _ c.reserve.ensures.types c.self.inside.key c.self.inside.rows c.reserve.new.self c.self.inside.by_key.refs c.reserve-2.new.self.refs

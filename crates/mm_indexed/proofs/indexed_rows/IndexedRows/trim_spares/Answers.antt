@@ -14,7 +14,7 @@ invariant_of-self c =
     let now = slot_at c.self.inside.rows in
     let before = c.self.inside.indexes.items in
     let after = c.trim_all.new.indexes.items in
-    let refs : c.trim_spares.new.self.refs ≡ c.self.inside.by_key.refs = ap (λ (h : Held). h.refs) c.trim_spares.ensures in
+    let refs : c.trim_spares.new.self.refs ≡ c.self.inside.by_key.refs = ap (λ (h : Held). h.refs) c.trim_spares.ensures.rest in
     subst (λ xs. IsKept types key now xs after) (sym refs)
     (IsKept-entries types key now c.self.inside.by_key.refs before after c.self.invariant
     (EachTurns-weaker (Trimmed c.args.n) SameEntries (λ x y t. t.same) before after c.trim_all.ensures))

@@ -5,7 +5,7 @@ use Rattle.mm_store.specs.Tables.{IsAt}
 use Rattle.mm_join.specs.Entries.{entry_of}
 use Rattle.mm_join.proofs.cursor.Cursor.new.Given as goal
 
--- the entries of the rows so far stand in the order of the walk
+-- the entries of the rows so far are in the order of the walk
 abbrev pub invariant-loop-at : goal.invariant-loop-at
 invariant-loop-at l = record {
   split : l.initial.at-iterator ≡ l.yielded ++ l.at-iterator;

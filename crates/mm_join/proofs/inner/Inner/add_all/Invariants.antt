@@ -4,7 +4,7 @@ use Rattle.mm_query.specs.Queries.{rows_read}
 use Rattle.mm_select.specs.Matches.{matches}
 use Rattle.mm_join.proofs.inner.Inner.add_all.Given as goal
 
--- of the candidates so far, those that fit were added
+-- the candidates so far that fit were added
 abbrev pub invariant-loop-at : goal.invariant-loop-at
 invariant-loop-at l = record {
   list : l.list ≡ record l.fn.list {

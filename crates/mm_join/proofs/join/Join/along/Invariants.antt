@@ -6,7 +6,7 @@ use Rattle.mm_join.proofs.Progress.{Progress}
 use Rattle.mm_join.specs.AccessMethods.{reads_along}
 use Rattle.mm_join.proofs.join.Join.along.Given as goal
 
--- all that fits of the combinations so far was found, and not more rows were read than these may cost
+-- all that fits of the combinations so far was found, and the rows read are within their bound
 abbrev pub invariant-loop-i : goal.invariant-loop-i
 invariant-loop-i l = record {
   same : l.view.store ≡ l.fn.view.store;

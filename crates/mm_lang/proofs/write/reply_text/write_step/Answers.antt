@@ -6,7 +6,7 @@ use Rattle.mm_value.proofs.Writing.{Writes-then, Writes-stops}
 use Rattle.mm_lang.specs.ReplyText.{access_method_text, line_text}
 use Rattle.mm_lang.proofs.write.reply_text.write_step.Goals as goal
 
--- the line in the parts in which it is written
+-- a line of a plan as the parts in which it is written
 parts : (step : PlanLine) (alias : List ℕ) → alias ≡ line_alias step → line_text step ++ 10 ∷ [] ≡ (alias ++ access_method_text step) ++ 10 ∷ []
 parts step alias is = ap (λ l. (l ++ access_method_text step) ++ 10 ∷ []) (sym is)
 

@@ -1,6 +1,7 @@
--- What grows keeps what it holds.
+-- Reserving capacity changes no content.
 use Rattle.std.proofs.Common.{ap, refl, ◌∙◌}
 use Rattle.mm_multiset.proofs.Rooms.{entries_grown, kept_grown}
+use Rattle.mm_multiset.proofs.SlotLists.{slots_same}
 use Rattle.mm_multiset.proofs.bag.Bag.reserve.Goals as goal
 
 pub invariant_of-self : goal.invariant_of-self
@@ -36,3 +37,15 @@ returns-clause-entries c =
     entries_grown c.self.inside.rows c.reserve.new.self c.self.inside.counts.counts c.reserve-2.new.self.counts c.self.inside.by_hash.entries
     c.reserve-3.new.self.entries c.reserve.ensures.rows c.reserve.ensures.extent c.reserve-2.ensures.counts c.reserve-3.ensures.entries
     ∙ ap (λ v. v.entries) c.self.view_is
+
+pub returns-in_err-reserve-clause-slots : goal.returns-in_err-reserve-clause-slots
+returns-in_err-reserve-clause-slots c =
+    slots_same c.self.inside.rows c.reserve.new.self c.reserve.ensures.rows c.reserve.ensures.extent ∙ ap (λ v. v.slots) c.self.view_is
+
+pub returns-in_err-reserve-2-clause-slots : goal.returns-in_err-reserve-2-clause-slots
+returns-in_err-reserve-2-clause-slots c =
+    slots_same c.self.inside.rows c.reserve.new.self c.reserve.ensures.rows c.reserve.ensures.extent ∙ ap (λ v. v.slots) c.self.view_is
+
+pub returns-clause-slots : goal.returns-clause-slots
+returns-clause-slots c =
+    slots_same c.self.inside.rows c.reserve.new.self c.reserve.ensures.rows c.reserve.ensures.extent ∙ ap (λ v. v.slots) c.self.view_is

@@ -1,4 +1,4 @@
--- One value more has the type of its column.
+-- One more value has the type of its column.
 use Rattle.std.proofs.Common.{◌≡◌, ◌+◌, ℕ, false, not, true≢false, List, Some, map, take, refl, sym, ap, ◌∙◌}
 use Rattle.std.specs.Prelude.{slice_get}
 use Rattle.std.specs.Option.{option_map}

@@ -1,4 +1,4 @@
--- Of the references of the hash none is passed over.
+-- All references with the hash are compared.
 use Rattle.std.proofs.Common.{◌≡◌, ◌∷◌, ◌++◌, [], true≢false, sym, ap, ◌∙◌, subst}
 use Rattle.std.specs.List.{All, Contains}
 use Rattle.std.proofs.lemmas.List.{append-nil, append_assoc}

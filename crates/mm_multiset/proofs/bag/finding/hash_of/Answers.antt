@@ -1,4 +1,4 @@
--- In the end all values are in.
+-- At the end all values are combined.
 use Rattle.std.proofs.Common.{◌≡◌, fold, length, ap, ◌∙◌, arith}
 use Rattle.std.proofs.lemmas.List.{take_all}
 use Rattle.mm_multiset.specs.RowHash.{folded, row_hash, with_value}

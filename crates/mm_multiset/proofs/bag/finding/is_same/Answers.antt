@@ -1,4 +1,4 @@
--- Rows are the same where they are equally long and have the same values.
+-- Rows are equal exactly if they have the same length and the same values.
 use Rattle.std.proofs.Common.{◌≡◌, ◌≢◌, ℕ, zero, suc, ◌<◌, List, [], ◌∷◌, Some, length, true, false, true≢false, refl, sym, ap, ◌∙◌, ⊎_elim, arith}
 use Rattle.std.specs.Prelude.{slice_get}
 use Rattle.std.specs.Ordering.{is_eq, is_ne}

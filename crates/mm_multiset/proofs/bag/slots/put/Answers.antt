@@ -1,4 +1,4 @@
--- One slot has the row, and its count and its pair are there.
+-- One slot has the row, with its count and its pair.
 use Rattle.std.proofs.Common.{◌≡◌, ℕ, ap, ◌∙◌, subst, arith}
 use Rattle.mm_partition.specs.Places.{ChangesOnly, Free, IsLive, Live}
 use Rattle.slot_counts.specs.Numbers.{IsWritten}
@@ -17,26 +17,31 @@ insert-requires-clause-small c =
     let given : c.as_mut_slice.result.now ≡ c.args.row = c.as_mut_slice.ensures.value ∙ c.into_values-values.ensures in
     c.are_references_small.ensures c.place-at.result (c.args.row, c.place-at.ensures.placed.changed ∙ ap Live given)
 
+placed : (c : After-insert) → ChangesOnly c.args.rows.now c.place-at.new.self c.place-at.result (Live c.args.row)
+placed c =
+    let given : c.as_mut_slice.result.now ≡ c.args.row = c.as_mut_slice.ensures.value ∙ c.into_values-values.ensures in
+    subst (λ row. ChangesOnly c.args.rows.now c.place-at.new.self c.place-at.result (Live row)) given c.place-at.ensures.placed
+
+pub returns-clause-placed : goal.returns-clause-placed
+returns-clause-placed c = placed c
+
 turned : (c : After-insert) → Turns c.place-at.result.slot c.args.rows.now.slots c.place-at.new.self.slots c.args.counts.now.counts
-    c.set.new.self.counts Free (Live c.args.row) 0 c.args.count
+    c.set.new.self.counts Free (Live c.args.row) 0 0
 turned c =
     let old = c.args.counts.now.counts in
     let new = c.set.new.self.counts in
-    let written = subst (λ (i : ℕ). IsWritten i c.args.count old new) c.index_of.ensures c.set.ensures.counts in
+    let written = subst (λ (i : ℕ). IsWritten i 0 old new) c.index_of.ensures c.set.ensures.counts in
     let place = c.place-at.ensures in
-    let given : c.as_mut_slice.result.now ≡ c.args.row = c.as_mut_slice.ensures.value ∙ c.into_values-values.ensures in
-    let placed : ChangesOnly c.args.rows.now c.place-at.new.self c.place-at.result (Live c.args.row) =
-    subst (λ row. ChangesOnly c.args.rows.now c.place-at.new.self c.place-at.result (Live row)) given place.placed in
-    turned_put c.args.rows.now c.place-at.new.self c.place-at.result c.args.row old new c.args.count
-    c.requires.kept.marked place.fresh placed place.extent place.within written
+    turned_put c.args.rows.now c.place-at.new.self c.place-at.result c.args.row old new 0
+    c.requires.kept.marked place.fresh (placed c) place.extent place.within written
 
 pub returns-clause-kept : goal.returns-clause-kept
 returns-clause-kept c =
-    kept_put c.place-at.result.slot c.args.rows.now.slots c.place-at.new.self.slots c.args.counts.now.counts c.set.new.self.counts c.args.row c.args.count
+    kept_put c.place-at.result.slot c.args.rows.now.slots c.place-at.new.self.slots c.args.counts.now.counts c.set.new.self.counts c.args.row 0
     (turned c) c.args.by_hash.now.entries c.insert.new.self.entries c.args.hash c.requires.kept c.requires.new c.requires.hash
     c.insert.ensures.entries
 
 pub returns-clause-put : goal.returns-clause-put
 returns-clause-put c =
     entries_put c.place-at.result.slot c.args.rows.now.slots c.place-at.new.self.slots c.args.counts.now.counts c.set.new.self.counts
-    c.args.row c.args.count (turned c)
+    c.args.row 0 (turned c)

@@ -1,4 +1,4 @@
--- The total stays within its bounds, and each count is no more than it.
+-- The total stays within its bounds, and each count is at most the total.
 use Rattle.std.proofs.Common.{◌^◌, pos, ◌+ℤ◌, ◌≤ℤ◌, ◌<ℤ◌, ap, sym, subst, ◌∙◌, arith}
 use Rattle.std.proofs.lemmas.Int.{ints, to_z-of_z}
 use mir.Syntax.{w128}

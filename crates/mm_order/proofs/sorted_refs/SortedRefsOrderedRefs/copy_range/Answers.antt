@@ -12,7 +12,7 @@ use Rattle.mm_order.specs.Refs.{RefList}
 use Rattle.mm_order.proofs.Ordered.{entries_between-found, IsNonDecreasingBy-places}
 use Rattle.mm_order.proofs.sorted_refs.SortedRefsOrderedRefs.copy_range.Goals as goal
 
--- `&xs[n..]` is what is left of xs
+-- `&xs[n..]` is the rest of xs from n on
 rest_of : {X : Type 0} (xs : List X) (n : ℕ) → take (length xs - n) (drop n xs) ≡ drop n xs
 rest_of xs n = take_all (length xs - n) (drop n xs) (omega (arith, length-drop n xs))
 

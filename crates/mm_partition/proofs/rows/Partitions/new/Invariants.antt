@@ -4,7 +4,7 @@ use Rattle.std.specs.Vec.{vec_capacity, vec_len}
 use Rattle.mm_partition.specs.Cells.{types_of, size_of}
 use Rattle.mm_partition.proofs.rows.Partitions.new.Given as goal
 
--- the columns so far are of their types, and have no cells
+-- the columns so far have their types, and no cells
 abbrev pub invariant-loop-col_type : goal.invariant-loop-col_type
 invariant-loop-col_type l = record {
   types : types_of l.columns.items ≡ take l.col_type-index l.types;

@@ -11,7 +11,7 @@ use Rattle.mm_partition.proofs.rows.Partitions.trim.Goals as goal
 pub truncate_each-requires : goal.truncate_each-requires
 truncate_each-requires c k d h = omega (arith, c.drop_highest.ensures.cut.size, (c.self.invariant.cells k d h).size)
 
--- the states that are left, in the smaller block, and the columns
+-- the remaining states, in the smaller block, and the columns
 held : (columns new_columns : List Column) (states dropped left : List State) (extent : ℕ) → IsCut states dropped → left ≡ dropped → extent ≡ length dropped
     → ((k : ℕ) → k < extent → row_of new_columns k ≡ row_of columns k) → HoldsSame columns new_columns states left
 held columns new_columns states dropped left extent cut same size rows =

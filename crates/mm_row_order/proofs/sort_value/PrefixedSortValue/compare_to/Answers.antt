@@ -1,4 +1,4 @@
--- Prefixes that differ tell how the values stand.
+-- Different prefixes compare as the values do.
 use Rattle.std.proofs.Common.{sym, ap, ◌∙◌, arith}
 use Rattle.std.specs.Ordering.{ordering_reverse}
 use Rattle.mm_value.proofs.Orders.{value_cmp_total}

@@ -1,4 +1,4 @@
--- The index comes last in the table that it names.
+-- The index is appended to the table that it names.
 use Rattle.std.proofs.Common.{is_none, inl, refl, sym, ap, ◌∙◌}
 use Rattle.std.proofs.lemmas.Bool.{cond-true}
 use Rattle.indexmap.specs.IndexMap.{with_value_at}

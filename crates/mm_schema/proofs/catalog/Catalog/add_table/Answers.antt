@@ -5,7 +5,7 @@ use Rattle.mm_schema.proofs.CatalogLemmas.{IsPushed, entry_comes_last, sound_pus
 use Rattle.mm_schema.proofs.catalog.Catalog.add_table.Goals as goal
 use Rattle.mm_schema.proofs.catalog.Catalog.add_table.Goals.{Joined-branch-2}
 
--- Nothing refuses the table, so its entry comes last.
+-- Nothing refuses the table, so its entry is appended.
 pushed : (c : Joined-branch-2) → IsPushed c.args.definition c.self.inside.tables c.insert.new.self
 pushed c =
     c.in_ok-insert.ensures.entries

@@ -1,4 +1,4 @@
--- The index is gone from the one table that had it.
+-- The index is removed from the only table that had it.
 use Rattle.std.proofs.Common.{Some, None, cond, slice_get, refl, sym, ap, ◌∙◌}
 use Rattle.indexmap.specs.IndexMap.{with_value_at}
 use Rattle.mm_value.specs.declared.refusal.Refusal.TheVariants.{NoSuchIndex}

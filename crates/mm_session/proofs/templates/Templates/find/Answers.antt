@@ -11,19 +11,19 @@ fill_at-requires-clause-count c template at =
     let cut = c.cut.new.self in
     let both : ◌≡◌ (Some template) (Some cut.template) = sym at ∙ c.in_ok-number.ensures.found in
     let same : template ≡ cut.template = cc in
-    ap length (c.values.ensures ∙ ap (λ (cutter : Cut). cutter.values) c.in_ok-number.ensures.cutter)
+    ap length (c.values-values.ensures ∙ ap (λ (cutter : Cut). cutter.values) c.in_ok-number.ensures.cutter)
     ∙ ((c.cut.ensures c.if-not-cut.false).count ∙ ap (λ (t : List ℕ). hole_count (holes_of t)) (sym same))
 
-pub returns-clause-found : goal.returns-clause-found
-returns-clause-found c =
+pub returns-then-fill_at-clause-found : goal.returns-then-fill_at-clause-found
+returns-then-fill_at-clause-found c =
     let schema = c.args.database.now.schema in
     let line = c.args.line.now in
     let cut = c.cut.new.self in
     let number = c.in_ok-number.number in
     let new = record c.find_cut.new.self { slots = c.fill_at.new.slots } in
-    filled_found schema line cut.template cut.values number c.in_ok-filled.filled new
-    (subst (λ values. IsFilledAt schema cut.template values number c.in_ok-filled.filled new.slots.items)
-    (c.values.ensures ∙ ap (λ (cutter : Cut). cutter.values) c.in_ok-number.ensures.cutter)
-    (c.in_ok-filled.ensures.filled cut.template c.in_ok-number.ensures.found))
+    filled_found schema line cut.template cut.values number new
+    (subst (λ values. IsFilledAt schema cut.template values number new.slots.items)
+    (c.values-values.ensures ∙ ap (λ (cutter : Cut). cutter.values) c.in_ok-number.ensures.cutter)
+    (c.fill_at.ensures.filled c.if-fill_at.true cut.template c.in_ok-number.ensures.found))
     (λ command result read fills.
     c.cut_lines_read_as_fillings.ensures.reads line cut.template cut.values command result (c.cut.ensures c.if-not-cut.false) read fills)

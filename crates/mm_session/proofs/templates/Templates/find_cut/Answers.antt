@@ -1,5 +1,5 @@
 use Rattle.std.proofs.Common.{ℕ, List, Option, Some, map, ap, sym, ◌∙◌}
-use Rattle.mm_session.proofs.FilledForms.{some_more}
+use Rattle.std.proofs.lemmas.Option.{IfSome_then}
 use Rattle.mm_session.specs.Statements.{line_at}
 use Rattle.mm_session.specs.declared.statement.Statement.{Statement}
 use Rattle.mm_session.specs.steps.Places.{line_in}
@@ -12,5 +12,5 @@ returns-in-Some-clause-found c =
 
 pub returns-clause-found : goal.returns-clause-found
 returns-clause-found c =
-    some_more _ _ c.put.result (λ number is. is ∙ ap (λ (t : List ℕ). Some t) (c.in_ok-statement.ensures.line ∙ c.template-template.ensures))
-    c.put.ensures.there
+    IfSome_then c.put.result c.put.ensures.there
+    (λ number is. is ∙ ap (λ (t : List ℕ). Some t) (c.in_ok-statement.ensures.line ∙ c.template-template.ensures))

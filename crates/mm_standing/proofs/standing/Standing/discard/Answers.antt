@@ -1,19 +1,11 @@
--- With nothing ready all is sound.
-use Rattle.std.proofs.Common.{List, sym, subst, arith}
-use Rattle.mm_standing.specs.Bags.{IsSound, undos}
-use Rattle.mm_standing.specs.declared.change.Prepared.{Prepared}
-use Rattle.mm_standing.proofs.Rest.{sound_discarded}
+-- The log names the rows whose count is 0.
+use Rattle.std.proofs.Common.{List, [], subst}
+use Rattle.mm_standing.specs.Bags.{IsSound}
+use Rattle.mm_standing.specs.declared.change.ListChange.{ListChange}
+use Rattle.mm_standing.proofs.Dropping.{lean_sound}
 use Rattle.mm_standing.proofs.standing.Standing.discard.Goals as goal
 
-pub invariant_of-self : goal.invariant_of-self
-invariant_of-self c =
-    let old = c.self.inside in
-    let fits = c.self.invariant.1 in
-    let less = c.clear.ensures.len in (
-      subst (λ (ps : List Prepared). IsSound old.bags.items ps (undos old.log.items)) (sym c.clear.ensures.items)
-          (sound_discarded old.bags.items old.prepared.items (undos old.log.items) c.self.invariant.0),
-      omega (arith, fits, less),
-      c.self.invariant.2,
-      c.self.invariant.3,
-      c.self.invariant.4,
-    )
+pub returns-clause-lean : goal.returns-clause-lean
+returns-clause-lean c =
+    lean_sound c.drop_all.new.bags.items c.self.inside.log.items
+    (subst (λ (l : List ListChange). IsSound c.drop_all.new.bags.items [] l) c.as_slice.ensures.value c.drop_all.ensures.sound)

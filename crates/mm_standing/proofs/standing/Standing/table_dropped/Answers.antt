@@ -19,7 +19,7 @@ loop-watched-preserved c =
     let within : i < length queries = omega (arith, long, so_far, c.loop-watched-test.true, c.loop-watched.auto.watched-items) in
     changed_more f queries now i c.table_dropped.new.self c.watched-item.result c.loop-watched.invariant within c.table_dropped.ensures
 
--- All of them have, and the types of their fields are as they were.
+-- All queries have their new places, and the types of their fields are unchanged.
 pub invariant_of-self : goal.invariant_of-self
 invariant_of-self c =
     let old = c.self.inside in
@@ -38,6 +38,5 @@ invariant_of-self c =
       c.self.invariant.0,
       c.self.invariant.1,
       omega (arith, size, length-map queries f, was, c.self.invariant.2),
-      c.self.invariant.3,
-      c.self.invariant.4 ∙ ap (map types) same ∙ sym (types_turned f (λ s. refl) queries) ∙ sym (ap (map types) whole),
+      c.self.invariant.3 ∙ ap (map types) same ∙ sym (types_turned f (λ s. refl) queries) ∙ sym (ap (map types) whole),
     )

@@ -5,7 +5,7 @@ use Rattle.mm_tables.proofs.Room.{HasFewSpares-trimmed, shape_trimmed}
 use Rattle.mm_tables.proofs.logged_table.LoggedTable.trim.Goals as goal
 
 pub returns-clause-few : goal.returns-clause-few
-returns-clause-few c = HasFewSpares-trimmed c.args.n _ _ c.trim_spares.ensures.rest c.trim_spares.ensures.indexes
+returns-clause-few c = HasFewSpares-trimmed c.args.n c.trim_slots.new.self.rows _ c.trim_spares.ensures.spare c.trim_spares.ensures.indexes
 
 pub returns-clause-slots : goal.returns-clause-slots
 returns-clause-slots c =
@@ -14,4 +14,5 @@ returns-clause-slots c =
 
 pub returns-clause-shape : goal.returns-clause-shape
 returns-clause-shape c =
-    shape_trimmed c.args.n _ _ c.trim_spares.ensures.rest c.trim_spares.ensures.indexes ∙ c.trim_slots.ensures.shape
+    shape_trimmed c.args.n c.trim_slots.new.self.rows c.trim_spares.new.self c.trim_spares.ensures.rest c.trim_spares.ensures.indexes
+    ∙ c.trim_slots.ensures.shape

@@ -1,4 +1,4 @@
--- The lists stand still where tables and indexes change, and fit still where a standing query goes.
+-- The lists stay when tables and indexes change, and still fit when a standing query is dropped.
 use Rattle.std.proofs.Common.{◌≡◌, ap, subst, ◌∙◌}
 use Rattle.mm_schema.specs.Indexes.{drop_index_conditions, index_conditions}
 use Rattle.mm_schema.specs.Refused.{first_refusal}
@@ -50,7 +50,7 @@ invariant_of-self-in-DropIndex c =
     (rest_by_no_index schema store lists rest c.drop_index.new.catalog c.drop_index.new.store c.drop_index.ensures.kept c.in-DropIndex.name)
     c.drop_index.ensures.ok c.drop_index.ensures.err
 
--- ---- nothing is to be taken back where a change concerns more than an index
+-- ---- the logs are empty if a change concerns more than an index
 
 pub add_table-requires-clause-log : goal.add_table-requires-clause-log
 add_table-requires-clause-log c = ap (λ (h : Holdings). h.store.stored.log) c.self.view_is ∙ (c.requires.settled (ap is_of_index c.in-Table.is)).edits

@@ -1,4 +1,4 @@
--- The table at the place of a name goes from the catalog and from the store.
+-- The table at the place of a name is dropped from the catalog and from the store.
 use Rattle.std.proofs.Common.{◌≡◌, ◌≢◌, cond, List, Some, None, inl, sym, ap, subst, ◌∙◌, arith}
 use Rattle.std.specs.List.{All}
 use Rattle.std.proofs.lemmas.Result.{err_from_is_err_and}

@@ -1,4 +1,4 @@
--- What was staged for edits that are refused is undone.
+-- The rows that were staged for refused edits are undone.
 use Rattle.std.proofs.Common.{◌≡◌, refl, sym, ap, subst, ◌∙◌, arith}
 use Rattle.mm_store.specs.Marks.{mark_of}
 use Rattle.mm_txn.specs.Contents.{Holdings}

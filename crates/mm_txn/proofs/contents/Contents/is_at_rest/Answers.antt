@@ -1,4 +1,4 @@
--- The mark now stands for the rows as they are.
+-- A mark taken now captures the current rows.
 use Rattle.std.proofs.Common.{◌≡◌, length, subst}
 use Rattle.mm_store.specs.Marks.{mark_of, rows_at_mark}
 use Rattle.mm_txn.specs.Contents.{Holdings, IsAtRest}

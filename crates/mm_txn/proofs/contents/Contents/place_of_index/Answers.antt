@@ -1,4 +1,4 @@
--- The index of a name, and the relation beside its table.
+-- The index with a name, and the relation of its table.
 use Rattle.std.proofs.Common.{◌≡◌, ◌<◌, true, false, cond, Some, None, is_none, length, sym, ap, subst, ◌∙◌, arith}
 use Rattle.std.specs.Option.{option_copied}
 use Rattle.std.proofs.lemmas.Result.{err_from_is_err_and}

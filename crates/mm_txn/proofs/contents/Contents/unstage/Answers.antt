@@ -1,4 +1,4 @@
--- The rows are the current ones still.
+-- The rows are still the current ones.
 use Rattle.std.proofs.Common.{◌≡◌, ℕ, ◌≤◌, refl, sym, ap, subst, ◌∙◌}
 use Rattle.mm_indexed.specs.Index.{EachTurns}
 use Rattle.mm_plan.specs.Kept.{instance_of}

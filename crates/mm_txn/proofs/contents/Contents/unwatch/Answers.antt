@@ -1,4 +1,4 @@
--- The query and the list at the place of the name go.
+-- The query and the list at the place of the name are dropped.
 use Rattle.std.proofs.Common.{◌≡◌, Some, None, inl, sym, ap, subst, ◌∙◌, arith}
 use Rattle.std.proofs.lemmas.Result.{err_from_is_err_and}
 use Rattle.mm_schema.specs.Refused.{first_refusal}

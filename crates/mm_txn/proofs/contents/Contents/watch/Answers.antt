@@ -1,4 +1,4 @@
--- A query begins to stand, in the catalog and in the lists, or in neither.
+-- A standing query is created in the catalog and in the lists, or in neither.
 use Rattle.std.proofs.Common.{◌≡◌, false, inl, inr, length, map, sym, ap, subst, ◌∙◌, ⊎_elim}
 use Rattle.std.proofs.lemmas.Result.{err_from_is_err_and}
 use Rattle.mm_laws.specs.Typing.{AreTyped}

@@ -1,4 +1,4 @@
--- The rows now are those at the beginning.
+-- The current rows are those at the beginning.
 use Rattle.std.proofs.Common.{◌≡◌, Bool, false, true, sym, ap, subst, ◌∙◌}
 use Rattle.mm_query.specs.Machine.{after_begin}
 use Rattle.mm_txn.specs.Saved.{IsConsistent, kept_state}

@@ -1,4 +1,4 @@
--- What was changed is final.
+-- The changes are final.
 use Rattle.std.proofs.Common.{refl}
 use Rattle.mm_txn.proofs.OpenSteps.{settled_outside}
 use Rattle.mm_txn.proofs.database.Db.commit.Goals as goal

@@ -1,4 +1,4 @@
--- A change of the catalog is one of the state, and all is consistent after it.
+-- A change of the catalog is one of the state, and everything is consistent after it.
 use Rattle.std.proofs.Common.{◌≡◌, ◌&&◌, not, false, OnOk, OnErr, sym, subst, ◌∙◌}
 use Rattle.mm_query.specs.Machine.{after_definition, is_of_index}
 use Rattle.mm_query.specs.State.{State}

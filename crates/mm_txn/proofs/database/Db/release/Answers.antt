@@ -1,4 +1,4 @@
--- The marks before the latest one of the name stay, and the transaction can go back to them still.
+-- The marks before the latest one with the name remain, and the transaction can still be rolled back to them.
 use Rattle.std.proofs.Common.{◌≡◌, Bool, true, false, List, Some, sym, ap, arith, ◌∙◌, subst}
 use Rattle.std.specs.List.{All}
 use Rattle.std.proofs.lemmas.List.Elements.{recursion_from_All}

@@ -1,4 +1,4 @@
--- The rows are those at the latest savepoint of the name, to which the transaction can go back still.
+-- The rows are those at the latest savepoint with the name, to which the transaction can still be rolled back.
 use Rattle.std.proofs.Common.{◌≡◌, ℕ, suc, ◌+◌, ◌<◌, ◌≤◌, Bool, true, false, List, length, Option, Some, IfSome, take, slice_get, refl, sym, ap}
 use Rattle.std.proofs.Common.{subst, ◌∙◌, arith}
 use Rattle.std.specs.List.{All}

@@ -1,4 +1,4 @@
--- The new rows of the edits' tables are the state's, and what is saved stays.
+-- The new rows of the edits' tables are the state's, and the saved rows stay the same.
 use Rattle.std.proofs.Common.{◌≡◌, ℕ, ◌<◌, ◌≤◌, Err, Ok, List, Option, None, [], ◌∷◌, inl, inr, length, map, refl, sym, ap, subst, ◌∙◌, arith}
 use Rattle.std.specs.List.{All}
 use Rattle.std.proofs.lemmas.Result.{err_from_is_err_and}
@@ -220,7 +220,7 @@ returns-clause-count c = λ mutation is.
 
 -- ---- the change is refused
 
--- what was staged is undone, and all is as before
+-- the staged rows are undone, and everything is as before
 module _ (c : In-Err) where
   abbrev before : Holdings
   before = c.self.inside.contents
@@ -304,7 +304,7 @@ returns-in-Err-clause-err c =
     let queries = ap queries_of made.queries in
     (λ i. record { schema = same i; rows = kept.rows i; queries = queries i; saved = saved i }) ∙ c.self.view_is
 
--- ---- what is read
+-- ---- the rows read
 
 pub returns-in_err-edits-clause-reads : goal.returns-in_err-edits-clause-reads
 returns-in_err-edits-clause-reads c = λ mutation is. inl refl

@@ -1,4 +1,4 @@
--- The transaction can go back to the rows now too.
+-- The transaction can also be rolled back to the current rows.
 use Rattle.std.proofs.Common.{◌≡◌, ℕ, Bool, true, List, [], ◌∷◌, ◌++◌, sym, ap, subst}
 use Rattle.mm_txn.specs.Saved.{IsConsistent}
 use Rattle.mm_txn.specs.declared.savepoints.Mark.{Mark}

@@ -4,7 +4,7 @@ use Rattle.std.specs.Io.KnownBytes.{WriteAppends}
 use Rattle.mm_value.specs.Watched.{inner_of}
 use Rattle.mm_value.proofs.device.Watched.write_again.Given as goal
 
--- the calls so far did what the last one did
+-- the calls so far had the effect of the last one
 abbrev pub invariant-loop-outcome : goal.invariant-loop-outcome
 invariant-loop-outcome g l = record {
   bound : WritesAtMost l.outcome l.buf;

@@ -3,7 +3,7 @@ use Rattle.std.specs.Io.KnownBytes.{ReadConsumes}
 use Rattle.mm_value.specs.Watched.{inner_of}
 use Rattle.mm_value.proofs.device.WatchedRead.read.Given as goal
 
--- the calls so far did what the last one did
+-- the calls so far had the effect of the last one
 abbrev pub invariant-loop-given : goal.invariant-loop-given
 invariant-loop-given g l = record {
   bound : ReadsAtMost l.given l.buf;

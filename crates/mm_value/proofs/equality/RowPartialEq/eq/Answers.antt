@@ -1,4 +1,4 @@
--- Rows of the same values tie.
+-- Rows with the same values tie.
 use Rattle.std.proofs.Common.{◌∙◌}
 use Rattle.mm_value.specs.Equality.{same_row}
 use Rattle.mm_value.specs.EqualityLaws.{rows_by_values}

@@ -1,4 +1,4 @@
--- Texts of the same bytes tie.
+-- Texts with the same bytes tie.
 use Rattle.std.proofs.Common.{◌∙◌, sym}
 use Rattle.std.specs.Cmp.Lexicographic.{texts_ties}
 use Rattle.mm_value.specs.Equality.{same_value}

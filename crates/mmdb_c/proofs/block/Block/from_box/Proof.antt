@@ -1,4 +1,4 @@
--- A box is taken apart, and what it owned stays owned.
+-- A box is taken apart, and its resources stay owned.
 use mathlib.Core.Path.{◌≡◌, refl, sym, ap, ◌∙◌, subst}
 use mathlib.Core.List.{List, [], ◌∷◌, ◌++◌}
 use mir.Val.{Val, vstruct, of_list}

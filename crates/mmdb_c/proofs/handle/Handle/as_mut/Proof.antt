@@ -1,4 +1,4 @@
--- The value is lent through the pointer.
+-- The value is borrowed through the pointer.
 use mathlib.Core.Path.{◌≡◌, refl, sym, ap, ◌∙◌}
 use mathlib.Core.List.{List, [], ◌∷◌}
 use mir.Syntax.{named}

@@ -1,4 +1,4 @@
--- What an open handle owns is a block again.
+-- The resources of an open handle are a block again.
 use mathlib.Core.Path.{◌≡◌, refl, sym, ap, ◌∙◌, subst}
 use mathlib.Core.List.{List, [], ◌∷◌, ◌++◌}
 use mir.Val.{Val}
@@ -44,7 +44,7 @@ into_block_spec 𝓤 𝓛 𝓜 𝓡 wired =
     move ! (1 ∷ []) $ heard ! (h.is_open ≡ true) (λ opened.
     split ! $ drop ! $ fsplit ! $ handle_out ! h y.0.4.0 (λ ws. block_out ! h opened (λ b at e.
     move ! (2 ∷ []) $ fsplit ! $ handle_tells Al ! a y.0.4.1.0 (λ hv hws fits.
-    -- [what the allocator owns; nothing; the value; the right to free it]
+    -- [the allocator's resources; nothing; the value; the right to free it]
     let w = word true (block_ptr b at) in
     let passed = ws ∙ ap (λ (t : Bool). word t h.at ∷ []) opened ∙ ap (λ (p : Ptr). word true p ∷ []) e in
     suffices ! (Run (w ∷ hv ∷ [])) (subst (λ (us : List Val). ent 𝓤 (Run (w ∷ hv ∷ [])) (Run us)) (sym (λ i. passed i ++ (hws i ++ []))) (id⊢ 𝓤 _)) $

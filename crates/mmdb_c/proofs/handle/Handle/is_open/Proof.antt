@@ -36,7 +36,7 @@ is_open_spec 𝓤 𝓛 𝓜 𝓡 wired =
     enter ! _ _ _ _ _ $ alloc_all ! (λ l. pass_all ! refl ((tt, tt), tt) $
     fsplit3 ! $ move ! (1 ∷ 2 ∷ 3 ∷ []) $ opens ! tt H b o (λ us. move ! (1 ∷ []) $ handle_out ! h us (λ ws.
     let Cell = λ (xs : List Val). ‵ (cell_at full_share H.mir xs b o) in rewrite ! 1 Cell ws refl $
-    -- [what the handle owns; its cell; the open borrow, in three entries]
+    -- [the resources of the handle; its cell; the open borrow, in three entries]
     sets ! (of_opd ! (load ! (through ! refl (fld ! refl (stop !))) (look_in ! 1 (sub ! 1 refl (whole !))))) refl (tt, tt) $
     handle_in ! h $ move ! (1 ∷ []) $ closes ! tt H h (word h.is_open h.at ∷ []) b o $
     returns ! (look_at ! 0 refl) $ free_all ! refl $ move ! (3 ∷ []) $

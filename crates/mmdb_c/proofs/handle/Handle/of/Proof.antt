@@ -1,4 +1,4 @@
--- What a block owns is an open handle's.
+-- The resources of a block become those of an open handle.
 use mathlib.Core.Path.{refl, sym, subst}
 use mathlib.Core.List.{List, [], ◌∷◌, ◌++◌}
 use mir.Val.{Val}
@@ -41,7 +41,7 @@ of_spec 𝓤 𝓛 𝓜 𝓡 wired =
     qed 𝓛 ((‵ ftrue ⊛ ‵ (owns (types_at f.ended.signature.params y.0.0) y.0.3 y.0.4)) ∷ ‵ ftrue ∷ []) ∵
     split ! $ drop ! $ fsplit ! $ use1 𝓛 (‵ ((Kept L Heap Al.g).own_val o y.0.4.0)) (id⊢ 𝓤 _) $
     taken_apart L Heap Al.g Al.laws Al.d Al.drops ! o y.0.4.0 (λ b at hv e ws fits.
-    -- [the value; the right to free it; what the allocator owns; nothing; nothing]
+    -- [the value; the right to free it; the allocator's resources; nothing; nothing]
     suffices ! (Run (block_word hv b at ∷ [])) (subst (λ (us : List Val). ent 𝓤 (Run (block_word hv b at ∷ [])) (Run us)) (sym (λ i. ws i ++ [])) (id⊢ 𝓤 _)) $
     enter ! 𝓣.C 𝓣.Λ code.function (block_word hv b at ∷ []) Post $ alloc_all ! (λ l. pass_all ! refl (box_typed Boxed hv b at fits, tt) $
     sets ! (of_opd ! (get_in ! (fld ! refl (stop !)) (sub ! 0 refl (whole !)))) refl (tt, tt) $

@@ -2,7 +2,7 @@ use Rattle.std.proofs.Common.{◌+◌, ◌≤◌, length}
 use Rattle.mmdb_c.proofs.Running.{Continues}
 use Rattle.mmdb_c.proofs.library.Library.run_many.Given as goal
 
--- what the runs so far and those of the other cells do, all of them do
+-- the runs so far and those of the other cells together are those of all cells
 abbrev pub invariant-loop-rest : goal.invariant-loop-rest
 invariant-loop-rest l = record {
   continues : Continues l.number l.width l.runs l.fn.cells l.rest l.fn.self l.self;

@@ -1,4 +1,4 @@
--- The flag of the slot tells its new count.
+-- The flag of the slot says whether its new count is not 0.
 use Rattle.std.proofs.Common.{set, sym, ap, ◌∙◌}
 use Rattle.std.proofs.lemmas.List.{map-set}
 use Rattle.slot_counts.specs.Numbers.{is_counted}

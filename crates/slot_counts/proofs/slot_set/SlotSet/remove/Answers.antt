@@ -1,4 +1,4 @@
--- The slot's place is that of a member, and the last member comes there.
+-- The slot's place is that of a member, and the last member moves there.
 use Rattle.std.proofs.Common.{◌≡◌, ◌≢◌, ℕ, ◌+◌, ◌-◌, ◌<◌, Bool, List, false, true, length, get_or, set, ap, sym, ◌∙◌, subst, arith}
 use Rattle.std.specs.List.{swap_remove}
 use Rattle.std.specs.Vec.{vec_len}
@@ -13,7 +13,7 @@ there places i has same is = present_is (get_or places i absent) (sym (has_at pl
 place_is : (places : List ℕ) (i p : ℕ) → get_or places i absent ≢ absent → p ≡ get_or places i p → p ≡ get_or places i absent
 place_is places i p there read = read ∙ get_or_default places i p absent (inside places i there)
 
--- What is read at a place that is the same.
+-- A read at an equal place.
 module _ (members places new_members mid : List ℕ) (i p x n : ℕ) (n_is : n ≡ length members)
     (was : IsPlaced members places) (some : get_or places i absent ≢ absent)
     (p_is : p ≡ get_or places i absent) (value : x ≡ get_or members p x) (items : new_members ≡ swap_remove members p x)

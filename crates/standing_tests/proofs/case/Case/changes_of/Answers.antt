@@ -1,4 +1,4 @@
--- What was staged changes nothing of the case.
+-- Staged rows do not change the case.
 use Rattle.std.proofs.Common.{◌<◌, length, arith}
 use Rattle.standing_tests.proofs.Staging.{marked_staged}
 use Rattle.standing_tests.proofs.case.Case.changes_of.Goals as goal

@@ -1,4 +1,4 @@
--- With no standing query the lists have the rows of their queries, now and at the start.
+-- Without standing queries the lists have the rows of their queries, now and at the start.
 use Rattle.std.proofs.Common.{ap}
 use Rattle.mm_standing.specs.State.{Lists}
 use Rattle.standing_tests.specs.Cases.{IsCase, IsMark}

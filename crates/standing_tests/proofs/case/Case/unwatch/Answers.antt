@@ -1,4 +1,4 @@
--- With nothing to take back the other lists fit still.
+-- With nothing to undo the other lists still fit.
 use Rattle.std.proofs.Common.{sym, ap, subst, ◌∙◌}
 use Rattle.mm_standing.specs.State.{Lists}
 use Rattle.standing_tests.specs.Cases.{IsCase, IsMark}

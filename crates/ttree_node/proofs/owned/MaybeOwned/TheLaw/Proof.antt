@@ -1,4 +1,4 @@
--- Whoever borrows an owner that may be empty shares its value too.
+-- A borrow of a `MaybeOwned` shares its value too.
 use mathlib.Core.List.{[], ◌++◌}
 use mir.Syntax.{Ty}
 use mir.Raw.{raw}

@@ -1,4 +1,4 @@
--- The value, which is there, is read through the pointer.
+-- The value, which exists, is read through the pointer.
 use mathlib.Core.Path.{refl, sym}
 use Prim.Native.Nat.{◌+◌}
 use mathlib.Core.List.{List, [], ◌∷◌}
@@ -63,7 +63,7 @@ as_ref_spec 𝓤 𝓛 𝓜 𝓡 wired T A L K g d dd met glue =
     (owner.the_lent R (param 1 A) g) κ o b at) $ split ! $
     move ! (1 ∷ []) $ unhide ! $ rewrite ! 0 (λ (y : Option R.Denot). ‵ (maybe_lends R o.at y κ)) is refl $ fsplit ! $ use1 𝓛
     (raw (fact 𝓤 (InBlock o.at))) (in_block_says 𝓛 o.at) $ heard ! (InBlock o.at) (λ inside. hide ! $
-    -- [a `&` to the value; one to the fields; one to the owner; nothing; the token; the other tokens; the `requires`]
+    -- [a shared reference to the value; one to the fields; one to the owner; nothing; the token; the other tokens; the `requires`]
     move ! (1 ∷ 4 ∷ []) $ enter ! _ _ _ _ _ $ alloc_all ! (λ l. pass_all ! refl ((tt, tt), tt) $ first ! $ blocks ! $
     pointer_in ! tt o.at inside b (at + 0) (shows_pointer T A g L K 𝓛 κ b at o) (λ q.
     sets_last ! (addr ! (through ! refl (fld ! refl (hop ! (look ! 1 refl) (stop !))))) refl (tt, tt) $

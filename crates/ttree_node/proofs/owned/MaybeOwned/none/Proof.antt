@@ -1,4 +1,4 @@
--- There is no value, and a pointer to nothing.
+-- There is no value, and the pointer is null.
 use mathlib.Core.Path.{refl, sym, subst}
 use mathlib.Core.List.{List, [], ◌∷◌, ◌++◌}
 use lib.Dec.{lit<}
@@ -52,7 +52,7 @@ none_spec 𝓤 𝓛 𝓜 𝓡 wired T A L K g d dd met glue =
     split ! $ move ! (1 ∷ []) $ fsplit ! $ handle_tells (allocator T A g K d dd) ! o y.0.4.0 (λ h ws fits.
     let w = vstruct (vcons vnull (vcons h vnil)) in
     let r : MaybeOwned T.Denot A.Denot = record { at = null_ptr; alloc = o; value = None } in
-    -- [the allocator's; nothing; the tokens; the `requires`]
+    -- [the allocator's part; nothing; the tokens; the `requires`]
     suffices ! (Run (h ∷ [])) (subst (λ (us : List Val). ent 𝓤 (Run (h ∷ [])) (Run us)) (sym (λ i. ws i ++ [])) (id⊢ 𝓤 (Run (h ∷ [])))) $
     enter ! 𝓣.C 𝓣.Λ fn (h ∷ []) Post $ alloc_all ! (λ l. pass_all ! refl (fits, tt) $
     sets ! (of_opd ! (lit ! tt)) refl (tt, record { fits = lit< tt }) $

@@ -1,4 +1,4 @@
--- Whoever borrows an owner shares its value too.
+-- A borrow of an owner shares its value too.
 use mathlib.Core.List.{[], ◌++◌}
 use mir.Raw.{raw}
 use base.Fraction.{full_share}

@@ -1,4 +1,4 @@
--- The value is lent through the pointer.
+-- The value is borrowed through the pointer.
 use mathlib.Core.Path.{refl}
 use mathlib.Core.List.{List, [], ◌∷◌}
 use mir.Syntax.{named}
@@ -52,7 +52,7 @@ as_mut_spec 𝓤 𝓛 𝓜 𝓡 wired T A L K g d dd met glue =
     split ! $ split ! $ move ! (2 ∷ []) $ fsplit ! $ enter ! _ _ _ _ _ $ alloc_all ! (λ l. pass_all ! refl ((tt, tt), tt) $
     fsplit3 ! $ move ! (1 ∷ 2 ∷ 4 ∷ []) $ opens ! tt O rb ro (λ us. move ! (1 ∷ []) $ owner_out T A g K d dd ! o us (λ b at h e ws fits.
     rewrite ! 3 (λ (xs : List Val). ‵ (cell_at full_share O.mir xs rb ro)) ws refl $
-    -- [the value; the right to free it; the allocator's; the cell; the open borrow, in three entries]
+    -- [the value; the right to free it; the allocator's part; the cell; the open borrow, in three entries]
     first ! $ blocks ! $
     sets_last ! (addr ! (through ! refl (fld ! refl (hop ! (look_in ! 3 (sub ! 0 refl (whole !))) (stop !))))) refl (tt, tt) $
     exec ! 𝓣.C 𝓣.Λ (env fn.locals l) (after 1 fn.body) (at_ret _ Post) $

@@ -54,7 +54,7 @@ as_ref_spec 𝓤 𝓛 𝓜 𝓡 wired T A L K g d dd met glue =
     (lent_out 𝓛 (owner.struct R (param 1 A) g) (owner.the_codes R.Denot A.Denot R.coded (param 1 A).coded) (owner.the_heap R (param 1 A) g)
     (owner.the_lent R (param 1 A) g) κ o b at) $ split ! $
     move ! (1 ∷ []) $ unhide ! $ fsplit ! $ use1 𝓛 (raw (fact 𝓤 (InBlock o.at))) (in_block_says 𝓛 o.at) $ heard ! (InBlock o.at) (λ inside. hide ! $
-    -- [a `&` to the value; one to the fields; one to the owner; nothing; the token; the other tokens; the `requires`]
+    -- [a shared reference to the value; one to the fields; one to the owner; nothing; the token; the other tokens; the `requires`]
     move ! (1 ∷ 4 ∷ []) $ enter ! _ _ _ _ _ $ alloc_all ! (λ l. pass_all ! refl ((tt, tt), tt) $ first ! $ blocks ! $
     pointer_in ! tt o.at inside b (at + 0) (shows_pointer T A g L K 𝓛 κ b at o) (λ q.
     sets_last ! (addr ! (through ! refl (fld ! refl (hop ! (look ! 1 refl) (stop !))))) refl (tt, tt) $

@@ -1,4 +1,4 @@
--- A box is taken apart, and what it owned stays owned.
+-- A box is taken apart, and its parts stay owned.
 use mathlib.Core.Path.{◌≡◌, refl, sym, ap, ◌∙◌, subst}
 use mathlib.Core.List.{List, [], ◌∷◌, ◌++◌}
 use mir.Val.{Val, vstruct, of_list}
@@ -76,7 +76,7 @@ from_box_spec 𝓤 𝓛 𝓜 𝓡 wired T A L K g d dx dd allocates glue glued =
     in_a_block ! r.0 (λ p. block_owns (g.dealloc_token a) (param 0 T) p v.value) (fst∗ 𝓤 (never 𝓤) (sem 𝓛 (may_free T A g K d dd a null_ptr))) (λ b' at' e'.
     move ! (1 ∷ []) $ split ! $ move ! (1 ∷ []) $ fpick ! (λ vss. fsplit ! $ feq_l ! (λ pair. fsplit ! $ feq_l ! (λ pointer. fsplit ! $
     rewrite ! 0 (λ (s : A.Denot). ‵ (A.own_val s vss.1.0)) same refl $ handle_tells (allocator T A g K d dd) ! a vss.1.0 (λ h' handle fits'.
-    -- [the allocator's; nothing; the tokens; the block]
+    -- [the allocator's part; nothing; the tokens; the block]
     let made = box.box_typed E h' b' at' fits' in
     let at_block = pointer ∙ ap (λ (p : Ptr). ptr_val p ∷ []) e' in
     lands_as ! (ap only (pair ∙ (λ j. vstruct (of_list (at_block j ++ (handle j ++ []))) ∷ []))) refl made $

@@ -1,4 +1,4 @@
--- A box is made of the pointer again.
+-- The pointer becomes a box again.
 use mathlib.Core.Path.{◌≡◌, refl, sym, ap, subst}
 use mathlib.Core.List.{List, [], ◌∷◌, ◌++◌}
 use lib.Dec.{T as IsTrue}
@@ -60,7 +60,7 @@ into_box_spec 𝓤 𝓛 𝓜 𝓡 wired T A L K g d dx dd allocates glue glued =
     split ! $ move ! (1 ∷ []) $ fsplit ! $ owner_out T A g K d dd ! o y.0.4.0 (λ b at h e ws fits.
     let w = word h b at in let typed = box.box_typed E h b at fits in
     let z : Called.Ghost = ((κs, qs, tt, (a, (block_ptr b at, tt)), (h ∷ [], (vptr b at ∷ [], tt))), o.value) in
-    -- [the value; the right to free it; the allocator's; nothing; the tokens; the `requires`]
+    -- [the value; the right to free it; the allocator's part; nothing; the tokens; the `requires`]
     fjoin ! $ move ! (4 ∷ []) $ use1 𝓛 (raw (fact 𝓤 (κs.0 ⊑ T.lives)) ⊛ raw (fact 𝓤 (κs.1.0 ⊑ A.lives)) ⊛ ‵ ftrue) (id⊢ 𝓤 _) $ split3 ! $
     move ! (2 ∷ []) $ drop ! $ move ! (1 ∷ 2 ∷ []) $ join ! $ move ! (1 ∷ 0 ∷ []) $ join ! $
     move ! (2 ∷ []) $ feq_i ! (List Val) (vptr b at ∷ []) (vptr b at ∷ []) refl $ fjoin ! $ move ! (2 ∷ 0 ∷ []) $ fjoin ! $

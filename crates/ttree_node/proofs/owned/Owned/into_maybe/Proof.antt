@@ -1,4 +1,4 @@
--- An owner is taken apart, and its parts are put where there may be nothing.
+-- An owner is taken apart, and its parts become a `MaybeOwned`.
 use mathlib.Core.Path.{refl, sym, subst}
 use mathlib.Core.List.{List, [], ◌∷◌, ◌++◌}
 use mir.Val.{Val}
@@ -48,7 +48,7 @@ into_maybe_spec 𝓤 𝓛 𝓜 𝓡 wired T A L K g d dd met glue =
     split ! $ move ! (1 ∷ []) $ fsplit ! $ owner_out T A g K d dd ! o y.0.4.0 (λ b at h e ws fits.
     let w = word h b at in let typed = box.box_typed E h b at fits in
     let r : MaybeOwned T.Denot A.Denot = record { at = o.at; alloc = o.alloc; value = Some o.value } in
-    -- [the value; the right to free it; the allocator's; nothing; the tokens; the `requires`]
+    -- [the value; the right to free it; the allocator's part; nothing; the tokens; the `requires`]
     suffices ! (Run (w ∷ [])) (subst (λ (us : List Val). ent 𝓤 (Run (w ∷ [])) (Run us)) (sym (λ i. ws i ++ [])) (id⊢ 𝓤 (Run (w ∷ [])))) $
     enter ! 𝓣.C 𝓣.Λ fn (w ∷ []) Post $ alloc_all ! (λ l. pass_all ! refl (typed, tt) $
     sets ! (of_opd ! (get_in ! (fld ! refl (stop !)) (sub ! 0 refl (whole !)))) refl (tt, tt) $

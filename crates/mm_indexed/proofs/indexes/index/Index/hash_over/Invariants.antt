@@ -4,7 +4,7 @@ use Rattle.mm_schema.specs.declared.index.IndexKind.TheVariants as kind
 use Rattle.mm_indexed.specs.Index.{IsOn, Keeps, spare_of}
 use Rattle.mm_indexed.proofs.indexes.index.Index.hash_over.Given as goal
 
--- the index contains the references so far, and has room for the others
+-- the index contains the references so far, and has capacity for the others
 abbrev pub invariant-loop-at : goal.invariant-loop-at
 invariant-loop-at l = record {
   keeps : Keeps l.key (slot_at l.rows) (take l.at-index l.refs) l.index;

@@ -5,7 +5,7 @@ use Rattle.mm_lang.specs.QueryText.{named_field, tests_text}
 use Rattle.mm_lang.proofs.QueryTexts.{named_test}
 use Rattle.mm_lang.proofs.write.query_text.FieldNames.write_test_list.Given as goal
 
--- the tests so far were written, the first one among them
+-- the tests so far, including the first one, were written
 abbrev pub invariant-loop-i : goal.invariant-loop-i
 invariant-loop-i g l = record {
   some : 1 ≤ l.i;

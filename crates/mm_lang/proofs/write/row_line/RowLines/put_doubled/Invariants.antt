@@ -4,7 +4,7 @@ use Rattle.mm_value.specs.declared.device.WriteError.{WriteError}
 use Rattle.mm_lang.specs.Buffered.{WritesBuffered}
 use Rattle.mm_lang.proofs.write.row_line.RowLines.put_doubled.Given as goal
 
--- what was put is the doubled text up to `rest`
+-- the doubled text up to `rest` was buffered or written
 abbrev pub invariant-loop-quote : goal.invariant-loop-quote
 invariant-loop-quote g l =
     (done : List ℕ) × (doubled l.text ≡ done ++ doubled l.rest)

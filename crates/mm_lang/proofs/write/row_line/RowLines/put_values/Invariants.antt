@@ -4,7 +4,7 @@ use Rattle.mm_value.specs.declared.device.WriteError.{WriteError}
 use Rattle.mm_lang.specs.Buffered.{WritesBuffered}
 use Rattle.mm_lang.proofs.write.row_line.RowLines.put_values.Given as goal
 
--- the values so far were put, the first one among them
+-- the values so far, including the first one, were buffered or written
 abbrev pub invariant-loop-i : goal.invariant-loop-i
 invariant-loop-i g l = record {
   some : 1 ≤ l.i;
