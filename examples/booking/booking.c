@@ -1,6 +1,6 @@
-/* Books seats for events. The database lives in this program, and a standing query has the free seats at any time.
+/* Books seats for events. The database is part of this program, and a standing query always contains the free seats.
 
-   booking.out has the output. booking.py and booking.rs do the same in Python and in Rust. */
+   booking.out contains the output. booking.py and booking.rs do the same in Python and in Rust. */
 #include <mmdb.h>
 #include <stdarg.h>
 #include <stdio.h>
@@ -30,12 +30,12 @@ static const char *const LINES[STATEMENTS] = {
   [SEATS_OF] = "SELECT s.place FROM booking b, seat s WHERE b.guest = ? AND b.seat = s.id",
 };
 
-/* The database with its statements. */
+/* The database and its prepared statements. */
 typedef struct { mmdb db; size_t statements[STATEMENTS]; } service;
 
 static mmdb_cell number(int64_t number) { return (mmdb_cell){.kind = MMDB_NUMBER, .number = number}; }
 
-/* Ends the program if a call fails that should not. */
+/* Ends the program if the status of a call is unexpected. */
 static void must(uint8_t status, const char *line) {
   if (status < MMDB_LINE_TOO_LONG) return;
   fprintf(stderr, "%s: error %d\n", line, status);
@@ -45,7 +45,7 @@ static void must(uint8_t status, const char *line) {
 /* Returns whether a cell can hold a text: whether it has at most MMDB_TEXT_BYTES bytes. */
 static bool fits(const char *from) { return strlen(from) <= MMDB_TEXT_BYTES; }
 
-/* Ends the program if the text does not fit. A caller checks a text that comes from outside. */
+/* Ends the program if the text does not fit. A caller must first check a text from an untrusted source. */
 static mmdb_cell text(const char *from) {
   must(fits(from) ? MMDB_DONE : MMDB_TEXT_TOO_LONG, from);
   mmdb_cell value = {.kind = MMDB_STRING, .len = (uint8_t)strlen(from)};
@@ -94,7 +94,7 @@ static const char *book(service *s, int64_t booking, const int64_t *seats, int c
   return status == MMDB_DONE ? "booked" : status == MMDB_NOTHING ? "taken" : refused;
 }
 
-/* Books those of the seats that are free, and returns their number. Each savepoint is released, since a transaction has at most 64. */
+/* Books the free seats among these, and returns their number. Each savepoint is released, since a transaction has at most 64. */
 static int book_group(service *s, int64_t booking, const int64_t *seats, int count, const char *guest) {
   int booked = 0;
   execute(s, "BEGIN");

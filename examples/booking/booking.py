@@ -1,7 +1,7 @@
 #!/usr/bin/env python3
-"""Books seats for events. The database lives in this program, and a standing query has the free seats at any time.
+"""Books seats for events. The database is part of this program, and a standing query always contains the free seats.
 
-booking.out has the output. booking.c and booking.rs do the same in C and in Rust.
+booking.out contains the output. booking.c and booking.rs do the same in C and in Rust.
 """
 
 import mmdb
@@ -17,7 +17,7 @@ FREE_SEATS = "SELECT e.title, s.place, s.id FROM event e, seat s WHERE s.event =
 
 
 class SeatTaken(Exception):
-    """A seat is taken, or there is no such seat."""
+    """A seat is taken or does not exist."""
 
 
 def open_service() -> mmdb.Connection:
@@ -53,7 +53,7 @@ def book(connection: mmdb.Connection, booking: int, seats: list[int], guest: str
 
 
 def book_group(connection: mmdb.Connection, booking: int, seats: list[int], guest: str) -> int:
-    """Books those of the seats that are free, and returns their number."""
+    """Books the free seats among these, and returns their number."""
     booked = 0
     with connection:
         for seat in seats:

@@ -1,6 +1,6 @@
-//! Books seats for events. The database lives in this program, and a standing query has the free seats at any time.
+//! Books seats for events. The database is part of this program, and a standing query always contains the free seats.
 //!
-//! booking.out has the output. booking.c and booking.py do the same in C and in Python.
+//! booking.out contains the output. booking.c and booking.py do the same in C and in Python.
 
 use mmdb::{Connection, Error, Result};
 
@@ -33,7 +33,7 @@ fn book_all(db: &mut Connection, booking: i64, seats: &[i64], guest: &str) -> Re
     let transaction = db.transaction()?;
     for (number, &seat) in (booking..).zip(seats) {
         if !book_seat(&transaction, number, seat, guest)? {
-            return Ok(false); // This drops the transaction, which rolls it back.
+            return Ok(false); // dropping the transaction rolls it back
         }
     }
     transaction.commit()?;
@@ -50,7 +50,7 @@ fn book(db: &mut Connection, booking: i64, seats: &[i64], guest: &str) -> Result
     }
 }
 
-/// Books those of the seats that are free, and returns their number.
+/// Books the free seats among these, and returns their number.
 fn book_group(db: &mut Connection, booking: i64, seats: &[i64], guest: &str) -> Result<i64> {
     let mut booked = 0;
     let mut transaction = db.transaction()?;

@@ -1,10 +1,10 @@
 #!/usr/bin/env python3
-"""A client of replicas in plain Python. It reads a script, sends each line as a question or as a change, and prints rows and replies.
+"""A client of replicas in plain Python. Reads a script, sends each line as a question or as a change, and prints rows and replies.
 
     python3 ask.py HOST:PORT [LOG] < SCRIPT
 
-A class for programs is Replicas. It keeps one connection, and the number of the log that it has seen, so no answer goes back before another.
-replica/PROTOCOL.md defines subjects, headers and statuses. This client knows neither passwords nor TLS.
+Programs can use the class Replicas. It keeps one connection and the highest number of the log that it has seen, so no answer is older than
+an earlier one. replica/PROTOCOL.md defines subjects, headers and statuses. This client supports neither passwords nor TLS.
 """
 
 import json
@@ -21,12 +21,12 @@ VALUE = re.compile(r"'((?:[^']|'')*)'|(-?[0-9]+)")
 
 
 def lines_of(replies: str) -> list[str]:
-    """The lines of replies. A text in them may have any other sign at which str.splitlines would split."""
+    """Returns the lines of replies. str.splitlines would also split at other characters, which texts may contain."""
     return replies.split("\n")[:-1]
 
 
 class Refused(Exception):
-    """A replica refused a request: str() has its status, and what is wrong."""
+    """A replica refused a request. str() returns the status and the reason."""
 
 
 class Answer(NamedTuple):
@@ -42,7 +42,7 @@ class Rows(NamedTuple):
 
 
 class Replicas:
-    """Replicas that follow a log. wait is for how many seconds a request is tried. A replica object is used by one thread."""
+    """Replicas that follow a log. `wait` is the timeout of a request in seconds. Only one thread may use an object."""
 
     def __init__(self, host: str, port: int, log: str = "mmdb", wait: float = 30.0):
         self.address, self.log, self.wait = (host, port), log, wait
@@ -55,11 +55,11 @@ class Replicas:
         if must_match:
             headers["Mmdb-Condition"] = "rows"
         if time.monotonic() - self.seen > 1:
-            self.ask("TABLES")  # an id is new after a number that is no older than the ids that replicas keep
+            self.ask("TABLES")  # the number sent with a new id must be recent, since replicas keep only recent ids
         return lines_of(self.request("change", script, {**headers, "Mmdb-Since": str(self.number)}).body)
 
     def ask(self, question: str) -> Rows:
-        """Returns the rows of a question. They contain all that this object has seen before."""
+        """Returns the rows of a question. The rows are at least as new as all answers that this object has received."""
         answer = self.request("ask", question, {"Mmdb-At-Least": str(self.number)})
         columns = [tuple(column.split(" ")) for column in answer.headers.get("Mmdb-Columns", "").split(", ") if column]
         lines = lines_of(answer.body)[:-1] if columns else []
@@ -67,7 +67,7 @@ class Replicas:
         return Rows(columns, rows)  # type: ignore[arg-type]
 
     def request(self, word: str, body: str, headers: dict[str, str]) -> Answer:
-        """The answer to a request, which is sent again until there is one. Raises Refused or TimeoutError."""
+        """Repeats a request until a replica answers, and returns the answer. Raises Refused or TimeoutError."""
         if self.identity:
             headers["Mmdb-Log"] = self.identity
         until = time.monotonic() + self.wait
@@ -106,7 +106,7 @@ class Replicas:
             elif words[0] in ("MSG", "HMSG"):
                 block = self.lines.read(int(words[-1]) + 2)
                 if not block.endswith(b"\r\n") or len(block) != int(words[-1]) + 2:
-                    raise ConnectionError("the connection ended in the midst of a message")
+                    raise ConnectionError("the connection ended in the middle of a message")
                 if words[1] == reply:
                     length = int(words[-2]) if words[0] == "HMSG" else 0
                     pairs = [line.split(":", 1) for line in block[:length].decode().splitlines() if ":" in line]

@@ -1,10 +1,10 @@
-//! A client of replicas with the standard library alone. It reads a script, sends each line as a question or as a change, and prints
+//! A client of replicas that needs only the standard library. Reads a script, sends each line as a question or as a change, and prints
 //! rows and replies.
 //!
 //!     rustc --edition 2021 ask.rs && ./ask HOST:PORT [LOG] < SCRIPT
 //!
-//! `Replicas` keeps one connection, and the number of the log that it has seen, so no answer goes back before another.
-//! replica/PROTOCOL.md defines subjects, headers and statuses. This client knows neither passwords nor TLS.
+//! `Replicas` keeps one connection and the highest number of the log that it has seen, so no answer is older than an earlier one.
+//! replica/PROTOCOL.md defines subjects, headers and statuses. This client supports neither passwords nor TLS.
 
 use std::collections::HashMap;
 use std::io::{self, BufRead, BufReader, Error, ErrorKind, Read, Write};
@@ -44,7 +44,7 @@ pub struct Replicas {
 }
 
 impl Replicas {
-    /// For how long a request is tried.
+    /// The timeout of a request.
     const WAIT: Duration = Duration::from_secs(30);
 
     pub fn new(address: &str, log: &str) -> io::Result<Replicas> {
@@ -70,7 +70,7 @@ impl Replicas {
 
     /// Applies a script once, and returns its replies.
     pub fn change(&mut self, script: &str) -> io::Result<Vec<String>> {
-        // An id is new after a number that is no older than the ids that replicas keep.
+        // The number sent with a new id must be recent, since replicas keep only recent ids.
         if self
             .seen
             .map_or(true, |seen| seen.elapsed() > Duration::from_secs(1))
@@ -86,7 +86,7 @@ impl Replicas {
         Ok(answer.body.lines().map(String::from).collect())
     }
 
-    /// Returns the rows of a question. They contain all that this object has seen before.
+    /// Returns the rows of a question. The rows are at least as new as all answers that this object has received.
     pub fn ask(&mut self, question: &str) -> io::Result<Rows> {
         let answer = self.request(
             "ask",
@@ -111,7 +111,7 @@ impl Replicas {
         Ok(Rows { columns, rows })
     }
 
-    /// Sends a request again until it is answered.
+    /// Repeats a request until a replica answers, and returns the answer.
     fn request(
         &mut self,
         word: &str,
@@ -152,7 +152,7 @@ impl Replicas {
         let wrong = || {
             Error::new(
                 ErrorKind::InvalidData,
-                "an answer without a place in the log",
+                "an answer without a number of the log",
             )
         };
         let number: u64 = answer
@@ -207,7 +207,7 @@ fn connect(address: &str, inbox: &str) -> io::Result<BufReader<TcpStream>> {
     Ok(BufReader::new(stream))
 }
 
-/// Reads what follows a line `HMSG SUBJECT ID HEAD WHOLE` or `MSG SUBJECT ID WHOLE`.
+/// Reads the message after a line `HMSG SUBJECT ID HEAD WHOLE` or `MSG SUBJECT ID WHOLE`.
 fn read_answer(connection: &mut BufReader<TcpStream>, words: &[&str]) -> io::Result<Answer> {
     let wrong = |_| Error::new(ErrorKind::InvalidData, "a message without a length");
     let whole: usize = words[words.len() - 1].parse().map_err(wrong)?;
@@ -230,7 +230,7 @@ fn read_answer(connection: &mut BufReader<TcpStream>, words: &[&str]) -> io::Res
     })
 }
 
-/// Reads a row as replies show it: `(1, 'it''s')`.
+/// Parses a row of a reply, such as `(1, 'it''s')`.
 fn values_of(line: &str) -> Vec<Value> {
     let mut values = Vec::new();
     let mut signs = line.chars().peekable();
@@ -255,7 +255,7 @@ fn values_of(line: &str) -> Vec<Value> {
     values
 }
 
-/// Takes a quote that is doubled, or the one that ends a text: then there is nothing more of the text.
+/// Consumes a quote. Returns a quote if it is doubled, or `None` if it ends the text.
 fn quote(signs: &mut std::iter::Peekable<std::str::Chars>) -> Option<char> {
     signs.next()?;
     signs.next_if_eq(&'\'')

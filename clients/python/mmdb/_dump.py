@@ -1,4 +1,4 @@
-"""Connection.iterdump: the lines of a script that makes a database again."""
+"""Connection.iterdump: the lines of a script that rebuilds a database."""
 
 from __future__ import annotations
 
@@ -6,24 +6,22 @@ from collections.abc import Iterator
 
 from ._library import MEMORY, Database, Refused, decoded, words_of
 from ._mmdb import Connection, Error, OperationalError, ProgrammingError
-from .shell_catalog import Session
-from .shell_files import dump_lines
 
 
 def error_of(refused: Refused) -> Error:
-    """Returns the exception of a refusal: an allocation failed, or a table was dropped before its rows were read."""
-    error = (OperationalError if refused.status == MEMORY else ProgrammingError)(words_of(refused.status))
+    """Returns the exception of a dump that failed: an allocation failed, or a command may have changed the database."""
+    if refused.status == MEMORY:
+        error: Error = OperationalError(words_of(refused.status))
+    else:
+        error = ProgrammingError("a command may have changed the database since the dump started")
     error.number = refused.status
     return error
 
 
 def iterdump(connection: Connection) -> Iterator[str]:
-    """Yields the lines. A comment stands for each standing query, since the library does not tell its SELECT."""
-    session = Session(Database(connection))
+    """Yields the lines, without their line feeds."""
     try:
-        catalog = session.catalog()
-        yield from map(decoded, dump_lines(session, catalog))
+        for piece in Database(connection).dump():
+            yield from map(decoded, piece.split(b"\n")[:-1])
     except Refused as refused:
         raise error_of(refused) from None
-    for name in catalog.standing:
-        yield f"-- WATCH {name}: its query is unknown"

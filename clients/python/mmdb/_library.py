@@ -4,15 +4,17 @@ from __future__ import annotations
 
 import contextlib
 from collections.abc import Iterator, Sequence
+from typing import Literal
 
 from . import _mmdb
 
+Kind = Literal["table", "index", "watch"]
 Value = int | str
 Row = tuple[Value, ...]
 
 # The statuses of include/mmdb.h that the shell tells apart.
 NOTHING, DONE, COUNT, ROWS, TEXT = range(5)
-SYNTAX, NO_SUCH_TABLE, MEMORY, MISUSE = 11, 20, 90, 100
+SYNTAX, NO_SUCH_TABLE, NO_SUCH_STANDING_QUERY, MEMORY, MISUSE = 11, 20, 23, 90, 100
 LEAST_REFUSAL = 10
 # The maximum length of a text in bytes.
 TEXT_BYTES = 64
@@ -83,6 +85,30 @@ class Database:
             return self._connection._reply_text()
         except MemoryError:
             raise Refused(MEMORY) from None
+
+    def dump(self) -> Iterator[bytes]:
+        """Yields a script that rebuilds the database, in pieces of whole lines.
+
+        Raises Refused if an allocation fails (90), or if a command may have changed the database meanwhile (100).
+        """
+        place = (0, 0, 0)
+        while True:
+            try:
+                status, piece, place = self._connection._dump_piece(*place)
+            except MemoryError:
+                raise Refused(MEMORY) from None
+            if status != DONE:
+                raise Refused(status)
+            if not piece:
+                return
+            yield piece
+
+    def definition(self, name: str, kind: Kind) -> bytes:
+        """Returns the line that defines a table, an index or a standing query. Raises Refused if there is none."""
+        try:
+            return encoded(self._connection.definition(name, kind))
+        except _mmdb.Error as error:
+            raise Refused(error.number or MISUSE) from None
 
     def columns(self, line: bytes) -> list[tuple[str, type]]:
         """Returns the names and types (int or str) of the columns of the rows that a line returns, as the tables are now.

@@ -1,19 +1,15 @@
-"""The catalog of a database, as the reply to TABLES lists it.
-
-The reply names the standing queries and does not tell what they ask. So a `Session` keeps the SELECT of each WATCH.
-"""
+"""The catalog of a database, as the reply to TABLES lists it, and the queries of its standing queries, which the reply only names."""
 
 from __future__ import annotations
 
 import re
 from typing import NamedTuple
 
-from mmdb._library import LEAST_REFUSAL, TEXT, Database, Refused
+from mmdb._library import LEAST_REFUSAL, NO_SUCH_STANDING_QUERY, SYNTAX, TEXT, Database, Refused
 
 TABLE_LINE = re.compile(r"TABLE (\w+) \((.*)\) rows (\d+)")
 INDEX_LINE = re.compile(r"INDEX (\w+) ON (\w+) (\(\w+\) \w+)")
 WATCH_LINE = re.compile(r"WATCH (\w+) rows (\d+)")
-STANDING_COMMAND = re.compile(rb"[ \t]*(WATCH|UNWATCH)[ \t]+(\w+)[ \t]*(.*)", re.S)
 
 
 class Failure(Exception):
@@ -31,10 +27,6 @@ class Table(NamedTuple):
         """The names of the columns, from left to right."""
         return [column.split()[0] for column in self.columns]
 
-    def line(self) -> str:
-        """The command that creates the table."""
-        return f"TABLE {self.name} ({', '.join(self.columns)})"
-
 
 class Index(NamedTuple):
     """An index: its table, and its column and kind, as in its INDEX command."""
@@ -42,10 +34,6 @@ class Index(NamedTuple):
     name: str
     table: str
     rest: str
-
-    def line(self) -> str:
-        """The command that creates the index."""
-        return f"INDEX {self.name} ON {self.table} {self.rest}"
 
 
 class Standing(NamedTuple):
@@ -77,22 +65,14 @@ def catalog_of(listing: str) -> Catalog:
 
 
 class Session:
-    """A database, and the SELECT of each standing query that the session created, by name."""
+    """A database whose catalog can be asked for."""
 
     def __init__(self, database: Database) -> None:
         self.database = database
-        self.queries: dict[str, bytes] = {}
 
     def execute(self, line: bytes) -> int:
         """Executes a line, and returns its status."""
-        status = self.database.execute(line)
-        if status < LEAST_REFUSAL and (found := STANDING_COMMAND.fullmatch(line)):
-            name = found[2].decode()
-            if found[1] == b"WATCH":
-                self.queries[name] = found[3].rstrip(b" \t")
-            else:
-                self.queries.pop(name, None)
-        return status
+        return self.database.execute(line)
 
     def demand(self, line: bytes) -> int:
         """Executes a line. Raises Refused if it is refused."""
@@ -102,12 +82,13 @@ class Session:
         return status
 
     def query(self, name: str) -> bytes:
-        """Returns the SELECT of a standing query. Raises Failure if it is unknown."""
-        if name in self.queries:
-            return self.queries[name]
-        if name in self.catalog().standing:
-            raise Failure(f"the query of {name} is unknown, since it was not created in this shell")
-        raise Failure(f"no standing query {name}")
+        """Returns the SELECT of a standing query. Raises Failure if there is none, and Refused if an allocation fails."""
+        try:
+            return self.database.definition(name, "watch").split(b" ", 2)[2]
+        except Refused as refused:
+            if refused.status in (NO_SUCH_STANDING_QUERY, SYNTAX):
+                raise Failure(f"no standing query {name}") from None
+            raise
 
     def catalog(self) -> Catalog:
         """Returns the current catalog. Raises Refused if an allocation fails."""

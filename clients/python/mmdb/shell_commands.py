@@ -197,7 +197,7 @@ class Shell:
             indexes = [index for index in catalog.indexes.values() if index.table == table.name]
             rows += [("index", index.name, "", f"ON {index.table} {index.rest}") for index in indexes]
         for standing in catalog.standing.values():
-            query = decoded(self.session.queries.get(standing.name, b""))
+            query = decoded(self.session.query(standing.name))
             rows.append(("standing query", standing.name, standing.rows, query))
         return rows
 

@@ -9,7 +9,6 @@ import re
 import shutil
 import time
 from collections.abc import Iterable, Iterator
-from itertools import chain
 from typing import BinaryIO, NamedTuple, TextIO
 
 from mmdb._library import DONE, NO_SUCH_TABLE, TEXT_BYTES, Refused, Row, Value, encoded, words_of
@@ -17,7 +16,6 @@ from mmdb.shell_catalog import Catalog, Failure, Session
 from mmdb.shell_tables import count_of, csv_lines, literal_row
 
 LEAST_NUMBER, GREATEST_NUMBER, MOST_DIGITS = -(2**63), 2**63 - 1, 19
-MOST_LINE_BYTES = 4096
 ROWS_AT_ONCE = 500
 SAVEPOINT = "shell_import"
 BYTE_ORDER_MARK = "\ufeff"
@@ -212,44 +210,9 @@ def export_csv(session: Session, query: bytes, path: str, has_header: bool) -> i
     return len(rows)
 
 
-def packed(command: bytes, rows: Iterable[bytes]) -> Iterator[bytes]:
-    """Yields lines of a command, each with as many rows as fit."""
-    line = b""
-    for row in rows:
-        if line and len(line) + len(b", ") + len(row) <= MOST_LINE_BYTES:
-            line += b", " + row
-            continue
-        if line:
-            yield line
-        line = command + row
-    if line:
-        yield line
-
-
-def rows_of(session: Session, table: str) -> list[bytes]:
-    """Returns the rows of a table as SCAN prints them, which is also their form in an INSERT."""
-    session.demand(b"SCAN " + table.encode())
-    return session.database.text().split(b"\n")[:-2]
-
-
-def dump_lines(session: Session, catalog: Catalog) -> Iterator[bytes]:
-    """Yields the lines of a script that rebuilds tables, rows and indexes.
-
-    Tables come in the order in which they were created. So each one comes after those that it refers to.
-    """
-    for table in catalog.tables.values():
-        yield table.line().encode()
-    for name in catalog.tables:
-        lines = list(packed(b"INSERT " + name.encode() + b" ", rows_of(session, name)))
-        yield from [b"BEGIN", *lines, b"COMMIT"] if len(lines) > 1 else lines
-    for index in catalog.indexes.values():
-        yield index.line().encode()
-
-
 def dump(session: Session, path: str) -> Catalog:
     """Writes a script that rebuilds the database, and returns the catalog."""
     catalog = session.catalog()
-    watches = [b"WATCH " + name.encode() + b" " + session.query(name) for name in catalog.standing]
     with written(path) as file:
-        file.writelines(line + b"\n" for line in chain(dump_lines(session, catalog), watches))
+        file.writelines(session.database.dump())
     return catalog

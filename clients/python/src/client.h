@@ -37,6 +37,7 @@ _Static_assert(sizeof(mmdb) == 2 * sizeof(void *), "mmdb has another layout");
 enum {
     LEAST_REFUSAL = 10,     /* the first status that is a refusal */
     MOST_COLUMNS = 16,      /* of a row: a limit of the language */
+    LONGEST_LINE = 4096,    /* in bytes: a limit of the language */
     MOST_SAVEPOINTS = 64,   /* of a transaction at a time: a limit of the language */
     KEPT_STATEMENTS = 128,  /* in the cache of a connection */
     CACHE_BUCKETS = 256,    /* a power of two */
@@ -89,7 +90,7 @@ void raise_words(const State *state, ErrorClass error, const char *format, ...);
 /* Raises the exception of a status of the library with the library's words, followed by a detail if it is not NULL. */
 void raise_status(const State *state, uint8_t status, const char *detail);
 
-/* A refused line: the status, and the byte of the line to show. script_line is the number of the line in a script, or 0. */
+/* A refused line: the status, and the byte of the line to show. script_line is the number of the line in a script, from 1, or 0. */
 typedef struct Refusal {
     uint8_t status;
     size_t place;
@@ -304,7 +305,7 @@ struct Connection {
     uint64_t owner;             /* the number of the thread that may use the connection; 0 if all may */
     PyThread_type_lock lock;    /* NULL if one thread alone may use the connection */
     size_t begin, commit, rollback;     /* the numbers of the statements BEGIN, COMMIT and ROLLBACK */
-    uint64_t catalog_age;       /* the number of definitions that succeeded */
+    uint64_t catalog_age;       /* it changes with each definition that succeeds */
     SavepointList savepoints;
     Cache cache;
     PyObject *row_factory, *text_factory, *trace_callback, *weak_references;
@@ -327,12 +328,16 @@ bool connection_trace(Connection *self, PyObject *line);
 PyObject *connection_commit(PyObject *self, PyObject *unused);
 PyObject *connection_rollback(PyObject *self, PyObject *unused);
 
+/* Executes the lines of a script in one call of the library. Returns None, or NULL with an exception. */
+PyObject *connection_load(PyObject *self, PyObject *script);
+
 extern PyType_Spec connection_spec;
 
 /* The calls for the shell: lines as bytes, statuses, and replies as text. */
 PyObject *connection_execute_line(PyObject *self, PyObject *line);
 PyObject *connection_reply_count(PyObject *self, PyObject *unused);
 PyObject *connection_reply_text(PyObject *self, PyObject *unused);
+PyObject *connection_dump_piece(PyObject *self, PyObject *arguments);
 PyObject *connection_reply_rows(PyObject *self, PyObject *line);
 PyObject *connection_columns_of(PyObject *self, PyObject *line);
 PyObject *connection_place_of(PyObject *self, PyObject *arguments);

@@ -327,7 +327,7 @@ static PyObject *connection_set_trace_callback(PyObject *object, PyObject *callb
     return Py_NewRef(Py_None);
 }
 
-/* The lines of a script that makes the database again, by the module mmdb._dump. */
+/* Returns an iterator over the lines of a dump, by the module mmdb._dump. */
 static PyObject *connection_iterdump(PyObject *self, PyObject *unused) {
     (void)unused;
     if (!connection_check((Connection *)self)) return NULL;
@@ -335,6 +335,47 @@ static PyObject *connection_iterdump(PyObject *self, PyObject *unused) {
     PyObject *lines = module == NULL ? NULL : PyObject_CallMethod(module, "iterdump", "O", self);
     Py_XDECREF(module);
     return lines;
+}
+
+/* The kind that a word names; a table if there is no word. Returns false with an exception. */
+static bool kind_of_definition(const State *state, PyObject *word, uint8_t *kind) {
+    static const struct { const char *word; uint8_t kind; } kinds[] = {{"table", MMDB_KIND_TABLE}, {"index", MMDB_KIND_INDEX}, {"watch", MMDB_KIND_WATCH}};
+    if (word != NULL && !PyUnicode_Check(word)) {
+        PyErr_SetString(PyExc_TypeError, "a kind is a str");
+        return false;
+    }
+    for (size_t i = 0; i < sizeof kinds / sizeof *kinds; i++) {
+        *kind = kinds[i].kind;
+        if (word == NULL || PyUnicode_CompareWithASCIIString(word, kinds[i].word) == 0) return true;
+    }
+    raise_words(state, PROGRAMMING_ERROR, "the kind is 'table', 'index' or 'watch', and not %R", word);
+    return false;
+}
+
+/* Returns the line that defines what has a name, or NULL with an exception. */
+static PyObject *definition_of(Connection *self, uint8_t kind, const Text *name) {
+    char line[LONGEST_LINE];
+    size_t needed = 0;
+    if (!connection_enter(self)) return NULL;
+    uint8_t status = mmdb_definition(&self->db, kind, (const uint8_t *)name->bytes, name->length, (uint8_t *)line, sizeof line, &needed);
+    connection_leave(self);
+    if (status == MMDB_DONE) return PyUnicode_DecodeUTF8(line, (Py_ssize_t)(needed < sizeof line ? needed : sizeof line), "surrogateescape");
+    raise_status(self->state, status, status == MMDB_MEMORY ? NULL : name->bytes);
+    return NULL;
+}
+
+static PyObject *connection_definition(PyObject *object, PyObject *const *arguments, Py_ssize_t count, PyObject *keywords) {
+    static const char *const names[] = {"name", "kind"};
+    PyObject *values[] = {NULL, NULL};
+    Connection *self = (Connection *)object;
+    uint8_t kind;
+    Text name;
+    if (!arguments_read("definition", names, 1, 2, arguments, count, keywords, values) || !connection_check(self)) return NULL;
+    if (!PyUnicode_Check(values[0])) return PyErr_Format(PyExc_TypeError, "a name is a str");
+    if (!kind_of_definition(self->state, values[1], &kind) || !text_open(values[0], &name)) return NULL;
+    PyObject *line = definition_of(self, kind, &name);
+    text_close(&name);
+    return line;
 }
 
 /* ---- The type --------------------------------------------------------------------------------------------------------------------- */
@@ -371,18 +412,29 @@ static PyMethodDef connection_methods[] = {
      "unwatch($self, name, /)\n--\n\nDrops a standing query. Raises ProgrammingError (52) in a transaction."},
     {"set_trace_callback", connection_set_trace_callback, METH_O,
      "set_trace_callback($self, callback, /)\n--\n\n"
-     "Calls a function with each line before it runs: those of execute and of a script, and once those of executemany and\n"
-     "executecolumns. If the function raises an exception, the line does not run. None removes the function."},
+     "Calls a function with each line before it runs: those of execute and of executescript, and once those of executemany and\n"
+     "executecolumns, and the script of load. If the function raises an exception, the line does not run. None removes the function."},
     {"iterdump", connection_iterdump, METH_NOARGS,
      "iterdump($self, /)\n--\n\n"
-     "Returns an iterator over the lines of a script that makes the tables, rows and indexes again.\n\n"
-     "The library does not tell the query of a standing query, so a comment stands for each of them."},
+     "Returns an iterator over the lines of a script that rebuilds the database: tables, rows, indexes and standing queries.\n\n"
+     "If a command may have changed the database meanwhile, the iterator raises ProgrammingError (100)."},
+    {"load", connection_load, METH_O,
+     "load($self, script, /)\n--\n\n"
+     "Executes the lines of a script in one call of the library. Each line is a command of its own, as in\n"
+     "the script that the lines of iterdump are.\n\n"
+     "Stops at the first line that is refused: the attribute line of the exception is its number, and the lines before it stay done."},
+    {"definition", FAST_CALL(connection_definition), METH_FASTCALL | METH_KEYWORDS,
+     "definition($self, /, name, kind='table')\n--\n\n"
+     "Returns the line that defines a table, an index or a standing query, as the lines of iterdump have it. The kind is 'table',\n"
+     "'index' or 'watch', since a table, an index and a standing query may have the same name."},
     {"__enter__", connection_enter_with, METH_NOARGS, "__enter__($self, /)\n--\n\nReturns the connection."},
     {"__exit__", FAST_CALL(connection_exit_with), METH_FASTCALL,
      "__exit__($self, /, *exception)\n--\n\nCommits, or rolls back after an exception. The connection stays open."},
     {"_execute_line", connection_execute_line, METH_O, "Executes a line of bytes and returns the status of its reply."},
     {"_reply_count", connection_reply_count, METH_NOARGS, "Returns the number of rows of the reply, or of the rows that it changed."},
     {"_reply_text", connection_reply_text, METH_NOARGS, "Returns the text of the reply as bytes."},
+    {"_dump_piece", connection_dump_piece, METH_VARARGS,
+     "Returns a status, the next piece of the dump as bytes, and the place behind it."},
     {"_reply_rows", connection_reply_rows, METH_O, "Returns the rows of the reply to a line of bytes."},
     {"_columns_of", connection_columns_of, METH_O, "Returns a status, and the names and types of the columns of a line of bytes."},
     {"_place_of", connection_place_of, METH_VARARGS, "Returns the byte of a line to show for a status."},

@@ -18,7 +18,8 @@ static const ErrorSpec error_specs[ERROR_CLASSES] = {
                "An error of this module.\n\n"
                "number is the number of the refusal in docs/LANGUAGE.md, 100 for misuse of the library, or None if the module\n"
                "itself refused. place is the byte of the line to look at, or None. runs is the number of runs of executemany or\n"
-               "executecolumns that were done before the refused one, or None."},
+               "executecolumns that were done before the refused one, or None. line is the number of the refused line of a script,\n"
+               "counted from 1, or None."},
     [INTERFACE_ERROR] = {"mmdb.InterfaceError", ERROR, "The library was misused."},
     [DATABASE_ERROR] = {"mmdb.DatabaseError", ERROR, "An error of the database."},
     [DATA_ERROR] = {"mmdb.DataError", DATABASE_ERROR, "A value has the wrong type, is out of range or is too long."},
@@ -72,7 +73,7 @@ static ErrorClass class_of_status(uint8_t status) {
 
 /* The attributes of Error that its instances have unless they say more. */
 static PyObject *error_attributes(void) {
-    return Py_BuildValue("{sOsOsO}", "number", Py_None, "place", Py_None, "runs", Py_None);
+    return Py_BuildValue("{sOsOsOsO}", "number", Py_None, "place", Py_None, "runs", Py_None, "line", Py_None);
 }
 
 bool errors_create(PyObject *module, State *state) {
@@ -112,14 +113,15 @@ static bool set_number(PyObject *error, const char *name, size_t number) {
     return is_set;
 }
 
-/* Raises the exception of a status with a message, of which it takes the reference. place is not set if it is NULL. */
-static void raise_message(const State *state, uint8_t status, PyObject *message, const size_t *place) {
+/* Raises the exception of a status with a message, of which it takes the reference. place and line are not set if they are NULL. */
+static void raise_message(const State *state, uint8_t status, PyObject *message, const size_t *place, const size_t *line) {
     if (message == NULL) return;
     PyObject *class = state->errors[class_of_status(status)];
     PyObject *error = PyObject_CallFunctionObjArgs(class, message, NULL);
     Py_DECREF(message);
     if (error == NULL) return;
-    if (set_number(error, "number", status) && (place == NULL || set_number(error, "place", *place))) PyErr_SetObject(class, error);
+    bool is_set = set_number(error, "number", status) && (place == NULL || set_number(error, "place", *place));
+    if (is_set && (line == NULL || set_number(error, "line", *line))) PyErr_SetObject(class, error);
     Py_DECREF(error);
 }
 
@@ -143,7 +145,7 @@ void raise_status(const State *state, uint8_t status, const char *detail) {
     if (detail == NULL) detail = hint_of_status(status);
     PyObject *message = detail == NULL ? Py_NewRef(words) : PyUnicode_FromFormat("%U: %s", words, detail);
     Py_DECREF(words);
-    raise_message(state, status, message, NULL);
+    raise_message(state, status, message, NULL, NULL);
 }
 
 /* Says where in a line to look: ": at 'rest of the line'". */
@@ -180,7 +182,8 @@ static PyObject *message_of_refusal(const Refusal *refusal, bool has_place) {
 
 void raise_refusal(const State *state, const Refusal *refusal) {
     bool has_place = refusal->place <= refusal->length && (refusal->place > 0 || refusal->status == MMDB_SYNTAX);
-    raise_message(state, refusal->status, message_of_refusal(refusal, has_place), has_place ? &refusal->place : NULL);
+    const size_t *place = has_place ? &refusal->place : NULL, *line = refusal->script_line > 0 ? &refusal->script_line : NULL;
+    raise_message(state, refusal->status, message_of_refusal(refusal, has_place), place, line);
 }
 
 void add_runs(size_t runs) {

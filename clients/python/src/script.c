@@ -1,4 +1,4 @@
-/* Scripts: commands over one line or more, one after the other. */
+/* Scripts: commands over one line or more, one after the other; and scripts of a line for each, which the library loads in one call. */
 #include "client.h"
 
 /* A command that was read: its statement, which is prepared if status is MMDB_DONE, and its bytes in the script. */
@@ -62,6 +62,8 @@ static size_t leading_blanks(const Command *command) {
 
 /* Returns whether reading two lines as one command got past the first word of the second one. */
 static bool reads_on(const Command *first, const Command *next, const Command *both) {
+    /* A command that can be read ends before a line that would make it too long. */
+    if (both->status == MMDB_LINE_TOO_LONG) return first->status != MMDB_DONE;
     /* A blank in both stands for the line feed. */
     return both->status != MMDB_SYNTAX || both->place > first->statement->length + 1 + leading_blanks(next);
 }
@@ -195,4 +197,53 @@ bool cursor_run_script(Cursor *self, PyObject *string) {
     }
     Py_DECREF((PyObject *)connection);
     return is_done;
+}
+
+/* A script that is loaded: where the next line begins, and what the library told. */
+typedef struct Load {
+    const char *at, *end;
+    size_t lines;           /* the number of lines that were executed and not refused */
+    Refusal refusal;
+} Load;
+
+/* Returns the length of the next line, without its line feed and carriage return, and moves behind it. */
+static size_t take_line(Load *load) {
+    const char *begin = load->at, *feed = memchr(begin, '\n', (size_t)(load->end - begin));
+    size_t length = (size_t)((feed != NULL ? feed : load->end) - begin);
+    load->at = feed != NULL ? feed + 1 : load->end;
+    return length > 0 && begin[length - 1] == '\r' ? length - 1 : length;
+}
+
+/* Loads a script. The savepoints and the catalog follow its lines as they follow single lines. */
+static void load_script(Connection *connection, Load *load) {
+    Refusal *refusal = &load->refusal;
+    refusal->status = mmdb_load(&connection->db, (const uint8_t *)load->at, (size_t)(load->end - load->at), &load->lines);
+    for (size_t i = 0; i < load->lines; i++) {
+        const char *line = load->at;
+        savepoints_follow(&connection->savepoints, line, take_line(load));
+    }
+    connection->catalog_age += load->lines > 0;
+    if (refusal->status < LEAST_REFUSAL) return;
+    refusal->line = load->at;
+    refusal->length = take_line(load);
+    refusal->script_line = load->lines + 1;
+    refusal->place = mmdb_place(&connection->db, (const uint8_t *)refusal->line, refusal->length, refusal->status);
+}
+
+PyObject *connection_load(PyObject *object, PyObject *string) {
+    Connection *self = (Connection *)object;
+    Text text;
+    if (!connection_check(self) || !open_script(self->state, string, &text)) return NULL;
+    Load load = {.at = text.bytes, .end = text.bytes + text.length};
+    bool is_done = connection_trace(self, string) && connection_enter(self);
+    if (is_done) {
+        PyThreadState *thread = PyEval_SaveThread();
+        load_script(self, &load);
+        PyEval_RestoreThread(thread);
+        connection_leave(self);
+        is_done = load.refusal.status < LEAST_REFUSAL;
+        if (!is_done) raise_refusal(self->state, &load.refusal);
+    }
+    text_close(&text);
+    return is_done ? Py_NewRef(Py_None) : NULL;
 }

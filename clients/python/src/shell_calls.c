@@ -60,6 +60,32 @@ PyObject *connection_reply_text(PyObject *object, PyObject *unused) {
     return bytes;
 }
 
+/* The length of the buffer for a piece of a dump. */
+enum { DUMP_BYTES = 1 << 20 };
+
+/* Returns a status, the next piece of the dump, and the place behind it: three numbers, which are 0 at the start. */
+PyObject *connection_dump_piece(PyObject *object, PyObject *arguments) {
+    Connection *self = (Connection *)object;
+    unsigned long long part, row, version;
+    size_t length = 0;
+    if (!PyArg_ParseTuple(arguments, "KKK", &part, &row, &version) || !connection_check(self)) return NULL;
+    char *piece = malloc(DUMP_BYTES);
+    if (piece == NULL) return PyErr_NoMemory();
+    if (!connection_enter(self)) {
+        free(piece);
+        return NULL;
+    }
+    mmdb_dump_place place = {(size_t)part, (size_t)row, version};
+    PyThreadState *thread = PyEval_SaveThread();
+    uint8_t status = mmdb_dump(&self->db, &place, (uint8_t *)piece, DUMP_BYTES, &length);
+    PyEval_RestoreThread(thread);
+    connection_leave(self);
+    part = place.part, row = place.row, version = place.version;
+    PyObject *answer = Py_BuildValue("(iy#(KKK))", (int)status, piece, (Py_ssize_t)length, part, row, version);
+    free(piece);
+    return answer;
+}
+
 /* What mmdb_columns says of a line. */
 typedef struct LineColumns {
     uint8_t status;

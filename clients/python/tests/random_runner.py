@@ -10,6 +10,7 @@ from collections.abc import Callable, Iterator
 from typing import Any
 
 import mmdb
+from mmdb._library import LEAST_REFUSAL, Database, decoded
 from random_given import NO_VALUES, Called, Frame, Garbage, GivenColumns, GivenRows, GivenValues, Made, OwnText, OwnTexts, Trace
 from random_given import shown_or_text
 from random_model import Call, Connection, Cursor, Expected, Savepoint, Script, refused
@@ -354,6 +355,27 @@ class Runner:
 
         self.performed(f"executescript({text!r})", target, lambda on: on.executescript(text), script)
 
+    def do_load(self, slot: int, commands: tuple, end: str) -> None:
+        """Loads a script of a line for each command, in one call of the library."""
+        if (pair := self.connections[slot]) is None:
+            return
+        real, model = pair
+        text = end.join(commands)
+        done, result = self.attempt(f"load({text!r})", lambda: real.load(text), self.loads(model, commands))
+        if done and result is not None:
+            self.fail(f"load returned {result!r}")
+
+    def loads(self, model: Connection, commands: tuple) -> Call:
+        """The lines of a script that is loaded."""
+        model.check(self.thread)
+        yield
+        model.expect_trace(model.trace)
+        model.check(self.thread)
+        for text in commands:
+            line = text.encode("utf-8", "surrogateescape")
+            if line.strip() and not line.startswith(b"--"):
+                model.answered(line.split(None, 1)[0], line)
+
     def do_fetch(self, at: int, how: str, size: int) -> None:
         if (entry := self.cursors[at]) is None:
             return
@@ -567,6 +589,34 @@ class Runner:
             rows = [shown_or_text(row, cursor.columns, model.text_type) for row in found.fetchall()]
             if rows != cursor.lines:
                 self.fail(f"{line} returned {rows}, not {cursor.lines}")
+        self.check_dump(Database(real))
+
+    def check_dump(self, real: Database) -> None:
+        """Sees that the dump of a database rebuilds it: the same catalog, rows and standing queries."""
+        script = b"".join(real.dump())
+        copy = Database()
+        for line in script.split(b"\n")[:-1]:
+            if (status := copy.execute(line)) >= LEAST_REFUSAL:
+                self.fail(f"a line of the dump is refused ({status}): {line!r}")
+        if b"".join(copy.dump()) != script:
+            self.fail(f"the dump of a rebuilt database is not {script!r}")
+        loaded = mmdb.connect()
+        loaded.load(decoded(script))
+        if b"".join(Database(loaded).dump()) != script:
+            self.fail(f"the dump of a database that was loaded is not {script!r}")
+        kinds: dict[bytes, Any] = {b"TABLE": "table", b"INDEX": "index", b"WATCH": "watch"}
+        for line in script.split(b"\n")[:-1]:
+            word, name = line.split(b" ", 2)[:2]
+            if word in kinds and (found := real.definition(decoded(name), kinds[word])) != line:
+                self.fail(f"the definition of {name!r} is {found!r} and not {line!r}")
+        loaded.close()
+        words = [line.split(b" ", 2)[:2] for line in script.split(b"\n")[:-1]]
+        questions = {b"TABLE": b"SCAN ", b"INDEX": b"SCAN INDEX ", b"WATCH": b"SHOW "}
+        for line in [b"TABLES", *(questions[word] + name for word, name in words if word in questions)]:
+            found, wanted = ((database.execute(line), database.text()) for database in (copy, real))
+            if found != wanted:
+                self.fail(f"{line!r} returns {found} after the dump, not {wanted}")
+        copy.close()
 
 
 def raised_by(error: str | None) -> tuple:

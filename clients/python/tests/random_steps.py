@@ -245,6 +245,12 @@ class Draw:
         lines = tuple(text for _, text, _ in forms if "\ud800" not in text)
         return ("script", self.target(), lines, self.rng.choice(ends))
 
+    def load(self, depth: int) -> tuple:
+        """A script of a line for each command."""
+        forms = self.rng.choices(FORMS, WEIGHTS, k=self.rng.randrange(6))
+        lines = tuple(text for _, text, _ in forms if "\n" not in text and "\ud800" not in text)
+        return ("load", self.slot(), lines, self.rng.choice(("\n", "\r\n", "\n\n")))
+
     def target(self) -> Target:
         return Target(self.rng.choice(("cursor", "connection")), self.slot(), self.cursor_slot())
 
@@ -358,7 +364,7 @@ class Draw:
 
 # How often each kind of step is drawn.
 STEPS = {
-    "execute": 35, "executemany": 8, "fetch": 10, "asked": 10, "cursor": 5, "end": 7, "script": 2, "close_cursor": 1, "drop_cursor": 1.5,
+    "execute": 35, "executemany": 8, "fetch": 10, "asked": 10, "cursor": 5, "end": 7, "script": 2, "load": 2, "close_cursor": 1, "drop_cursor": 1.5,
     "autocommit": 0.7, "block": 2, "savepoint": 4, "savepoints": 0.1, "lines": 1, "reconnect": 0.4, "in_thread": 2, "end_thread": 0.3,
     "garbage": 3, "collect": 1, "tables": 3, "many": 0.05, "trace": 0.7, "redefined": 0.5, "executecolumns": 2,
 }  # fmt: skip

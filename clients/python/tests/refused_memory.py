@@ -63,6 +63,14 @@ def named(connection: mmdb.Connection) -> mmdb.Cursor:
     return connection.execute(RANGE, (115,))
 
 
+def loaded(connection: mmdb.Connection) -> None:
+    try:
+        connection.load("BEGIN\nINSERT t (3000, 'x')\r\nSCAN u\nCOMMIT")
+    except (MemoryError, mmdb.Error):
+        connection.rollback()
+        raise
+
+
 def with_savepoint(connection: mmdb.Connection) -> None:
     with connection.savepoint("s"):
         pass
@@ -97,6 +105,8 @@ CASES = {
     "executemany": Case(lambda c: c.executemany(INSERT, NEW_ROWS)),
     "executecolumns": Case(lambda c: c.executecolumns(INSERT, (KEYS, TEXTS))),
     "executescript": Case(lambda c: c.executescript(SCRIPT)),
+    "load": Case(loaded),
+    "a refused load": Case(lambda c: is_refused(c.load, "SCAN t\nINSERT t (5, 'x')")),
     "a savepoint": Case(with_savepoint),
     "commit": Case(lambda c: c.commit(), lambda c: (c.execute(INSERT, (2000, "y")), c)[1]),
     "rollback": Case(lambda c: c.rollback(), lambda c: (c.execute(INSERT, (2000, "y")), c)[1]),
@@ -107,6 +117,9 @@ CASES = {
     "a refused run": Case(lambda c: is_refused(c.execute, INSERT, (5, "x"))),
     "a refused value": Case(lambda c: is_refused(c.execute, INSERT, (5000, 2.5))),
     "a refused row": Case(lambda c: is_refused(c.executemany, INSERT, [(4000,)])),
+    "definition": Case(lambda c: c.definition("w", "watch")),
+    "a refused definition": Case(lambda c: is_refused(c.definition, "nothing")),
+    "a piece of a dump": Case(lambda c: c._dump_piece(0, 0, 0)),
     "the shell's calls": Case(lambda c: (c._execute_line(b"SCAN t"), c._reply_text(), c._reply_rows(b"SCAN t"), c._columns_of(b"SCAN t"))),
 }
 

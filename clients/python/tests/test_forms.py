@@ -4,6 +4,7 @@ import copy
 import pickle
 import weakref
 from collections.abc import Sequence
+from typing import Any
 
 import mmdb
 import pytest
@@ -128,25 +129,43 @@ def test_iterdump(papers: mmdb.Connection) -> None:
         "INSERT author (-3, 'it''s é'), (1, 'Carey'), (2, 'Lehman')",
         "INSERT paper (10, 2, 'T-trees'), (11, 1, 'Views'), (12, 2, 'Recovery')",
         "INDEX by_name ON author (name) TREE",
-        "-- WATCH w: its query is unknown",
+        "WATCH w SELECT a.id FROM author a",
     ]
     again = mmdb.connect()
     again.executescript("\n".join(lines))
     papers.row_factory = papers.text_factory = None
     assert again.row_factory is None
-    for line in ("SCAN author", "SCAN paper", "SCAN INDEX by_name"):
+    for line in ("SCAN author", "SCAN paper", "SCAN INDEX by_name", "SHOW w"):
         assert again.execute(line).fetchall() == papers.execute(line).fetchall()
 
 
-def test_iterdump_of_a_table_that_is_dropped_meanwhile(papers: mmdb.Connection) -> None:
-    papers.execute("TABLE other (id INT KEY)")
+@pytest.mark.parametrize("line", ["DELETE paper", "INDEX i ON paper (title) HASH", "BEGIN"])
+def test_iterdump_of_a_database_that_is_changed_meanwhile(papers: mmdb.Connection, line: str) -> None:
+    papers.commit()
+    papers.executemany("INSERT author (?, ?)", ((number, "x" * 64) for number in range(100, 20000)))
+    papers.commit()
+    papers.autocommit = True
     lines = papers.iterdump()
     assert next(lines).startswith("TABLE author")
-    papers.commit()
-    papers.execute("DROP TABLE other")
-    with pytest.raises(mmdb.ProgrammingError, match="^no such table$") as raised:
+    papers.execute("SCAN author")
+    with pytest.raises(mmdb.ProgrammingError):
+        papers.execute("DELETE nothing")
+    papers.execute(line)
+    with pytest.raises(mmdb.ProgrammingError, match="^a command may have changed the database") as raised:
         list(lines)
-    assert raised.value.number == 20
+    assert raised.value.number == 100
+    if line != "BEGIN":
+        assert len(list(papers.iterdump())) > 90
+
+
+def test_iterdump_while_questions_are_asked(papers: mmdb.Connection) -> None:
+    papers.executemany("INSERT author (?, ?)", ((number, "x" * 64) for number in range(100, 20000)))
+    wanted = list(papers.iterdump())
+    lines = []
+    for line in papers.iterdump():
+        lines.append(line)
+        assert papers.execute("SELECT a.name FROM author a WHERE a.id = 1").fetchone() == ("Carey",)
+    assert lines == wanted and sum(map(len, lines)) > 1 << 20
 
 
 def test_iterdump_of_a_connection_that_counts_as_false() -> None:
@@ -157,6 +176,119 @@ def test_iterdump_of_a_connection_that_counts_as_false() -> None:
     connection = Counted()
     connection.execute("TABLE t (id INT KEY)")
     assert list(connection.iterdump()) == ["TABLE t (id INT KEY)"]
+
+
+def test_definition(papers: mmdb.Connection) -> None:
+    papers.commit()
+    papers.load("INDEX w ON author (name) HASH\nWATCH w SELECT a.id FROM author a WHERE a.name > '\udcff'\nTABLE w (id INT KEY)")
+    papers.row_factory, papers.text_factory = mmdb.Row, bytes
+    assert papers.definition("author") == "TABLE author (id INT KEY, name TEXT)"
+    assert papers.definition("paper", "table") == "TABLE paper (id INT KEY, by INT REF author, title TEXT)"
+    found = [papers.definition(name="w", kind=kind) for kind in ("table", "index", "watch")]
+    assert found == [
+        "TABLE w (id INT KEY)",
+        "INDEX w ON author (name) HASH",
+        "WATCH w SELECT a.id FROM author a WHERE a.name>'\udcff'",
+    ]
+    assert set(found) <= set(papers.iterdump())
+    papers.execute("DROP INDEX w")
+    with pytest.raises(mmdb.ProgrammingError, match="^no such index: w$") as raised:
+        papers.definition("w", "index")
+    assert raised.value.number == 22
+
+
+@pytest.mark.parametrize(
+    "name, kind, number",
+    [("nope", "table", 20), ("author", "index", 22), ("author", "watch", 23), ("", "table", 11), ("a b", "watch", 11), ("A", "index", 11)],
+)
+def test_refused_definitions(papers: mmdb.Connection, name: str, kind: Any, number: int) -> None:
+    with pytest.raises(mmdb.ProgrammingError) as raised:
+        papers.definition(name, kind)
+    assert raised.value.number == number
+
+
+def test_wrong_definitions(papers: mmdb.Connection) -> None:
+    wrong: Any = papers
+    for arguments in ((), ("author", "table", 1), (1,), (b"author",), ("author", 1), ("author", None)):
+        with pytest.raises(TypeError):
+            wrong.definition(*arguments)
+    for kind in ("", "view", "TABLE"):
+        with pytest.raises(mmdb.ProgrammingError, match="^the kind is 'table', 'index' or 'watch'"):
+            wrong.definition("author", kind)
+
+
+def test_load(papers: mmdb.Connection) -> None:
+    papers.commit()
+    papers.execute("WATCH w SELECT a.id FROM author a WHERE a.name = 'Carey'")
+    again = mmdb.connect()
+    again.load("\r\n".join(papers.iterdump()))
+    assert list(again.iterdump()) == list(papers.iterdump())
+    assert not again.in_transaction and again.total_changes == 5
+    again.load("")
+    again.load("-- nothing\n\n")
+    # It begins no transaction.
+    again.load("INSERT author (7, 'Gray')")
+    assert not again.in_transaction and again.show("w").fetchall() == [(1,)]
+    again.load("BEGIN\nDELETE paper")
+    assert again.in_transaction
+    again.rollback()
+    assert len(again.execute("SCAN paper").fetchall()) == 3
+
+
+@pytest.mark.parametrize(
+    "script, line, number, place, message",
+    [
+        ("INSERT author (3, 'x')\n\nINSERT author (3, 'y')\nINSERT author (4, 'z')", 3, 40, None, "line 3: duplicate key"),
+        ("INSERT author (3, 'x')\r\nSCAN nothing\r\n", 2, 20, 5, "line 2: no such table: at 'nothing'"),
+        ("INSERT author (3, 'x')\nINSERT author\n(4, 'y')", 2, 11, 13, "line 2: syntax: at the end of the line"),
+        ("INSERT author (3, 'x')\nINSERT author (?, 'y')", 2, 11, 22, "line 2: syntax: at the end of the line"),
+        ("INSERT author (3, 'x')\nSCAN author" + 4096 * " ", 2, 10, None, "line 2: line too long"),
+    ],
+)
+def test_a_load_stops_at_a_refused_line(
+    papers: mmdb.Connection, script: str, line: int, number: int, place: int | None, message: str
+) -> None:
+    papers.commit()
+    with pytest.raises(mmdb.Error) as raised:
+        papers.load(script)
+    error = raised.value
+    assert (error.line, error.number, error.place, error.runs, str(error)) == (line, number, place, None, message)
+    assert len(papers.execute("SCAN author").fetchall()) == 3
+
+
+def test_wrong_loads(papers: mmdb.Connection) -> None:
+    wrong: Any = papers
+    for arguments in ((), (b"SCAN author",), ("SCAN author", ()), (None,)):
+        with pytest.raises(TypeError):
+            wrong.load(*arguments)
+    with pytest.raises(mmdb.ProgrammingError, match="lone surrogate"):
+        papers.load("SCAN \ud800")
+
+
+def test_a_load_is_traced_once(papers: mmdb.Connection) -> None:
+    lines: list[str] = []
+    papers.set_trace_callback(lines.append)
+    papers.load("SCAN author\nSCAN paper")
+    assert lines == ["SCAN author\nSCAN paper"]
+
+
+def test_savepoints_and_statements_follow_a_load(papers: mmdb.Connection) -> None:
+    papers.execute("SCAN author")
+    with pytest.raises(mmdb.IntegrityError), papers.savepoint("s"):
+        papers.load("INSERT author (3, 'x')\r\nSAVEPOINT s\r\nINSERT author (4, 'y')\r\nINSERT author (4, 'z')")
+    assert len(papers.execute("SCAN author").fetchall()) == 2
+    papers.commit()
+    papers.load("DROP TABLE paper\nDROP TABLE author\nTABLE author (name TEXT KEY)\nINSERT author ('Gray')")
+    assert papers.execute("SCAN author").fetchall() == [("Gray",)]
+
+
+def test_the_line_of_a_script_is_told(papers: mmdb.Connection) -> None:
+    with pytest.raises(mmdb.ProgrammingError) as raised:
+        papers.executescript("SCAN author\n\nSCAN\n  nothing")
+    assert raised.value.line == 3
+    with pytest.raises(mmdb.ProgrammingError) as raised:
+        papers.execute("SCAN nothing")
+    assert raised.value.line is None
 
 
 def test_there_is_no_interrupt(connection: mmdb.Connection) -> None:

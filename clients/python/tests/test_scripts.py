@@ -20,6 +20,7 @@ def listed(connection: mmdb.Connection) -> list[tuple[int, str]]:
         "INSERT t (1, 'a')\r\nINSERT t (2, 'b')\r\n",
         "-- words\nINSERT t (1, 'a')\n-- more words\nINSERT t (2,\r\n'b')",
         "INSERT t (1, 'a')\n\nINSERT t (2, 'b')",
+        "INSERT t (1, 'a')" + 4079 * " " + "\nINSERT\nt (2, 'b')",
         "BEGIN\nINSERT t (1, 'a')\nSAVEPOINT s\nDELETE t\nWHERE id = 1\nROLLBACK\nTO s\nINSERT t (2, 'b')\nCOMMIT",
         "INDEX i\nON t (s)\nTREE\nDROP\nINDEX i\nINSERT t (1, 'a')\n  ,(2, 'b')\nEXPLAIN\nSELECT a.id\nFROM t a\nSCAN\nt",
     ],

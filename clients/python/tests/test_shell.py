@@ -8,7 +8,7 @@ import pytest
 
 from mmdb._library import Database
 from mmdb.shell_commands import DOT_COMMANDS, Shell
-from mmdb.shell_catalog import catalog_of
+from mmdb.shell_catalog import Failure, catalog_of
 from mmdb.shell_tables import aligned, marked
 from mmdb.shell_terminal import completions, history_path
 
@@ -163,7 +163,7 @@ def test_timer(typist: Typist) -> None:
 
 
 def test_tables(typist: Typist) -> None:
-    query = "SELECT a.name, p.year FROM author a, paper p WHERE p.by = a.id AND p.year > 1980"
+    query = "SELECT a.name,p.year FROM author a,paper p WHERE p.by=a.id AND p.year>1980"
     lines = [line.rstrip() for line in typist.types(".tables").splitlines()]
     assert [re.split(r" *\| *", line.strip()) for line in lines if "|" in line] == [
         ["kind", "name", "rows", "definition"],
@@ -235,22 +235,25 @@ def test_read_of_no_file(typist: Typist, tmp_path: "os.PathLike[str]") -> None:
     assert typist.types(f".read {tmp_path}") == f"{tmp_path}: Is a directory\n"
 
 
-def test_standing_queries_are_remembered(typist: Typist) -> None:
+def test_queries_of_standing_queries(typist: Typist) -> None:
     session = typist.shell.session
-    typist.types(" \tWATCH\tw  SELECT  a.id FROM author a \t", "WATCH w SELECT a.name FROM author a", "UNWATCH recent")
-    assert session.queries == {"w": b"SELECT  a.id FROM author a"}
-    typist.types("BEGIN", "UNWATCH w", "ROLLBACK", "WATCH v SELECT a.id FROM nope a")
-    assert list(session.queries) == ["w"]
+    typist.types(" \tWATCH\tw  SELECT  a.id FROM author a WHERE a.name='é' \t")
+    assert session.query("w") == "SELECT a.id FROM author a WHERE a.name='é'".encode()
     session.database.execute(b"WATCH hidden SELECT a.id FROM author a")
-    assert typist.types(".plan hidden") == "the query of hidden is unknown, since it was not created in this shell\n"
+    assert typist.types(".plan hidden").splitlines()[-1] == "1 step"
+    assert "SELECT a.id FROM author a" in typist.types(".tables")
+    for name in ("nope", "author", "a b", "W", ""):
+        with pytest.raises(Failure, match="no standing query"):
+            session.query(name)
 
 
 def test_a_catalog_is_read_from_its_listing() -> None:
-    table = "TABLE rows (rows INT KEY, r TEXT REF tables CASCADE)"
-    catalog = catalog_of(table + " rows 12\nINDEX on_it ON rows (r) HASH\nWATCH rows rows 3\ntables 1\n")
-    assert catalog.tables["rows"].line() == table
-    assert (catalog.tables["rows"].rows, catalog.tables["rows"].column_names()) == (12, ["rows", "r"])
-    assert catalog.indexes["on_it"].line() == "INDEX on_it ON rows (r) HASH"
+    catalog = catalog_of(
+        "TABLE rows (rows INT KEY, r TEXT REF tables CASCADE) rows 12\nINDEX on_it ON rows (r) HASH\nWATCH rows rows 3\ntables 1\n"
+    )
+    assert catalog.tables == {"rows": ("rows", ["rows INT KEY", "r TEXT REF tables CASCADE"], 12)}
+    assert catalog.tables["rows"].column_names() == ["rows", "r"]
+    assert catalog.indexes == {"on_it": ("on_it", "rows", "(r) HASH")}
     assert catalog.standing == {"rows": ("rows", 3)}
 
 

@@ -42,8 +42,10 @@ def calls_of(connection: mmdb.Connection) -> list[Callable[[], object]]:
         lambda: connection.executemany("INSERT author (?, ?)", []),
         lambda: connection.executecolumns("INSERT author (?, ?)", [[], []]),
         lambda: connection.executescript("SCAN author"),
+        lambda: connection.load("SCAN author"),
         lambda: connection.savepoint("s"),
         connection.iterdump,
+        lambda: connection.definition("author"),
         lambda: connection.set_trace_callback(None),
         lambda: cursor.execute("SCAN author"),
         lambda: cursor.executemany("INSERT author (?, ?)", []),
@@ -51,6 +53,7 @@ def calls_of(connection: mmdb.Connection) -> list[Callable[[], object]]:
         lambda: cursor.executescript("SCAN author"),
         lambda: connection._execute_line(b"SCAN author"),
         connection._reply_text,
+        lambda: connection._dump_piece(0, 0, 0),
         connection.close,
     ]
 

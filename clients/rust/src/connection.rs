@@ -1,11 +1,11 @@
 //! Connections.
 
 use crate::cache::Cache;
-use crate::error::{Error, Refusal, Result};
+use crate::error::{Cause, Error, Refusal, Result};
 use crate::line::{one_line, Name};
 use crate::memory;
 use crate::params::{params_from_iter, Params};
-use crate::raw::{self, Column, Handle, Status};
+use crate::raw::{self, Column, DumpPlace, Handle, Status};
 use crate::row::Row;
 use crate::savepoints::{Effect, Savepoints};
 use crate::script::Script;
@@ -13,6 +13,22 @@ use crate::statement::{Prepared, Statement};
 use crate::transaction::Transaction;
 use std::cell::{Cell, RefCell};
 use std::fmt;
+use std::io;
+
+/// The length of the buffer for a piece of a dump, in bytes.
+const DUMP_BYTES: usize = 1 << 20;
+
+/// What [`Connection::definition`] returns the definition of. A table, an index and a standing query may have the same name.
+#[derive(Clone, Copy, Debug, PartialEq, Eq, Hash)]
+#[repr(u8)]
+pub enum DefinitionKind {
+    /// A table, which a `TABLE` line defines.
+    Table = 10,
+    /// An index, which an `INDEX` line defines.
+    Index = 12,
+    /// A standing query, which a `WATCH` line defines.
+    StandingQuery = 14,
+}
 
 /// A database in the program's own memory. Dropping the connection frees it.
 ///
@@ -56,9 +72,9 @@ use std::fmt;
 /// A line of the language may be passed as several lines: a line feed outside a text counts as a blank.
 pub struct Connection {
     pub(crate) handle: Handle,
-    /// The number of replies `ok`. Only a command with this reply can change the catalog.
+    /// At least the number of replies `ok`. Only a command with this reply can change the catalog.
     pub(crate) catalog: Cell<u64>,
-    /// The number of replies `ok` after which no transaction was open. The end of a transaction is one of them, and none comes within one.
+    /// At least the number of replies `ok` that ended a transaction. It stays the same as long as a transaction is open.
     pub(crate) ended_transactions: Cell<u64>,
     pub(crate) savepoints: RefCell<Savepoints>,
     cache: RefCell<Cache>,
@@ -122,6 +138,94 @@ impl Connection {
     /// ```
     pub fn execute_batch(&self, script: &str) -> Result<()> {
         Script::new(self, script).execute()
+    }
+
+    /// Executes the lines of a script one after another, in one call of the library, and drops their replies. Each line is a command of its
+    /// own, as in a script that [`dump`](Connection::dump) wrote. The texts of the script need not be UTF-8.
+    ///
+    /// Stops at the first line that is refused: `InLine` has its number, and the lines before it stay done.
+    ///
+    /// ```
+    /// use mmdb::{Connection, Error, Refusal, Result};
+    ///
+    /// # fn main() -> Result<()> {
+    /// let db = Connection::open()?;
+    /// db.load("TABLE t (id INT KEY)\nINSERT t (1), (2)\n")?;
+    /// let error = db.load("INSERT t (3)\nINSERT t (3)\nINSERT t (4)").unwrap_err();
+    /// assert!(matches!(error, Error::InLine { line: 2, .. }));
+    /// assert_eq!(error.refusal(), Some(Refusal::DuplicateKey));
+    /// assert_eq!(db.prepare("SCAN t")?.query(())?.len(), 3);
+    /// # Ok(())
+    /// # }
+    /// ```
+    pub fn load(&self, script: impl AsRef<[u8]>) -> Result<()> {
+        let script = script.as_ref();
+        let (status, lines) = self.handle.load(script);
+        script.split(|byte| *byte == b'\n').take(lines).for_each(|line| self.note_loaded(line));
+        Error::check(status).map_err(|error| Error::InLine { line: lines + 1, error: Cause::new(error) })
+    }
+
+    /// Writes a script that rebuilds the database: its tables, rows, indexes and standing queries. [`load`](Connection::load) runs it, and
+    /// so does [`execute_batch`](Connection::execute_batch) if its texts are UTF-8. If a transaction is open, its changes are in the script.
+    /// The rows are not copied, and the memory does not grow with their number. At the end the writer is flushed.
+    ///
+    /// Fails if the writer fails. If memory is short, the kind is [`OutOfMemory`](io::ErrorKind::OutOfMemory). If the writer executes a
+    /// command other than a query, the inner error is [`Error::ChangedDuringDump`].
+    ///
+    /// ```
+    /// use mmdb::{Connection, Result};
+    ///
+    /// # fn main() -> Result<()> {
+    /// let db = Connection::open()?;
+    /// db.execute_batch("TABLE t (id INT KEY, name TEXT)\nINSERT t (2, 'b'), (1, 'a')\nWATCH w SELECT x.id FROM t x WHERE x.id > 1")?;
+    /// let mut script = Vec::new();
+    /// db.dump(&mut script).unwrap();
+    /// assert!(script.starts_with(b"TABLE t (id INT KEY, name TEXT)\nINSERT t (1, 'a'), (2, 'b')\n"));
+    ///
+    /// let copy = Connection::open()?;
+    /// copy.load(&script)?;
+    /// assert_eq!(copy.show("w", |row| row.get::<i64>(0))?, [2]);
+    /// # Ok(())
+    /// # }
+    /// ```
+    pub fn dump(&self, mut writer: impl io::Write) -> io::Result<()> {
+        let mut bytes = Vec::new();
+        memory::grow(&mut bytes, DUMP_BYTES, 0)?;
+        let mut place = DumpPlace::START;
+        loop {
+            match self.handle.dump(&mut place, &mut bytes) {
+                Ok(0) => return writer.flush(),
+                Ok(length) => writer.write_all(&bytes[..length])?,
+                Err(raw::MISUSE) => return Err(Error::ChangedDuringDump.into()),
+                Err(status) => return Err(Error::of_status(status).into()),
+            }
+        }
+    }
+
+    /// Returns the line that defines a table, an index or a standing query: the one that [`dump`](Connection::dump) writes for it, without a
+    /// line feed. A text in the line of a standing query may be bytes that are not UTF-8.
+    ///
+    /// `Refused`, with [`NoSuchTable`](Refusal::NoSuchTable), [`NoSuchIndex`](Refusal::NoSuchIndex) or
+    /// [`NoSuchStandingQuery`](Refusal::NoSuchStandingQuery) if there is none, [`Syntax`](Refusal::Syntax) if this is not a name, or
+    /// [`Memory`](Refusal::Memory).
+    ///
+    /// ```
+    /// use mmdb::{Connection, DefinitionKind, Refusal, Result};
+    ///
+    /// # fn main() -> Result<()> {
+    /// let db = Connection::open()?;
+    /// db.load("TABLE seat (id INT KEY, taken INT)\nINDEX by_taken ON seat (taken) HASH")?;
+    /// db.watch("free", "SELECT s.id FROM seat s WHERE s.taken = 0")?;
+    /// assert_eq!(db.definition(DefinitionKind::Table, "seat")?, b"TABLE seat (id INT KEY, taken INT)");
+    /// assert_eq!(db.definition(DefinitionKind::Index, "by_taken")?, b"INDEX by_taken ON seat (taken) HASH");
+    /// assert_eq!(db.definition(DefinitionKind::StandingQuery, "free")?, b"WATCH free SELECT s.id FROM seat s WHERE s.taken=0");
+    /// let error = db.definition(DefinitionKind::Index, "seat").unwrap_err();
+    /// assert_eq!(error.refusal(), Some(Refusal::NoSuchIndex));
+    /// # Ok(())
+    /// # }
+    /// ```
+    pub fn definition(&self, kind: DefinitionKind, name: &str) -> Result<Vec<u8>> {
+        self.handle.definition(kind as u8, name.as_bytes()).map_err(Error::of_status)
     }
 
     /// Prepares a line in which a `?` may replace a number or a text. The line is only read: names in it are looked up when it runs.
@@ -339,6 +443,17 @@ impl Connection {
         if !self.handle.is_in_transaction() {
             self.ended_transactions.set(self.ended_transactions.get() + 1);
         }
+    }
+
+    /// Takes note of a line of a script that was executed and not refused.
+    fn note_loaded(&self, line: &[u8]) {
+        let effect = Effect::of(line);
+        // A `BEGIN` counts too. It was not refused, so no transaction was open that it could seem to end.
+        if matches!(effect, Effect::Clear) {
+            self.ended_transactions.set(self.ended_transactions.get() + 1);
+        }
+        self.savepoints.borrow_mut().follow(effect);
+        self.catalog.set(self.catalog.get() + 1);
     }
 
     /// Returns the number of rows that a command with this status changed.

@@ -200,6 +200,9 @@ pub enum Error {
         /// Where the text is not UTF-8.
         error: Utf8Error,
     },
+    /// The writer of [`Connection::dump`](crate::Connection::dump) executed a command that may have changed the database, so the dump cannot
+    /// go on. What was written is not the whole script.
+    ChangedDuringDump,
     /// libmmdb is of this version, and the crate needs 1.1.0 or a later 1.x. The number is major * 1000000 + minor * 1000 + patch.
     LibraryVersion(u32),
     /// The library returned a status that it should not return: 100 is misuse. This is a fault of the crate.
@@ -251,6 +254,16 @@ impl Error {
     }
 }
 
+/// The error of a call that reads or writes bytes. Only [`Refusal::Memory`] is not the inner error, since that takes memory.
+impl From<Error> for std::io::Error {
+    fn from(error: Error) -> Self {
+        match error {
+            Error::Refused(Refusal::Memory) => std::io::ErrorKind::OutOfMemory.into(),
+            error => std::io::Error::new(std::io::ErrorKind::Other, error),
+        }
+    }
+}
+
 impl fmt::Display for Error {
     fn fmt(&self, f: &mut fmt::Formatter<'_>) -> fmt::Result {
         match self {
@@ -285,6 +298,7 @@ impl fmt::Display for Error {
                 write!(f, "column {index} ({name}) has length {found}, and the requested type has length {wanted}")
             }
             Error::NotUtf8 { index, column, .. } => write!(f, "column {index} ({}) is not UTF-8", column.name()),
+            Error::ChangedDuringDump => f.write_str("a command may have changed the database since the dump started"),
             Error::LibraryVersion(version) => {
                 let (major, minor, patch) = (version / 1_000_000, version / 1000 % 1000, version % 1000);
                 write!(f, "libmmdb has version {major}.{minor}.{patch}, and the crate needs 1.1.0 or a later 1.x")

@@ -30,7 +30,7 @@ mod statement;
 mod transaction;
 mod value;
 
-pub use connection::Connection;
+pub use connection::{Connection, DefinitionKind};
 pub use error::{Cause, Error, FromValueError, OptionalExtension, Refusal, Result};
 pub use params::{params_from_iter, Params, ParamsFromIter};
 pub use raw::Column;

@@ -22,6 +22,7 @@ pub(crate) const ROWS: Status = 3;
 pub(crate) const TEXT: Status = 4;
 pub(crate) const SYNTAX: Status = 11;
 pub(crate) const MEMORY: Status = 90;
+pub(crate) const MISUSE: Status = 100;
 
 pub(crate) const TEXT_BYTES: usize = 64;
 pub(crate) const NAME_BYTES: usize = 32;
@@ -106,6 +107,18 @@ impl Mmdb {
     const CLOSED: Mmdb = Mmdb { block: std::ptr::null_mut(), is_open: false };
 }
 
+/// `struct mmdb_dump_place`. Its fields belong to the library.
+#[repr(C)]
+pub(crate) struct DumpPlace {
+    part: usize,
+    row: usize,
+    version: u64,
+}
+
+impl DumpPlace {
+    pub(crate) const START: DumpPlace = DumpPlace { part: 0, row: 0, version: 0 };
+}
+
 /// Sizes and offsets, as the C compiler has them. Each byte that is read is one of a field, so a wrong offset reads padding or another
 /// field, and both stop the compiler.
 const _: () = {
@@ -122,6 +135,10 @@ const _: () = {
         assert!(column[2].assume_init() == 3 && column[33].assume_init() == 3);
         let mmdb: Bytes<16> = transmute(Mmdb { block: std::ptr::null_mut(), is_open: true });
         assert!(mmdb[0].assume_init() == 0 && mmdb[7].assume_init() == 0 && mmdb[8].assume_init() == 1);
+        let place: Bytes<24> = transmute(DumpPlace { part: usize::MAX, row: 0, version: u64::MAX });
+        assert!(place[0].assume_init() == 255 && place[7].assume_init() == 255);
+        assert!(place[8].assume_init() == 0 && place[15].assume_init() == 0);
+        assert!(place[16].assume_init() == 255 && place[23].assume_init() == 255);
     }
 };
 
@@ -131,6 +148,7 @@ extern "C" {
     fn mmdb_open(db: *mut Mmdb) -> Status;
     fn mmdb_close(db: *mut Mmdb);
     fn mmdb_execute(db: *mut Mmdb, line: *const u8, length: usize) -> Status;
+    fn mmdb_load(db: *mut Mmdb, script: *const u8, length: usize, lines: *mut usize) -> Status;
     fn mmdb_prepare(db: *mut Mmdb, line: *const u8, length: usize, statement: *mut usize) -> Status;
     fn mmdb_parameters(db: *mut Mmdb, statement: usize, count: *mut usize) -> Status;
     fn mmdb_statement_kind(db: *mut Mmdb, statement: usize, kind: *mut u8) -> Status;
@@ -167,6 +185,16 @@ extern "C" {
     fn mmdb_text(db: *mut Mmdb, bytes: *mut u8, room: usize, length: *mut usize) -> Status;
     fn mmdb_in_transaction(db: *mut Mmdb) -> bool;
     fn mmdb_release(db: *mut Mmdb, name: *const u8, length: usize) -> Status;
+    fn mmdb_dump(db: *mut Mmdb, place: *mut DumpPlace, bytes: *mut u8, room: usize, length: *mut usize) -> Status;
+    fn mmdb_definition(
+        db: *mut Mmdb,
+        kind: u8,
+        name: *const u8,
+        length: usize,
+        bytes: *mut u8,
+        room: usize,
+        needed: *mut usize,
+    ) -> Status;
     fn mmdb_columns(
         db: *mut Mmdb,
         line: *const u8,
@@ -230,6 +258,14 @@ impl Handle {
     pub(crate) fn execute(&self, line: &[u8]) -> Status {
         // SAFETY: The handle is open, and only this call uses it; the line is a slice.
         unsafe { mmdb_execute(self.mmdb.get(), line.as_ptr(), line.len()) }
+    }
+
+    /// Executes the lines of a script. Returns the status and the number of lines before the refused one, or of all lines.
+    pub(crate) fn load(&self, script: &[u8]) -> (Status, usize) {
+        let mut lines = 0;
+        // SAFETY: The handle is open, and only this call uses it; the script is a slice, and the number is written to a local variable.
+        let status = unsafe { mmdb_load(self.mmdb.get(), script.as_ptr(), script.len(), &mut lines) };
+        (status, lines)
     }
 
     /// Prepares a line and returns the number of the statement.
@@ -351,6 +387,27 @@ impl Handle {
     pub(crate) fn is_in_transaction(&self) -> bool {
         // SAFETY: The handle is open, and only this call uses it.
         unsafe { mmdb_in_transaction(self.mmdb.get()) }
+    }
+
+    /// Reads the next piece of a dump into the bytes, and returns its length: 0 at the end.
+    pub(crate) fn dump(&self, place: &mut DumpPlace, bytes: &mut [u8]) -> Result<usize, Status> {
+        let mut length = 0;
+        // SAFETY: The handle is open, and only this call uses it; only this call borrows the place and the slice, and the length is written
+        // to a local variable.
+        match unsafe { mmdb_dump(self.mmdb.get(), place, bytes.as_mut_ptr(), bytes.len(), &mut length) } {
+            DONE => Ok(length),
+            status => Err(status),
+        }
+    }
+
+    /// Returns the line that defines what has the name.
+    pub(crate) fn definition(&self, kind: u8, name: &[u8]) -> Result<Vec<u8>, Status> {
+        let mut line = Vec::new();
+        filled(&mut line, 0, |bytes, room, needed| {
+            // SAFETY: As in `text`; the name is a slice.
+            unsafe { mmdb_definition(self.mmdb.get(), kind, name.as_ptr(), name.len(), bytes, room, needed) }
+        })?;
+        Ok(line)
     }
 
     pub(crate) fn release(&self, name: &[u8]) -> Status {

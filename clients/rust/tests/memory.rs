@@ -4,8 +4,9 @@
 //! The test compiles tests/refuse.c, preloads it into a second process of this program, and is that test there. A growth of the allocator
 //! that nobody can refuse (Rust's `to_owned`, `format!` or `collect`) ends that process.
 
-use mmdb::{Connection, Error, Result, Row, Value};
+use mmdb::{Connection, DefinitionKind, Error, Refusal, Result, Row, Value};
 use std::ffi::{c_void, CStr};
+use std::io::{self, Write};
 use std::os::raw::{c_char, c_long, c_ulong};
 use std::path::Path;
 use std::process::Command;
@@ -96,6 +97,9 @@ const STEPS: &[Step] = &[
     Step { name: "plan", calls: |db| Ok(db.explain("SELECT a.s FROM small a, small b WHERE a.n = b.n")?.len()) },
     Step { name: "plan of a statement", calls: plan_of_statement },
     Step { name: "tables", calls: |db| Ok(db.tables()?.len()) },
+    Step { name: "dump", calls: dump },
+    Step { name: "definition", calls: |db| Ok(db.definition(DefinitionKind::StandingQuery, "all")?.len()) },
+    Step { name: "load", calls: load },
     Step {
         name: "columns",
         calls: |db| Ok(db.columns("SCAN\nsmall")?.len() + db.prepare("SCAN large")?.column_names()?.len()),
@@ -181,6 +185,40 @@ fn failed_script(db: &mut Connection) -> Result<usize> {
 
 fn plan_of_statement(db: &mut Connection) -> Result<usize> {
     Ok(db.prepare("SELECT a.n FROM small a WHERE a.s = ?")?.explain([TEXT])?.len())
+}
+
+/// Counts bytes.
+struct Counter(usize);
+
+impl Write for Counter {
+    fn write(&mut self, bytes: &[u8]) -> io::Result<usize> {
+        self.0 += bytes.len();
+        Ok(bytes.len())
+    }
+
+    fn flush(&mut self) -> io::Result<()> {
+        Ok(())
+    }
+}
+
+fn dump(db: &mut Connection) -> Result<usize> {
+    let mut counter = Counter(0);
+    match db.dump(&mut counter) {
+        Err(error) if error.kind() == io::ErrorKind::OutOfMemory => Err(Error::Refused(Refusal::Memory)),
+        result => {
+            result.unwrap();
+            Ok(counter.0)
+        }
+    }
+}
+
+/// A script whose last line is refused, in a transaction.
+fn load(db: &mut Connection) -> Result<usize> {
+    let transaction = db.transaction()?;
+    match transaction.load("INSERT t (1, 'x')\nSCAN small\nINSERT t (1, 'y')") {
+        Err(Error::InLine { line: 3, error }) if error.number() == Some(40) => transaction.commit().and(Ok(2)),
+        result => result.and(Ok(0)),
+    }
 }
 
 fn transaction(db: &mut Connection) -> Result<usize> {

@@ -9,7 +9,10 @@
 
 mod model;
 
-use mmdb::{params_from_iter, Connection, Error, Result, Rows, Savepoint, Statement, Transaction, Type, Value};
+use mmdb::{
+    params_from_iter, Connection, DefinitionKind, Error, Refusal, Result, Rows, Savepoint, Statement, Transaction,
+    Type, Value,
+};
 use model::call::{Answer, Call, Random, NAMES};
 use model::{Model, Reply, Row, Table, Test};
 use std::panic::{catch_unwind, AssertUnwindSafe};
@@ -65,6 +68,31 @@ fn values_of(row: &mmdb::Row<'_>) -> Row {
 
 fn columns_of(columns: &[mmdb::Column]) -> Vec<(String, Type)> {
     columns.iter().map(|column| (column.name().to_owned(), column.data_type())).collect()
+}
+
+fn dumped(db: &Connection) -> Vec<u8> {
+    let mut script = Vec::new();
+    db.dump(&mut script).unwrap();
+    script
+}
+
+fn rows_of(rows: Rows<'_>) -> Vec<Row> {
+    rows.map(|row| values_of(&row)).collect()
+}
+
+/// The dump of a database rebuilds it: the same catalog, rows and standing queries. A script with a text that is not UTF-8 is no `str`.
+fn restores(db: &Connection) {
+    let bytes = dumped(db);
+    let Ok(script) = std::str::from_utf8(&bytes) else { return };
+    let copy = Connection::open().unwrap();
+    copy.execute_batch(script).unwrap();
+    assert_eq!(copy.tables().unwrap(), db.tables().unwrap());
+    for line in ["SCAN t", "SCAN u", "SHOW w"] {
+        let rows =
+            |db: &Connection| plain(db.prepare(line).and_then(|mut statement| Ok(rows_of(statement.query(())?))));
+        assert_eq!(rows(&copy), rows(db), "{line} after the dump\n{script}");
+    }
+    assert_eq!(dumped(&copy), bytes);
 }
 
 /// A connection with its model.
@@ -473,16 +501,17 @@ impl Session<'_> {
         }
     }
 
-    /// A script of some commands, on one line or two each.
+    /// A script of some commands, on one line or two each. A script that is loaded has one line for each.
     fn script(&mut self, db: &Connection, model: &mut Model, random: &mut Random) {
         let mut lines: Vec<String> = Vec::new();
         let mut failure = None;
+        let is_loaded = random.once_in(2);
         for _ in 0..random.below(5) {
             let call = Call::any(random);
             let values = call.values(random);
             if let Some(line) = call.with_literals(&values) {
                 let first_line = lines.len() + 1;
-                let is_split = random.once_in(2);
+                let is_split = !is_loaded && random.once_in(2);
                 lines.extend(line.splitn(1 + usize::from(is_split), ' ').map(str::to_owned));
                 let between = random.one_of(&[None, None, Some(""), Some("-- a comment"), Some("  ")]);
                 lines.extend(between.map(str::to_owned));
@@ -491,8 +520,10 @@ impl Session<'_> {
                 }
             }
         }
-        self.log(|| format!("script {lines:?}"));
-        match (db.execute_batch(&lines.join(random.one_of(&["\n", "\r\n"]))), failure) {
+        self.log(|| format!("{} {lines:?}", if is_loaded { "load" } else { "script" }));
+        let script = lines.join(random.one_of(&["\n", "\r\n"]));
+        let found = if is_loaded { db.load(&script) } else { db.execute_batch(&script) };
+        match (found, failure) {
             (Ok(()), None) => {}
             (Err(Error::InLine { line, error }), Some((first_line, refusal))) => {
                 assert_eq!((line, error.number()), (first_line, Some(refusal)), "{lines:?}");
@@ -517,8 +548,27 @@ impl Session<'_> {
         }
         let (tables, indexes_and_watches) = (1 + usize::from(model.table("u").is_ok()), 1);
         assert_eq!(db.tables().unwrap().len(), tables + indexes_and_watches);
+        self.definitions(db, model, random.one_of(&["t", "u", "w"]));
         if random.once_in(4) {
             db.set_statement_cache_capacity(random.below(4));
+        }
+    }
+
+    /// Asks for the definitions of what has a name. Each is a line of the dump.
+    fn definitions(&mut self, db: &Connection, model: &Model, name: &str) {
+        let script = dumped(db);
+        for (kind, is_there, word, refusal) in [
+            (DefinitionKind::Table, model.table(name).is_ok(), "TABLE", Refusal::NoSuchTable),
+            (DefinitionKind::Index, false, "INDEX", Refusal::NoSuchIndex),
+            (DefinitionKind::StandingQuery, name == "w", "WATCH", Refusal::NoSuchStandingQuery),
+        ] {
+            match db.definition(kind, name) {
+                Ok(line) => {
+                    assert!(is_there && line.starts_with(format!("{word} {name} ").as_bytes()), "{kind:?} {name}");
+                    assert!(script.split(|byte| *byte == b'\n').any(|other| other == line), "{kind:?} {name}");
+                }
+                Err(error) => assert!(!is_there && error.refusal() == Some(refusal), "{kind:?} {name}: {error}"),
+            }
         }
     }
 
@@ -545,6 +595,7 @@ impl Session<'_> {
             for call in [Call::Scan { table: "t" }, Call::Scan { table: "u" }, Call::Show] {
                 make(db, model, &call, &[], Way::Cached);
             }
+            restores(db);
         }
     }
 }
