@@ -11,6 +11,9 @@ enum { MOST_REPLY_BYTES = 128 };
 
 enum { MOST_COLUMNS = 64 };
 
+/* The room for a piece of a dump, unless memory is short. Each call walks over the rows of earlier pieces, so large pieces are faster. */
+enum { PIECE_BYTES = (8 << 20) - 1 };
+
 /* How many rows of a large table an index is expected to find for a value, and for a range. */
 enum { EQUAL_ROWS = 1000, RANGE_ROWS = 100000 };
 
@@ -89,49 +92,11 @@ void database_close(struct database *database) {
   bytes_free(&database->replies);
   free(database->chains);
   database->chains = NULL;
-  for (size_t i = 0; i < MOST_STANDING; i++) bytes_free(&database->standing[i].line);
-  database->standing_count = 0;
 }
 
 size_t database_part(const struct database *database) { return database->progress.entries + database->progress.has_run; }
 
 bool database_is_between(const struct database *database) { return database_part(database) > 0; }
-
-/* Standing queries. */
-
-static bool copy_name(char name[MOST_NAME_BYTES + 1], struct text word) {
-  if (word.length > MOST_NAME_BYTES) return false;
-  memcpy(name, word.at, word.length);
-  name[word.length] = 0;
-  return true;
-}
-
-/* Copies the line of a standing query to the place after the last one, before the line runs. Returns false if an allocation fails. */
-static bool prepare_standing(struct database *database, uint8_t kind, struct text line) {
-  struct standing *next = &database->standing[database->standing_count];
-  if (kind != MMDB_KIND_WATCH || database->standing_count == MOST_STANDING) return true;
-  bytes_free(&next->line);
-  return copy_name(next->name, word_of_line(line, 1)) && bytes_add(&next->line, line.at, line.length);
-}
-
-static void drop_standing(struct database *database, const char *name) {
-  size_t *count = &database->standing_count;
-  for (size_t i = 0; i < *count; i++) {
-    if (strcmp(database->standing[i].name, name)) continue;
-    bytes_free(&database->standing[i].line);
-    --*count;
-    memmove(&database->standing[i], &database->standing[i + 1], (*count - i) * sizeof *database->standing);
-    database->standing[*count] = (struct standing){.line = {NULL, 0, 0}};
-    return;
-  }
-}
-
-/* Keeps the line that was prepared, or drops the line of a standing query that is gone. */
-static void keep_standing(struct database *database, uint8_t kind, struct text line) {
-  char name[MOST_NAME_BYTES + 1];
-  if (kind == MMDB_KIND_WATCH && database->standing_count < MOST_STANDING) database->standing_count++;
-  if (kind == MMDB_KIND_UNWATCH && copy_name(name, word_of_line(line, 1))) drop_standing(database, name);
-}
 
 /* Scripts. */
 
@@ -166,11 +131,10 @@ static uint8_t run_line(struct database *database, struct text line, uint8_t *ki
   size_t statement;
   if (!bytes_reserve(&database->replies, MOST_REPLY_BYTES)) return MMDB_MEMORY;
   if (mmdb_prepare(db, line.at, line.length, &statement) != MMDB_DONE) return MMDB_MEMORY;
-  bool is_known = mmdb_statement_kind(db, statement, kind) == MMDB_DONE && prepare_standing(database, *kind, line);
+  bool is_known = mmdb_statement_kind(db, statement, kind) == MMDB_DONE;
   uint8_t status = is_known ? mmdb_run(db, statement, NULL, 0) : MMDB_MEMORY;
   mmdb_finalize(db, statement);
   if (status == MMDB_MISUSE) return MMDB_MEMORY;
-  if (status < MMDB_LINE_TOO_LONG) keep_standing(database, *kind, line);
   if (status != MMDB_MEMORY && status != MMDB_NOTHING) add_reply(database, status);
   return status;
 }
@@ -285,6 +249,13 @@ static enum answer refuse_line(struct database *database, uint8_t status) {
   return add_refusal(&database->replies, status) ? ANSWER_REFUSED : ANSWER_MEMORY;
 }
 
+/* Puts the whole reply of a line that asks into text, which is emptied first. Returns false if it is refused. */
+static bool read_reply(struct database *database, const char *line, struct bytes *text) {
+  text->length = 0;
+  uint8_t status = mmdb_execute(&database->db, (const uint8_t *)line, strlen(line));
+  return status < MMDB_LINE_TOO_LONG && add_text(&database->db, text, SIZE_MAX);
+}
+
 /* Reads the number of rows in a line of TABLES: 0 in one of an index. */
 static uint64_t rows_of_line(struct text line) {
   static const char word[] = " rows ";
@@ -300,7 +271,7 @@ uint64_t database_largest(struct database *database) {
   struct bytes tables = {NULL, 0, 0};
   struct text line;
   if (database->has_largest && database->largest_at == database->applied) return database->largest;
-  database->has_largest = database_text(database, "TABLES", &tables);
+  database->has_largest = read_reply(database, "TABLES", &tables);
   database->largest_at = database->applied;
   database->largest = 0;
   for (struct text rest = {tables.at, tables.length}; next_line(&rest, &line);) {
@@ -378,26 +349,26 @@ enum answer database_ask(struct database *database, struct text line, const stru
   return status < MMDB_LINE_TOO_LONG ? ANSWER_DONE : ANSWER_REFUSED;
 }
 
-bool database_restore(struct database *database, struct text line) {
+/* Snapshots. */
+
+bool database_dump(struct database *database, mmdb_dump_place *place, struct bytes *piece) {
+  piece->length = 0;
+  bool has_room = bytes_reserve(piece, PIECE_BYTES) || bytes_reserve(piece, MMDB_DUMP_ROOM);
+  return has_room && mmdb_dump(&database->db, place, piece->at, piece->room, &piece->length) == MMDB_DONE;
+}
+
+bool database_restore(struct database *database, struct text line, struct bytes *watches) {
   uint8_t kind = MMDB_KIND_NOTHING;
   database->replies.length = 0;
   uint8_t status = run_line(database, line, &kind);
-  return (status == MMDB_DONE || status == MMDB_COUNT) && !mmdb_in_transaction(&database->db);
-}
-
-bool database_text(struct database *database, const char *line, struct bytes *text) {
-  text->length = 0;
-  uint8_t status = mmdb_execute(&database->db, (const uint8_t *)line, strlen(line));
-  return status < MMDB_LINE_TOO_LONG && add_text(&database->db, text, SIZE_MAX);
-}
-
-bool next_table(struct text *tables, struct text *line, char name[MOST_NAME_BYTES + 1]) {
-  while (next_line(tables, line))
-    if (is_word(word_of_line(*line, 0), "TABLE")) return copy_name(name, word_of_line(*line, 1));
-  return false;
+  bool is_done = (status == MMDB_DONE || status == MMDB_COUNT) && !mmdb_in_transaction(&database->db);
+  return is_done && (kind != MMDB_KIND_WATCH || bytes_add(watches, line.at, line.length));
 }
 
 /* Sums. */
+
+/* The place of a sum that covers the rows of all tables. */
+#define ALL_TABLES SIZE_MAX
 
 /* Adds the ids of messages past a number, which are the newest ones. */
 static void sum_recents(struct database *database, uint64_t after, struct digester *sum) {
@@ -413,26 +384,37 @@ static void sum_recents(struct database *database, uint64_t after, struct digest
   }
 }
 
-static size_t count_tables(struct text tables) {
-  char name[MOST_NAME_BYTES + 1];
+/* Takes lines off the text of TABLES up to one of a table or standing query, and writes the question for its rows, or returns false. */
+static bool next_list(struct text *tables, bool has_standing, char question[MOST_NAME_BYTES + 8]) {
   struct text line;
+  while (next_line(tables, &line)) {
+    struct text word = word_of_line(line, 0), name = word_of_line(line, 1);
+    bool is_standing = is_word(word, "WATCH");
+    if (!is_word(word, "TABLE") && !(is_standing && has_standing)) continue;
+    snprintf(question, MOST_NAME_BYTES + 8, "%s %.*s", is_standing ? "SHOW" : "SCAN", (int)name.length, (const char *)name.at);
+    return true;
+  }
+  return false;
+}
+
+static size_t count_lists(struct text tables, bool has_standing) {
+  char question[MOST_NAME_BYTES + 8];
   size_t count = 0;
-  while (next_table(&tables, &line, name)) count++;
+  while (next_list(&tables, has_standing, question)) count++;
   return count;
 }
 
-static bool sum_tables(struct database *database, size_t table, struct digester *sum) {
+/* Adds TABLES, and the rows of all tables, or of the table or standing query at a place. */
+static bool sum_rows(struct database *database, size_t place, struct digester *sum) {
   struct bytes tables = {NULL, 0, 0}, *rows = &database->replies;
-  char name[MOST_NAME_BYTES + 1], scan[MOST_NAME_BYTES + 8];
-  struct text line;
-  bool is_done = database_text(database, "TABLES", &tables);
+  char question[MOST_NAME_BYTES + 8];
+  bool is_part = place != ALL_TABLES, is_done = read_reply(database, "TABLES", &tables);
   struct text rest = {tables.at, tables.length};
-  size_t count = count_tables(rest), place = 0;
+  size_t count = count_lists(rest, is_part);
   digester_add(sum, tables.at, tables.length);
-  for (; is_done && next_table(&rest, &line, name); place++) {
-    if (table != ALL_TABLES && table % count != place) continue;
-    snprintf(scan, sizeof scan, "SCAN %s", name);
-    is_done = database_text(database, scan, rows);
+  for (size_t i = 0; is_done && next_list(&rest, is_part, question); i++) {
+    if (is_part && place % count != i) continue;
+    is_done = read_reply(database, question, rows);
     if (is_done) digester_add(sum, rows->at, rows->length);
   }
   bytes_free(&tables);
@@ -440,17 +422,22 @@ static bool sum_tables(struct database *database, size_t table, struct digester 
   return is_done && bytes_reserve(rows, MOST_REPLY_BYTES);
 }
 
-bool database_sum_part(struct database *database, size_t table, uint64_t after, struct digest *sum) {
+static bool sum_all(struct database *database, size_t place, uint64_t after, struct text watches, struct digest *sum) {
   struct digester *digester = &database->digester;
-  uint64_t place[] = {database->applied, database->recents.forgotten};
+  uint64_t numbers[] = {database->applied, database->recents.forgotten};
   digester_begin(digester);
-  digester_add(digester, place, sizeof place);
+  digester_add(digester, numbers, sizeof numbers);
   digester_add(digester, database->chain.at, DIGEST_BYTES);
-  bool is_done = sum_tables(database, table, digester);
-  for (size_t i = 0; i < database->standing_count; i++)
-    digester_add(digester, database->standing[i].line.at, database->standing[i].line.length);
+  bool is_done = sum_rows(database, place, digester);
+  digester_add(digester, watches.at, watches.length);
   sum_recents(database, after, digester);
   return digester_end(digester, sum) && is_done;
 }
 
-bool database_sum(struct database *database, size_t table, struct digest *sum) { return database_sum_part(database, table, 0, sum); }
+bool database_sum(struct database *database, const struct bytes *watches, struct digest *sum) {
+  return sum_all(database, ALL_TABLES, 0, (struct text){watches->at, watches->length}, sum);
+}
+
+bool database_sum_part(struct database *database, size_t place, uint64_t after, struct digest *sum) {
+  return sum_all(database, place, after, (struct text){NULL, 0}, sum);
+}

@@ -8,14 +8,8 @@
 
 /* The format of a log. It has to become greater whenever messages change, or what libmmdb replies to a line: then two versions never apply
  * the same log. */
-enum { LOG_FORMAT = 2, MOST_STANDING = 32, CHAINS = 8192, IDENTITY_DIGITS = 16, IDENTITY_BYTES = IDENTITY_DIGITS + 1 };
+enum { LOG_FORMAT = 2, CHAINS = 8192, IDENTITY_DIGITS = 16, IDENTITY_BYTES = IDENTITY_DIGITS + 1 };
 enum { COLUMNS_BYTES = 2048 };
-
-/* The line that made a standing query. TABLES does not return it, and a snapshot needs it. */
-struct standing {
-  char name[MOST_NAME_BYTES + 1];
-  struct bytes line;
-};
 
 /* A message of the log. format and checked are the values of its headers, or NULL. */
 struct message {
@@ -41,8 +35,6 @@ struct database {
   struct digest *chains;       /* the newest CHAINS chain hashes, each at its number modulo CHAINS */
   uint64_t chains_from;        /* the least number of which a chain hash is kept, unless newer ones replaced it */
   struct recents recents;
-  struct standing standing[MOST_STANDING]; /* the oldest first */
-  size_t standing_count;
   struct bytes replies; /* of the script or question at hand */
   struct digester digester;
   struct progress progress;
@@ -117,28 +109,25 @@ uint64_t database_largest(struct database *database);
  */
 uint64_t reads_of_plan(struct text plan, uint64_t largest);
 
-/* Runs a line of a snapshot. Returns false unless it is done. */
-bool database_restore(struct database *database, struct text line);
+/* Reads the next piece of the dump, whole lines, or nothing at its end. Returns false if an allocation fails. */
+bool database_dump(struct database *database, mmdb_dump_place *place, struct bytes *piece);
+
+/* Runs a line of a snapshot. If it makes a standing query, appends it to watches. Returns false unless all of this is done. */
+bool database_restore(struct database *database, struct text line, struct bytes *watches);
 
 /* Sets the place in the log of a database that was restored. */
 void database_set_place(struct database *database, uint64_t number, const struct digest *before, const struct digest *chain);
 
-/* Puts the whole reply of a line that asks into text, which is emptied first. Returns false if it is refused. */
-bool database_text(struct database *database, const char *line, struct bytes *text);
-
-/* Which tables a sum covers. */
-#define ALL_TABLES SIZE_MAX
+/*
+ * Computes the sum of what a snapshot contains: TABLES, each SCAN, the lines of the standing queries as they are in the snapshot, one after
+ * another, the ids and the place in the log. Returns false if an allocation fails.
+ */
+bool database_sum(struct database *database, const struct bytes *watches, struct digest *sum);
 
 /*
- * Computes the sum of what replicas share: TABLES, the lines of the standing queries, the ids, the place in the log, and each SCAN, or only
- * that of the table at a place modulo their count. Returns false if an allocation fails.
+ * Computes the sum that replicas compare: TABLES, the ids of messages past a number, the place in the log, and the rows of one table or
+ * standing query, that at a place modulo their count. Returns false if an allocation fails.
  */
-bool database_sum(struct database *database, size_t table, struct digest *sum);
-
-/* Computes the same of the ids of messages past a number alone. */
-bool database_sum_part(struct database *database, size_t table, uint64_t after, struct digest *sum);
-
-/* Takes lines off the text of TABLES up to the next one of a table, and writes its name. Returns false if there is none. */
-bool next_table(struct text *tables, struct text *line, char name[MOST_NAME_BYTES + 1]);
+bool database_sum_part(struct database *database, size_t place, uint64_t after, struct digest *sum);
 
 #endif

@@ -37,6 +37,9 @@ struct numbers {
   size_t count;
 };
 
+/* Computes the sum of a database, which its snapshot contains. Returns false if an allocation fails. */
+bool snapshot_sum(struct database *database, struct digest *sum);
+
 /* Writes a snapshot to a file. Returns false and sets errno if it cannot. */
 bool snapshot_put(FILE *file, const struct snapshots *snapshots, struct database *database, const char *identity);
 

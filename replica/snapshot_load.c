@@ -122,13 +122,14 @@ static bool read_recent(struct reader *reader, struct database *database) {
   return recents_add(&database->recents, recent);
 }
 
-/* Returns why the lines after the head do not make the database again, or NULL. */
-static const char *read_body(struct reader *reader, struct database *database) {
+/* Returns why the lines after the head do not make the database again, or NULL and the lines of the standing queries. */
+static const char *read_body(struct reader *reader, struct database *database, struct bytes *watches) {
   const char *wrong;
   while (reader_next(reader)) {
     if (reader_is_end(reader, &wrong)) return wrong;
-    bool is_done = strncmp(reader->line, "-- id ", 6) ? database_restore(database, text_of_line(reader)) : read_recent(reader, database);
-    if (!is_done) return "a line of it is refused";
+    bool is_id = !strncmp(reader->line, "-- id ", 6);
+    if (!(is_id ? read_recent(reader, database) : database_restore(database, text_of_line(reader), watches)))
+      return "a line of it is refused";
   }
   return "it has no end";
 }
@@ -163,18 +164,25 @@ static const char *refuse_head(const struct head *head, const struct wanted *wan
   return wanted->agrees(wanted->closure, head) ? NULL : "the log has another history";
 }
 
+/* Returns why the database does not have the sum of a snapshot at its place in the log, or NULL. */
+static const char *set_place(struct database *database, const struct head *head, const struct bytes *watches) {
+  struct digest sum;
+  if (database->recents.forgotten > head->forgotten) return "it has too many ids";
+  database->recents.forgotten = head->forgotten;
+  database_set_place(database, head->number, &head->before, &head->chain);
+  if (!database_sum(database, watches, &sum)) return no_memory;
+  return is_same_digest(&sum, &head->sum) ? NULL : "its rows do not have their sum";
+}
+
 static const char *read_snapshot(struct reader *reader, struct database *database, const char *log, const struct wanted *wanted) {
   struct head head;
-  struct digest sum;
+  struct bytes watches = {NULL, 0, 0};
   const char *wrong = read_head(reader, log, &head);
   if (!wrong) wrong = refuse_head(&head, wanted);
-  if (!wrong) wrong = read_body(reader, database);
-  if (wrong) return wrong;
-  if (database->recents.forgotten > head.forgotten) return "it has too many ids";
-  database->recents.forgotten = head.forgotten;
-  database_set_place(database, head.number, &head.before, &head.chain);
-  if (!database_sum(database, ALL_TABLES, &sum)) return no_memory;
-  return is_same_digest(&sum, &head.sum) ? NULL : "its rows do not have their sum";
+  if (!wrong) wrong = read_body(reader, database, &watches);
+  if (!wrong) wrong = set_place(database, &head, &watches);
+  bytes_free(&watches);
+  return wrong;
 }
 
 /* Opens the database from a file. */

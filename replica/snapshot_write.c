@@ -61,58 +61,44 @@ static void put_recent(struct writer *writer, const struct recent *recent) {
   for (rest = recent->replies; next_line(&rest, &line); put_line(writer, line)) put_words(writer, "-- > ");
 }
 
-/* Puts rows, as SCAN returns them, into as few lines of INSERT as they fit in. */
-static void put_rows(struct writer *writer, const char *name, struct text rows) {
-  char insert[MOST_NAME_BYTES + 9];
-  int before = snprintf(insert, sizeof insert, "INSERT %s ", name);
-  size_t length = 0;
-  struct text row;
-  while (next_line(&rows, &row) && row.length && row.at[0] == '(') {
-    bool goes_on = length && length + 2 + row.length <= MOST_LINE_BYTES;
-    if (length && !goes_on) put_words(writer, "\n");
-    put_words(writer, goes_on ? ", " : insert);
-    put(writer, row.at, row.length);
-    length = (goes_on ? length + 2 : (size_t)before) + row.length;
-  }
-  if (length) put_words(writer, "\n");
-}
-
-static struct text without_count(struct text line) {
-  while (line.length && line.at[line.length - 1] != ')') line.length--;
-  return line;
-}
-
-/* Puts each table with its rows and then its indexes, and then the standing queries, all in the order in which they were made. */
-static bool put_database(struct writer *writer, struct database *database) {
-  struct bytes tables = {NULL, 0, 0}, *rows = &database->replies;
-  char name[MOST_NAME_BYTES + 1], scan[MOST_NAME_BYTES + 8];
+/* Appends the lines of the standing queries in the dump, which a sum covers, without line feeds. */
+static bool read_watches(struct database *database, struct bytes *watches) {
+  mmdb_dump_place place = MMDB_DUMP_START;
+  struct bytes *piece = &database->replies;
   struct text line;
-  bool is_done = database_text(database, "TABLES", &tables);
-  struct text rest = {tables.at, tables.length};
-  while (is_done && next_line(&rest, &line)) {
-    struct text one = line, table;
-    if (is_word(word_of_line(line, 0), "INDEX")) put_line(writer, line);
-    if (!next_table(&one, &table, name)) continue;
-    put_line(writer, without_count(table));
-    snprintf(scan, sizeof scan, "SCAN %s", name);
-    is_done = database_text(database, scan, rows);
-    if (is_done) put_rows(writer, name, (struct text){rows->at, rows->length});
+  while (database_dump(database, &place, piece)) {
+    if (!piece->length) return true;
+    for (struct text rest = {piece->at, piece->length}; next_line(&rest, &line);)
+      if (is_word(word_of_line(line, 0), "WATCH") && !bytes_add(watches, line.at, line.length)) return false;
   }
-  for (size_t i = 0; i < database->standing_count; i++)
-    put_line(writer, (struct text){database->standing[i].line.at, database->standing[i].line.length});
-  bytes_free(&tables);
-  bytes_trim(rows);
+  return false;
+}
+
+bool snapshot_sum(struct database *database, struct digest *sum) {
+  struct bytes watches = {NULL, 0, 0};
+  bool is_done = read_watches(database, &watches) && database_sum(database, &watches, sum);
+  bytes_free(&watches);
   return is_done;
+}
+
+static bool put_dump(struct writer *writer, struct database *database) {
+  mmdb_dump_place place = MMDB_DUMP_START;
+  struct bytes *piece = &database->replies;
+  while (database_dump(database, &place, piece)) {
+    if (!piece->length) return true;
+    put(writer, piece->at, piece->length);
+  }
+  return false;
 }
 
 static bool put_all(struct writer *writer, const struct snapshots *snapshots, struct database *database, const char *identity) {
   struct digest sum, whole;
   char end[DIGEST_TEXT_BYTES];
-  if (!database_sum(database, ALL_TABLES, &sum)) return false;
+  if (!snapshot_sum(database, &sum)) return false;
   digester_begin(&writer->digester);
   put_head(writer, snapshots, database, identity, &sum);
   for (size_t i = 0; i < database->recents.count; i++) put_recent(writer, recents_at(&database->recents, i));
-  if (!put_database(writer, database) || !digester_end(&writer->digester, &whole)) return false;
+  if (!put_dump(writer, database) || !digester_end(&writer->digester, &whole)) return false;
   write_digest(end, &whole);
   return fprintf(writer->file, "-- end %s\n", end) > 0 && !writer->has_failed;
 }

@@ -109,7 +109,7 @@ static bool apply_all(size_t failing, long count, struct digest *sum) {
     if (place == failing) left = count;
     apply(&database, place, &body);
   }
-  MUST(database_sum(&database, ALL_TABLES, sum));
+  MUST(snapshot_sum(&database, sum));
   database_close(&database);
   bytes_free(&body);
   return was_refused;
@@ -167,7 +167,7 @@ static void snapshots_of(const struct digest *sum) {
     bool is_done = snapshot_write(&snapshots, &database, identity, false);
     left = -1;
     MUST((is_done || was_refused) && (access(path, F_OK) == 0) == is_done);
-    MUST(database_sum(&database, ALL_TABLES, &other) && is_same_digest(sum, &other));
+    MUST(snapshot_sum(&database, &other) && is_same_digest(sum, &other));
     if (was_refused && is_done) MUST(!unlink(path));
   }
   was_refused = true;
@@ -178,7 +178,7 @@ static void snapshots_of(const struct digest *sum) {
     left = -1;
     MUST(is_done || was_refused);
     if (!is_done) continue;
-    MUST(database_sum(&again, ALL_TABLES, &other) && is_same_digest(sum, &other));
+    MUST(snapshot_sum(&again, &other) && is_same_digest(sum, &other));
     database_close(&again);
   }
   database_close(&database);

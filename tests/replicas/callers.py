@@ -1,4 +1,4 @@
-"""Clients that call replicas and record each call, and a witness that reads the log while it grows."""
+"""Clients that call replicas and record each call, and a witness that reads the log during the run."""
 
 import json
 import threading
@@ -16,13 +16,13 @@ from stage import Stage
 from wire import Connection, Message, headers_in
 
 NOT_NOW = ("unready", "unavailable", "behind", "memory")
-AT_ONCE = 200  # messages that are read at a time
+AT_ONCE = 200  # messages per batch
 NO_MESSAGE = 404
-LONGEST_WAIT_MS = 90000  # milliseconds that mmdb-ask tries
+LONGEST_WAIT_MS = 90000  # the timeout of mmdb-ask in milliseconds
 
 
 def answer_of(message: Message, end: float) -> Answer:
-    """What a message says. Its status is None where it is no answer of a replica."""
+    """Returns the answer in a message. Its status is None if no replica sent the message."""
     headers = message.headers
     return Answer(
         end=end,
@@ -42,20 +42,20 @@ def headers_of(change: Change) -> dict[str, str]:
 
 
 class Board:
-    """What clients pass on to each other: the newest number that was answered, and whether the run is over."""
+    """The state that clients share: the highest number of any answer, and whether the run is over."""
 
     def __init__(self) -> None:
         self.newest = 0
         self.is_over = threading.Event()
-        self.give_up = float("inf")  # the time from when on no call is tried again
-        self.refused = 0  # how often no one could answer
+        self.give_up = float("inf")  # the time after which no call is repeated
+        self.refused = 0  # the number of attempts without a final answer
 
     def saw(self, number: int) -> None:
         self.newest = max(self.newest, number)
 
 
 class Caller:
-    """A client. It demands the number of its last answer, or the newest number that any client told it."""
+    """A client. Its questions demand the number of its last answer, or the highest number of all clients."""
 
     def __init__(self, host: str, client: str, log: str, network: Network, history: History, board: Board):
         self.host, self.client, self.log = host, client, log
@@ -85,11 +85,11 @@ class Caller:
         self.ask(call.question, demanded, call.wait, begin, call.linearizable)
 
     def try_once(self, subject: str, body: bytes, headers: dict[str, str], wait: float) -> Optional[Answer]:
-        """An answer that is not about to change, or None."""
+        """Sends a request once. Returns its answer, or None if there is none or its status is one of NOT_NOW."""
         try:
             message = self.connection.request(subject, body, {**headers, "Mmdb-Wait": str(int(wait * 1000))}, wait)
         except OSError:
-            self.connection.close()  # the server may be cut off, and only another one leads on
+            self.connection.close()  # the server may be cut off from the leader; the next connection is to another one
             self.board.refused += 1
             return None
         answer = answer_of(message, time.monotonic())
@@ -102,7 +102,7 @@ class Caller:
         return time.monotonic() > self.board.give_up
 
     def change(self, script: str, wait: float, has_condition: bool = False) -> Change:
-        """Sends a change until it is answered, each time with the same id."""
+        """Sends a change until a replica answers, each time with the same id. Returns the record of the change."""
         self.count += 1
         change = Change(self.client, f"{self.client}-{self.count}", script, time.monotonic(), has_condition, self.number)
         self.history.add(change)
@@ -118,7 +118,7 @@ class Caller:
         return change
 
     def ask(self, question: str, demanded: int, wait: float, begin: float, linearizable: bool = False, replica: str = "") -> Question:
-        """Asks until it is answered, or the run is over."""
+        """Sends a question until a replica answers, or until `give_up`. Returns the record of the question."""
         asked = Question(self.client, question, demanded, begin, linearizable)
         self.history.add(asked)
         subject = f"{self.log}.ask.{replica}" if replica else f"{self.log}.ask"
@@ -138,7 +138,7 @@ class Caller:
 
 
     def send_again(self, change: Change) -> None:
-        """Sends a change again that was answered, and records it as another call with the same id."""
+        """Sends an answered change once more, and records it as another call with the same id."""
         again = replace(change, client=self.client, answer=Answer())
         self.history.add(again)
         answer = self.try_once(self.log + ".change", change.script.encode(), headers_of(change), 2.5)
@@ -147,10 +147,10 @@ class Caller:
 
 
 class ProgramCaller:
-    """A client that is an mmdb-ask, which is held open and gets one script or question after another.
+    """A client that sends its scripts and questions to one running mmdb-ask.
 
-    A linearizable one only asks, and so does one whose replicas forget ids within seconds: an id that the caller of mmdb-ask chose is sent
-    without the number before which it was new.
+    The client sends only questions if mmdb-ask is linearizable, or if the replicas forget ids within seconds. mmdb-ask sends an id that
+    its caller chose without the number before which the id was new.
     """
 
     def __init__(self, host: str, client: str, stage: Stage, history: History, board: Board, is_linearizable: bool):
@@ -173,7 +173,7 @@ class ProgramCaller:
                     self.count += 1
                     name = f"{self.client}-{self.count}"
                     self.record(Change(self.client, name, call.script, time.monotonic(), False, self.number), call.script)
-            must(self.asker.close() == 0, "mmdb-ask did not end well")
+            must(self.asker.close() == 0, "mmdb-ask did not end with status 0")
         finally:
             self.asker.kill()
 
@@ -186,7 +186,7 @@ class ProgramCaller:
 
 
 class Witness:
-    """Reads each message of the log soon after it came, from a host that is never cut off."""
+    """Reads each message of the log soon after its publication, from a host that is never cut off."""
 
     def __init__(self, log: str, network: Network, history: History, board: Board):
         self.log, self.network, self.history, self.board = log, network, history, board
@@ -203,7 +203,7 @@ class Witness:
         self.connection.close()
 
     def read(self, connection: Connection, number: int, seen: str) -> int:
-        """Reads the log from a number on. Returns the number behind the last message that was there."""
+        """Adds the messages of the log from `number` on to the history. Returns the number to read next."""
         while True:
             bodies = [json.dumps({"seq": one}).encode() for one in range(number, number + (AT_ONCE if seen == "end" else 8))]
             answers = connection.gather("$JS.API.STREAM.MSG.GET." + self.log, bodies)
@@ -215,7 +215,7 @@ class Witness:
                 number += 1
 
     def number_after(self, number: int, error: dict, connection: Connection) -> int:
-        """The number to go on with where a message is not there: the same one, or the first one where older ones were dropped."""
+        """Returns the number to read next if `number` is missing: the same number, or the log's first if older messages were dropped."""
         if error.get("code") != NO_MESSAGE:
             raise ConnectionError(str(error))
         state = connection.api("STREAM.INFO." + self.log)["state"]
@@ -240,12 +240,12 @@ def read_log(connection: Connection, log: str, history: History, network: Networ
 
 
 def guarded(work: Callable[[], None], wrong: list[str], board: Board) -> Callable[[], None]:
-    """The work of a thread, of which a failure ends the run."""
+    """Returns a thread function that runs `work`. An exception is appended to `wrong` and ends the run."""
 
     def guard() -> None:
         try:
             work()
-        except Exception as failure:  # noqa: BLE001: each failure counts, whatever it is
+        except Exception as failure:  # noqa: BLE001: every exception is a finding
             wrong.append(f"{type(failure).__name__}: {failure}")
             board.is_over.set()
 

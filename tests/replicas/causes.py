@@ -1,10 +1,10 @@
 #!/usr/bin/env python3
-"""One test for each known cause of lost data or of a common stop of all replicas, each with its own one or three servers on loopback.
+"""Tests each known cause of lost data or of a simultaneous stop of all replicas. Each test has one or three servers of its own on loopback.
 
     causes.py PROGRAMS [TEST ..]
 
-PROGRAMS is the folder of mmdb-replica and mmdb-ask. Without TEST all tests run, four at a time. The exit status is 0 if all pass.
-README.md in this folder says which cause each test finds.
+PROGRAMS is the folder of mmdb-replica and mmdb-ask. Without TEST, all tests run, four at a time. The exit status is 0 if all pass.
+README.md in this folder lists the cause that each test detects.
 """
 
 import json
@@ -37,7 +37,7 @@ Entry = tuple[str, bytes]
 
 
 class Case:
-    """A cluster of one test, with what a test asks of it."""
+    """The cluster of one test, with helpers for the test."""
 
     def __init__(self, programs: Path, servers: int = 1):
         self.folder = Path(tempfile.mkdtemp(prefix="causes"))
@@ -51,12 +51,12 @@ class Case:
         self.snapshots = ["--snapshots", str(self.cluster.snapshots)]
 
     def end(self) -> None:
-        """Ends all replicas. Sanitizers report leaks then, and let the status be another than 0."""
+        """Ends all replicas. If a sanitizer then reports a leak, the status of the replica is not 0."""
         for name, replica in self.cluster.replicas.items():
             if replica.running and replica.running.poll() is not None:
-                raise Failed(f"{name} has ended by itself: {replica.said()[-1500:]}")
+                raise Failed(f"{name} ended unexpectedly: {replica.said()[-1500:]}")
             if replica.running:
-                must(replica.stop() == 0, f"{name} did not end well: {replica.said()[-1500:]}")
+                must(replica.stop() == 0, f"{name} did not end with status 0: {replica.said()[-1500:]}")
 
     def close(self) -> None:
         self.cluster.close()
@@ -65,7 +65,7 @@ class Case:
     # The log.
 
     def keep_log(self) -> None:
-        """Keeps a copy of the first server's files."""
+        """Copies the first server's files."""
         server = self.cluster.servers[0]
         server.stop()
         shutil.copytree(self.folder / "s0", self.folder / "kept")
@@ -73,7 +73,7 @@ class Case:
         self.connection.close()
 
     def put_kept_log_back(self) -> None:
-        """Kills the first server, and gives it the files that were kept. It is not started again."""
+        """Kills the first server, and restores the copy of its files. Does not restart the server."""
         self.cluster.servers[0].kill()
         shutil.rmtree(self.folder / "s0")
         shutil.copytree(self.folder / "kept", self.folder / "s0")
@@ -87,7 +87,7 @@ class Case:
         return replica
 
     def statuses(self) -> dict[str, dict]:
-        """What the replicas that answer within some time say of themselves, by their names."""
+        """Returns the statuses of the replicas that answer within 0.4 s, by their names."""
         answers = self.connection.collect(LOG + ".status", len(self.cluster.replicas), 0.4)
         found: dict[str, dict] = {}
         for answer in answers:
@@ -100,7 +100,7 @@ class Case:
             found = self.statuses()
             if name in found:
                 return found[name]
-            must(time.monotonic() < self.until, f"{name} does not say its status: {self.cluster.replicas[name].said()[-400:]}")
+            must(time.monotonic() < self.until, f"{name} does not report its status: {self.cluster.replicas[name].said()[-400:]}")
 
     def wait_for(self, name: str, state: str, seconds: float = 25.0) -> dict:
         """Waits until a replica is in a state, and returns its status."""
@@ -109,11 +109,11 @@ class Case:
             found = self.status(name)
             if found["state"] == state:
                 return found
-            must(time.monotonic() < until, f"{name} is {found['state']}, and not {state}: {self.cluster.replicas[name].said()[-600:]}")
+            must(time.monotonic() < until, f"{name} is {found['state']}, not {state}: {self.cluster.replicas[name].said()[-600:]}")
             time.sleep(0.05)
 
     def must_live_once(self, *names: str) -> None:
-        """Requires that replicas are ready again, and never dropped their rows."""
+        """Requires that replicas become ready, and have never dropped their rows."""
         for name in names:
             found = self.wait_for(name, "ready", 40)
             must(found["lives"] == 1, f"{name} dropped its rows: {self.cluster.replicas[name].said()[-600:]}")
@@ -121,10 +121,10 @@ class Case:
     # Requests.
 
     def request(self, subject: str, body: bytes, **headers: str) -> Message:
-        """The answer to a request that is sent again until it is answered."""
+        """Repeats a request until a replica answers, and returns the answer."""
         named = {"Mmdb-" + name.replace("_", "-"): value for name, value in headers.items()}
         while True:
-            must(time.monotonic() < self.until, f"{subject} is not answered")
+            must(time.monotonic() < self.until, f"{subject} has no answer")
             try:
                 answer = self.connection.request(LOG + subject, body, named)
                 if answer.headers.get("Mmdb-Status") not in (None, "unready", "unavailable", "behind", "memory"):
@@ -149,7 +149,7 @@ class Case:
         return patient(self.connection, "STREAM.INFO." + LOG, None, self.until)["config"]["description"].split()[-1]
 
     def rows(self, table: str, count: int, of_line: int = 40, of_script: int = 20) -> None:
-        """Inserts rows, many in a script."""
+        """Inserts rows, many per script."""
         for first in range(0, count, of_line * of_script):
             lines = []
             for start in range(first, min(count, first + of_line * of_script), of_line):
@@ -165,7 +165,7 @@ class Case:
             self.change(f"INSERT t ({number}, 0, '{word}')\n".encode())
 
     def fill(self, last: int) -> None:
-        """Fills the log up to a number, with messages that change nothing."""
+        """Fills the log up to a number with messages that change nothing."""
         while self.state()["last_seq"] < last:
             try:
                 self.connection.request(LOG + ".log", b"no script")
@@ -187,7 +187,7 @@ def in_background(work: Callable[[], None]) -> None:
 
 
 class Proxy:
-    """Passes bytes on between replicas and a server. Bytes with some words wait on their way to the server until they are released."""
+    """Forwards bytes between replicas and a server. Bytes to the server that contain `words` wait until they are released."""
 
     def __init__(self, server: tuple[str, int], words: bytes):
         self.server, self.words = server, words
@@ -214,11 +214,11 @@ class Proxy:
             pass
 
 
-# The log is touched by nobody.
+# Integrity of the log.
 
 
 def reply_subjects(case: Case) -> None:
-    """A replica answers below its inbox prefix alone: the reply subject of a request may not purge, delete or write the log."""
+    """A replica answers only below its inbox prefix: the reply subject of a request must not purge, delete or write the log."""
     case.replica("a")
     case.table()
     case.insert(0, 5)
@@ -234,7 +234,7 @@ def reply_subjects(case: Case) -> None:
 
 
 def log_made_again(case: Case) -> None:
-    """Snapshots of an older log of the same name neither serve nor stand in the way of new ones."""
+    """Snapshots of an older log with the same name are not loaded, and do not prevent new ones."""
     options = [*case.snapshots, "--snapshot-every", "20", "--keep", "5"]
     case.replica("a", *options)
     case.table()
@@ -246,13 +246,13 @@ def log_made_again(case: Case) -> None:
     case.table()
     case.insert(1000, 50)
     identity = case.identity()
-    case.wait_until(lambda: len([path for path in case.snapshot_files() if identity in path.name]) == 2, "the new log has no two snapshots")
+    case.wait_until(lambda: len([path for path in case.snapshot_files() if identity in path.name]) == 2, "the new log does not have two snapshots")
     case.replica("c", *case.snapshots)
     must(b"rows 50\n" in case.ask(b"SCAN t", "c", case.state()["last_seq"]), "a replica of the new log does not have its rows")
 
 
 def log_made_again_under_load(case: Case) -> None:
-    """A log that is made again while clients send changes leaves its replicas orphaned, with their rows."""
+    """If a log is recreated while clients send changes, its replicas become orphaned and keep their rows."""
     for name in "ab":
         case.replica(name, *case.snapshots)
     case.table()
@@ -266,11 +266,11 @@ def log_made_again_under_load(case: Case) -> None:
         must(found["lives"] == 1, f"{name} dropped its rows: {case.cluster.replicas[name].said()[-600:]}")
     over.set()
     answer = case.request(".ask.a", b"SCAN t")
-    must(answer.headers["Mmdb-Status"] == "orphaned" and b"rows 10\n" in answer.body, f"the rows are gone: {answer}")
+    must(answer.headers["Mmdb-Status"] == "orphaned" and b"rows 10\n" in answer.body, f"the rows are lost: {answer}")
 
 
 def keep_two_snapshots(case: Case) -> None:
-    """The log is cut off up to the older of two good snapshots: one bad byte in the newer one loses nothing."""
+    """The log is cut off up to the older of two good snapshots, so a bad byte in the newer one loses nothing."""
     case.replica("a", *case.snapshots, "--snapshot-every", "20", "--keep", "5")
     case.table()
     case.insert(0, 120)
@@ -281,11 +281,11 @@ def keep_two_snapshots(case: Case) -> None:
     data[len(data) // 2] ^= 1
     newest.write_bytes(data)
     case.replica("b", *case.snapshots)
-    must(b"rows 120\n" in case.ask(b"SCAN t", "b", case.state()["last_seq"]), "rows are gone")
+    must(b"rows 120\n" in case.ask(b"SCAN t", "b", case.state()["last_seq"]), "rows are lost")
 
 
 def bad_snapshot_is_no_base(case: Case) -> None:
-    """A snapshot that became bad after it was written does not count as one of the two before a cut."""
+    """A snapshot that was corrupted after it was written does not count as one of the two that a cut requires."""
     case.replica("a", *case.snapshots, "--snapshot-every", "20", "--keep", "1")
     case.table()
     for first in range(0, 160, 20):
@@ -297,11 +297,11 @@ def bad_snapshot_is_no_base(case: Case) -> None:
             files[-1].write_bytes(data)
     case.cluster.replicas["a"].kill()
     case.replica("b", *case.snapshots)
-    must(b"rows 160\n" in case.ask(b"SCAN t", "b", case.state()["last_seq"]), "rows are gone")
+    must(b"rows 160\n" in case.ask(b"SCAN t", "b", case.state()["last_seq"]), "rows are lost")
 
 
 def cut_of_another_log(case: Case) -> None:
-    """A log that is made again while a replica cuts it off may lack messages, and the replica raises an alarm."""
+    """If a log is recreated while a replica cuts it off, the new log may lack messages, and the replica raises an alarm."""
     proxy = Proxy(case.cluster.addresses[0], b"STREAM.PURGE")
     replica = case.replica("a", *case.snapshots, "--snapshot-every", "20", "--keep", "5", "--servers", proxy.url)
     case.table()
@@ -319,11 +319,11 @@ def cut_of_another_log(case: Case) -> None:
     case.wait_until(lambda: "the new one may lack messages below number" in replica.said(), "no alarm: " + replica.said()[-600:])
 
 
-# Late is not wrong.
+# Late replicas.
 
 
 def slow_load(case: Case) -> None:
-    """A snapshot that takes longer to load than --lost-after is loaded once, while changes go on."""
+    """A snapshot that loads for longer than --lost-after is loaded once, while changes continue."""
     case.replica("a", *case.snapshots)
     case.table()
     case.rows("t", 2000)
@@ -342,7 +342,7 @@ def slow_load(case: Case) -> None:
 
 
 def write_slowly(path: Path, data: bytes, seconds: float, pieces: int = 40) -> None:
-    """Writes a file as a slow device gives it."""
+    """Writes a file at the speed of a slow device."""
     size = len(data) // pieces + 1
     with open(path, "wb", buffering=0) as file:
         for at in range(0, len(data), size):
@@ -351,7 +351,7 @@ def write_slowly(path: Path, data: bytes, seconds: float, pieces: int = 40) -> N
 
 
 def write_until(case: Case, over: threading.Event, row: int = 1) -> None:
-    """Changes a row again and again, whether it is answered or not."""
+    """Changes a row repeatedly until `over` is set, even without answers."""
     connection, number = Connection(case.cluster.addresses), 0
     while not over.is_set():
         number += 1
@@ -363,7 +363,7 @@ def write_until(case: Case, over: threading.Event, row: int = 1) -> None:
 
 
 def slow_question(case: Case) -> None:
-    """A question that takes longer than --lost-after, while changes go on, lets no replica drop its rows."""
+    """No replica drops its rows if a question runs for longer than --lost-after while changes continue."""
     for name in "ab":
         case.replica(name, "--lost-after", "300")
     case.table()
@@ -384,44 +384,44 @@ def children_of(process: Process) -> list[int]:
 
 
 def ask_for_long(case: Case, question: bytes, wait: int = 40000) -> Message:
-    """The answer to a question that takes long, whose asker waits for so many milliseconds."""
+    """Returns the answer to a long question whose client waits for `wait` milliseconds."""
     return Connection(case.cluster.addresses).request(LOG + ".ask", question, {"Mmdb-Wait": str(wait)}, wait=40)
 
 
 def ask_long(case: Case, wait: int) -> tuple[str, float]:
-    """The status of a question that takes too long, and the seconds until it came."""
+    """Returns the status of a question that runs too long, and the seconds until it arrived."""
     began = time.monotonic()
     return ask_for_long(case, LONG_QUESTION, wait).headers["Mmdb-Status"], time.monotonic() - began
 
 
 def long_question(case: Case) -> None:
-    """A question that takes too long is stopped, and told so. Meanwhile the replica applies changes and answers."""
+    """A question that runs too long is stopped with the status `too-long`. Meanwhile the replica applies changes and answers."""
     replica = case.replica("a", "--question-time", "3000")
     case.table()
     case.rows("t", 20000)
     told: list[tuple[str, float]] = []
     in_background(lambda: told.append(ask_long(case, 40000)))
     case.wait_until(lambda: case.status("a")["children"] == 1, "no child answers the question")
-    must(len(children_of(replica)) == 1, "there is no process of a child")
+    must(len(children_of(replica)) == 1, "there is no child process")
     done = 0
     while not told:
         case.insert(100000 + done, 1)
         done += 1
     must(told[0][0] == "too-long" and 2.9 < told[0][1] < 20, f"the question was answered {told}")
-    must(done > 2, f"only {done} changes went through while a question was answered")
+    must(done > 2, f"only {done} changes succeeded while a child evaluated a question")
     case.wait_until(lambda: not children_of(replica), "the child was not ended")
     status, seconds = ask_long(case, 2000)
-    must(status == "too-long" and seconds < 2.9, f"an asker who waits for 2 s heard {status} after {seconds:.1f} s")
+    must(status == "too-long" and seconds < 2.9, f"a client that waits for 2 s got {status} after {seconds:.1f} s")
     case.must_live_once("a")
     case.connection.publish(LOG + ".ask", LONG_QUESTION, {"Mmdb-Wait": "40000"}, "_INBOX.nobody")
     case.wait_until(lambda: children_of(replica), "no child answers the question")
-    must(replica.stop() == 0, "a replica with a child did not end well")
+    must(replica.stop() == 0, "a replica with a child did not end with status 0")
 
 
 def ignored_children(case: Case) -> None:
-    """Long questions are answered where the program that started the replica ignored the ends of its children."""
+    """Long questions are answered even if the program that started the replica ignored SIGCHLD."""
     replica = case.replica("a")
-    must(replica.stop() == 0, "the replica did not end well")
+    must(replica.stop() == 0, "the replica did not end with status 0")
     replica.words = ["env", "--ignore-signal=CHLD", *replica.words]
     replica.start()
     case.wait_for("a", "ready")
@@ -432,7 +432,7 @@ def ignored_children(case: Case) -> None:
 
 
 def answers_of_children(case: Case) -> None:
-    """A question that reads many rows has the same answer as others, at the number that the rows had."""
+    """A question that reads many rows has the same answer from a child as from the replica, with the number that the rows had."""
     case.replica("a", "--question-time", "40000")
     case.table()
     case.rows("t", 1500)
@@ -442,13 +442,13 @@ def answers_of_children(case: Case) -> None:
     must(answer.headers["Mmdb-Columns"] == "id INT, s TEXT", f"a child answered {answer}")
     must(answer.headers["Mmdb-Sequence"] == answer.headers["Mmdb-Chain-Sequence"] == str(case.state()["last_seq"]), f"the number: {answer}")
     many = ask_for_long(case, b"SELECT a.id, b.s FROM t a, t b WHERE a.id < b.id")
-    must(many.headers["Mmdb-Status"] == "refused" and many.body.startswith(b"error 46"), f"too many rows are answered {many}")
+    must(many.headers["Mmdb-Status"] == "refused" and many.body.startswith(b"error 46"), f"a result of too many rows was answered {many}")
     large = ask_for_long(case, b"SELECT a.id, b.s FROM t a, t b WHERE a.id < b.id AND b.id < 400")
-    must(large.headers["Mmdb-Status"] == "too-large" and not large.body, f"too large an answer is {large}")
+    must(large.headers["Mmdb-Status"] == "too-large" and not large.body, f"a result that is too large was answered {large}")
 
 
 def sums_of_children(case: Case) -> None:
-    """Replicas compare the sums of a large table, which their children make."""
+    """Replicas compare the sums of a large table, which their children compute."""
     for name in "ab":
         case.replica(name, "--sum-every", "50")
     case.table()
@@ -462,7 +462,7 @@ def sums_of_children(case: Case) -> None:
 
 
 def slow_script(case: Case) -> None:
-    """A script that takes longer than --lost-after on all replicas lets none of them drop its rows."""
+    """No replica drops its rows if a script runs for longer than --lost-after on all replicas."""
     for name in "ab":
         case.replica(name, "--lost-after", "300")
     case.table()
@@ -490,7 +490,7 @@ def no_servers(case: Case) -> None:
 
 
 def lost_servers(case: Case) -> None:
-    """Servers that lost their files leave the rows to the replicas, which answer as orphaned."""
+    """If the servers lose their files, the replicas keep the rows and answer as orphaned."""
     for name in "ab":
         case.replica(name, "--lost-after", "300", *case.snapshots)
     case.table()
@@ -504,14 +504,14 @@ def lost_servers(case: Case) -> None:
     case.cluster.make_log(case.until)
     case.wait_for("a", "orphaned", 40)
     answer = case.request(".ask.a", b"SCAN t")
-    must(answer.headers["Mmdb-Status"] == "orphaned" and b"rows 10\n" in answer.body, f"the last copy of the rows is gone: {answer}")
+    must(answer.headers["Mmdb-Status"] == "orphaned" and b"rows 10\n" in answer.body, f"the last copy of the rows is lost: {answer}")
 
 
 # History.
 
 
 def lost_end(case: Case) -> None:
-    """A log that lost its end and grew again: neither a snapshot nor a running replica of the lost end serves."""
+    """After a log loses its end and grows again, neither a snapshot nor a running replica answers with rows of the lost end."""
     server = case.cluster.servers[0]
     case.replica("a", *case.snapshots, "--snapshot-every", "20")
     case.table()
@@ -529,14 +529,14 @@ def lost_end(case: Case) -> None:
     case.replica("c", *case.snapshots)
     last = case.state()["last_seq"]
     wanted = case.ask(b"SCAN t", "b", last)
-    must(b"lost" not in wanted and b"rows 80\n" in wanted, "the log is not as it was made")
+    must(b"lost" not in wanted and b"rows 80\n" in wanted, "the rows are not those of the log")
     for name in "ca":
         case.wait_for(name, "ready", 40)
         must(case.ask(b"SCAN t", name, last) == wanted, f"{name} has rows of changes that the log does not have")
 
 
 def no_folder_for_rows(case: Case) -> None:
-    """A replica without a folder keeps rows that the log has lost until it is ended, and a backup has them."""
+    """A replica without a folder keeps rows that the log has lost until the replica ends, and a backup contains them."""
     server = case.cluster.servers[0]
     replica = case.replica("a", "--sum-every", "10")
     case.table()
@@ -554,14 +554,14 @@ def no_folder_for_rows(case: Case) -> None:
     case.wait_for("a", "halted", 40)
     case.insert(300, 20, "new")
     found = case.wait_for("a", "halted")
-    must(found["lives"] == 1 and "outside the group until it is ended" in replica.said(), f"the rows are gone: {replica.said()[-600:]}")
+    must(found["lives"] == 1 and "outside the group until it is ended" in replica.said(), f"the rows are lost: {replica.said()[-600:]}")
     words = [str(case.cluster.programs / "mmdb-ask"), "--servers", case.cluster.urls(), "--name", LOG, "--backup", "a"]
     backup = subprocess.run(words, capture_output=True, timeout=30, check=True).stdout
-    must(backup.count(b"'lost'") == 10 and b"-- end " in backup and b"'new'" not in backup, "the backup does not have the rows")
+    must(backup.count(b"'lost'") == 10 and b"-- end " in backup and b"'new'" not in backup, "the backup does not contain the rows")
 
 
 def lost_rows_at_the_end(case: Case) -> None:
-    """Rows that the log lost, and that no folder took before the replica ends, go into a .lost file then, and into no snapshot."""
+    """If a replica could not store rows that the log lost, it writes them to a .lost file at its end, and to no snapshot."""
     folder, away = case.cluster.snapshots, case.folder / "away"
     replica = case.replica("a", *case.snapshots, "--snapshot-every", "1000")
     case.table()
@@ -574,14 +574,14 @@ def lost_rows_at_the_end(case: Case) -> None:
     case.connection.close()
     case.wait_for("a", "halted", 40)
     away.rename(folder)
-    must(replica.stop() == 0, "the replica did not end well")
+    must(replica.stop() == 0, "the replica did not end with status 0")
     files = {path.suffix: path.read_text() for path in folder.iterdir()}
-    must(files.get(".lost", "").count("'lost'") == 5, f"the rows are gone: {replica.said()[-600:]}")
-    must("'lost'" not in files.get(".snapshot", ""), "a snapshot has rows that the log does not have")
+    must(files.get(".lost", "").count("'lost'") == 5, f"the rows are lost: {replica.said()[-600:]}")
+    must("'lost'" not in files.get(".snapshot", ""), "a snapshot contains rows that the log does not have")
 
 
 def rows_of_an_orphan_at_the_end(case: Case) -> None:
-    """Rows of a log that is gone, which no folder took at once, go into a .lost file when the replica ends."""
+    """If an orphaned replica could not store its rows at once, it writes them to a .lost file at its end."""
     folder, away = case.cluster.snapshots, case.folder / "away"
     replica, server = case.replica("a", *case.snapshots, "--lost-after", "300"), case.cluster.servers[0]
     case.table()
@@ -594,13 +594,13 @@ def rows_of_an_orphan_at_the_end(case: Case) -> None:
     case.cluster.make_log(case.until)
     case.wait_for("a", "orphaned", 40)
     away.rename(folder)
-    must(replica.stop() == 0, "the replica did not end well")
+    must(replica.stop() == 0, "the replica did not end with status 0")
     lost = [path.read_text() for path in folder.glob("*.lost")]
-    must(len(lost) == 1 and lost[0].count("'row'") == 5, f"the rows are gone: {replica.said()[-600:]}")
+    must(len(lost) == 1 and lost[0].count("'row'") == 5, f"the rows are lost: {replica.said()[-600:]}")
 
 
 def part_of_a_message(case: Case) -> None:
-    """Rows that the log lost go into a .lost file also if memory was short in the midst of a message."""
+    """Rows that the log lost are written to a .lost file even if an allocation failed in the middle of a message."""
     refuse, source = case.folder / "refuse.so", Path(__file__).resolve().parent / "refuse.c"
     subprocess.run(["cc", "-O1", "-D_GNU_SOURCE", "-shared", "-fPIC", "-o", str(refuse), str(source)], check=True)
     replica = case.cluster.replica("a", *case.snapshots, environment={"LD_PRELOAD": str(refuse)})
@@ -618,14 +618,14 @@ def part_of_a_message(case: Case) -> None:
     case.put_kept_log_back()
     case.cluster.servers[0].start()
     case.connection.close()
-    case.wait_until(lambda: case.status("a")["lives"] == 2, f"the replica did not begin again: {replica.said()[-600:]}", 40)
+    case.wait_until(lambda: case.status("a")["lives"] == 2, f"the replica did not restart from the log: {replica.said()[-600:]}", 40)
     lost = [path.read_text() for path in case.cluster.snapshots.glob("*.lost")]
     must(len(lost) == 1, f"there are {len(lost)} .lost files: {replica.said()[-600:]}")
-    must("-- part 1\n" in lost[0] and lost[0].count("'lost'") == 5 and "'part'" in lost[0] and "'large'" not in lost[0], "rows are gone")
+    must("-- part 1\n" in lost[0] and lost[0].count("'lost'") == 5 and "'part'" in lost[0] and "'large'" not in lost[0], "rows are lost")
 
 
 def sums_of_another_history(case: Case) -> None:
-    """A late replica keeps its rows against the sums of two that lost messages of the log: they say another chain hash."""
+    """A late replica keeps its rows despite the sums of two replicas that lost messages of the log, since their chain hash differs."""
     replica = case.replica("a", "--sum-every", "10")
     case.table()
     case.insert(0, 29 - case.state()["last_seq"])
@@ -639,16 +639,16 @@ def sums_of_another_history(case: Case) -> None:
     replica.wait_until_it_says("OTHER HISTORY: replica [yz] has another one at number", case.until)
     case.insert(100, 1)
     found = case.wait_for("a", "ready")
-    must(found["lives"] == 1 and not found["doubted"], f"right rows were dropped: {replica.said()[-600:]}")
-    # Sums of the same history count.
+    must(found["lives"] == 1 and not found["doubted"], f"correct rows were dropped: {replica.said()[-600:]}")
+    # Sums with the same chain hash count.
     case.insert(101, 40 - found["sequence"])
     case.wait_until(lambda: case.status("a")["summed"] == 40, "there is no sum at number 40")
     publish_sums(40, case.status("a")["chain"])
-    case.wait_until(lambda: case.status("a")["lives"] == 2, "most replicas have another sum, and the rows stay")
+    case.wait_until(lambda: case.status("a")["lives"] == 2, "most replicas have another sum, but the rows were not dropped")
 
 
 def sums_of_lost_history(case: Case) -> None:
-    """Sums of messages that the log lost are none of the rows that a replica has after it began again."""
+    """Sums from before the log lost messages do not count for the rows of a replica that has restarted from the log."""
     options = ["--sum-every", "10"]
     replica = case.replica("a", *case.snapshots, *options)
     for name in "bc":
@@ -664,14 +664,14 @@ def sums_of_lost_history(case: Case) -> None:
     case.connection.close()
     for name in "bc":
         case.wait_for(name, "halted", 40)
-    case.wait_until(lambda: case.status("a")["lives"] == 2, f"the replica did not begin again: {replica.said()[-600:]}")
+    case.wait_until(lambda: case.status("a")["lives"] == 2, f"the replica did not restart from the log: {replica.said()[-600:]}")
     case.insert(200, 10, "new")
     found = case.wait_for("a", "ready", 40)
-    must(found["lives"] == 2 and found["sequence"] > 10, f"right rows were dropped: {replica.said()[-600:]}")
+    must(found["lives"] == 2 and found["sequence"] > 10, f"correct rows were dropped: {replica.said()[-600:]}")
 
 
 def snapshot_short_of_the_log(case: Case) -> None:
-    """A replica that a cut log left behind keeps its rows while its newest snapshot ends before the log begins."""
+    """If the log was cut off after a replica's rows, the replica keeps them while its newest snapshot ends before the log begins."""
     folder, server = case.folder / "own", case.cluster.servers[0]
     folder.mkdir()
     late = case.replica("a", "--snapshots", str(folder))
@@ -685,7 +685,7 @@ def snapshot_short_of_the_log(case: Case) -> None:
     case.connection.close()
 
     def bring_snapshot(number: int) -> None:
-        """Gives the late replica a snapshot at a number, up to which the log is filled."""
+        """Fills the log up to a number, and copies a snapshot at that number to the late replica."""
         case.fill(number)
         case.wait_until(lambda: case.status("b")["sequence"] == number, "the other replica is late too")
         case.request(".snapshot.b", b"")
@@ -698,21 +698,21 @@ def snapshot_short_of_the_log(case: Case) -> None:
     case.wait_for("a", "halted", 40)
     time.sleep(2)
     found = case.wait_for("a", "halted")
-    must((found["sequence"], found["lives"]) == (11, 1), f"the rows are gone: {late.said()[-600:]}")
+    must((found["sequence"], found["lives"]) == (11, 1), f"the rows are lost: {late.said()[-600:]}")
     bring_snapshot(31)
     found = case.wait_for("a", "ready", 40)
     must(found["sequence"] >= 31 and b"rows 10\n" in case.ask(b"SCAN t", "a"), f"the snapshot was not loaded: {late.said()[-600:]}")
 
 
 def publish(case: Case, entries: list[Entry], number: int, chain: str, since: int = 0) -> int:
-    """Publishes a message to the log, as a replica does that checked its ids at a number. Returns its own number."""
+    """Publishes a message to the log like a replica that checked its ids at `number`. Returns the number of the message."""
     body = b"".join(f"{name} {since} 0 {len(script)}\n".encode() + script + b"\n" for name, script in entries)
     headers = {"Mmdb-Format": "2", "Mmdb-Checked": f"{number} {chain}", "Mmdb-Replica": "z"}
     return json.loads(case.connection.request(LOG + ".log", body, headers).body)["seq"]
 
 
 def delayed_copy(case: Case) -> None:
-    """A message that the network holds back while 65,537 other ids come is not applied again."""
+    """A copy of a message that arrives after 65,537 other ids is not applied again."""
     case.replica("a", "--sum-every", "0")
     case.table()
     case.insert(0, 2)
@@ -727,7 +727,7 @@ def delayed_copy(case: Case) -> None:
 
 
 def chained(case: Case) -> None:
-    """A replica tells of a message whose publisher had another history."""
+    """A replica reports a message whose publisher had another history."""
     case.replica("a")
     case.table()
     case.insert(0, 3)
@@ -740,9 +740,9 @@ def chained(case: Case) -> None:
 
 
 def empty_header(case: Case) -> None:
-    """The chain hash covers headers as libnats 3.4 reads them, which takes the line after an empty header as the value of that header.
+    """The chain hash covers headers as libnats 3.4 reads them: the line after an empty header is the value of that header.
 
-    Where another version reads another value, replicas of two versions would differ, and the format of the log has to become greater.
+    If another version reads another value, replicas of the two versions differ, and the format of the log must become greater.
     """
     case.replica("a")
     case.table()
@@ -753,12 +753,12 @@ def empty_header(case: Case) -> None:
     case.connection.send(f"HPUB {LOG}.log {len(block)} {len(block) + len(body)}\r\n".encode() + block + body + b"\r\n")
     case.wait_until(lambda: case.status("a")["sequence"] == last["sequence"] + 1, "the message was not applied")
     read = "\n".join([last["chain"], f"Mmdb-Checked: {checked}", "", ""])
-    must(case.status("a")["chain"] == sha256(read.encode() + body).hexdigest()[:32], f"the headers were read in another way: {read!r}")
-    must(case.request(".change", b"DELETE t\n", Id="x-1").headers["Mmdb-Sequence"] == str(last["sequence"] + 2), "the message was taken")
+    must(case.status("a")["chain"] == sha256(read.encode() + body).hexdigest()[:32], f"the chain hash does not cover these headers: {read!r}")
+    must(case.request(".change", b"DELETE t\n", Id="x-1").headers["Mmdb-Sequence"] == str(last["sequence"] + 2), "the message was accepted")
 
 
 def different_sums(case: Case) -> None:
-    """A replica that another one contradicts writes no snapshot and cuts nothing off."""
+    """A replica whose sum another replica contradicts writes no snapshot and does not cut off the log."""
     case.replica("a", *case.snapshots, "--snapshot-every", "20", "--keep", "1", "--sum-every", "10")
     case.table()
     case.insert(0, 8)
@@ -766,18 +766,18 @@ def different_sums(case: Case) -> None:
     case.insert(20, 10 - number % 10)
     number = case.state()["last_seq"] // 10 * 10
     case.connection.publish(LOG + ".sum", f"z {case.identity()} {number} {'0' * 32}".encode())
-    case.wait_until(lambda: case.status("a")["doubted"], "another sum was not noticed")
+    case.wait_until(lambda: case.status("a")["doubted"], "the different sum was not detected")
     before = case.snapshot_files()
     case.insert(100, 60)
-    must(case.snapshot_files() == before and case.state()["first_seq"] == 1, "a replica in doubt wrote a snapshot or cut the log off")
+    must(case.snapshot_files() == before and case.state()["first_seq"] == 1, "a replica in doubt wrote a snapshot or cut off the log")
 
 
 # Queues.
 
 
 def blocked_server(case: Case) -> None:
-    """A replica whose server is held up in the middle of answers goes to another one, and ends at SIGTERM."""
-    first = "nats://{}:{}".format(*case.cluster.addresses[0])  # libnats chooses among several, and learns the others from the first
+    """A replica whose server stops in the middle of answers connects to another server, and ends at SIGTERM."""
+    first = "nats://{}:{}".format(*case.cluster.addresses[0])  # only one, since libnats would choose among several; it learns the others from this one
     replica = case.replica("a", "--sum-every", "0", "--lost-after", "3000", "--servers", first)
     case.table()
     case.rows("t", 20000)
@@ -800,12 +800,12 @@ def blocked_server(case: Case) -> None:
     time.sleep(0.3)
     case.cluster.servers[0].send(signal.SIGSTOP)
     time.sleep(8)
-    must(replica.stop() == 0, "the replica did not end well")
+    must(replica.stop() == 0, "the replica did not end with status 0")
     case.cluster.servers[0].send(signal.SIGCONT)
 
 
 def dead_requests(case: Case) -> None:
-    """Requests of those who no longer wait are dropped, so others do not wait behind them."""
+    """Requests whose clients no longer wait are dropped, so that they do not delay others."""
     replica = case.replica("a", "--sum-every", "0")
     case.table()
     case.rows("t", 5000)
@@ -823,7 +823,7 @@ def dead_requests(case: Case) -> None:
 
 
 def memory_of(process: Process) -> int:
-    """The most memory that a process had, in mebibytes."""
+    """Returns the peak of resident memory of a process in MiB."""
     assert process.running
     said = Path(f"/proc/{process.running.pid}/status").read_text()
     found = re.search(r"VmHWM:\s+(\d+)", said)
@@ -832,7 +832,7 @@ def memory_of(process: Process) -> int:
 
 
 def bounded_memory(case: Case) -> None:
-    """Questions that wait take bounded memory, and long ones are refused at once."""
+    """Waiting questions use bounded memory, and questions that are too long are refused at once."""
     replica = case.replica("a", "--sum-every", "0")
     before = memory_of(replica)
     long_one = case.request(".ask", b"SELECT " + b"x" * 5000)
@@ -842,11 +842,11 @@ def bounded_memory(case: Case) -> None:
     for number in range(60000):
         case.connection.publish(LOG + ".ask", b"SELECT " + b"x" * 4000, {"Mmdb-At-Least": str(10**9 + number)}, "_INBOX.gone")
     case.ask(b"TABLES")
-    must(memory_of(replica) - before < 300, f"memory went from {before} to {memory_of(replica)} MiB")
+    must(memory_of(replica) - before < 300, f"memory grew from {before} to {memory_of(replica)} MiB")
 
 
 def many_headers(case: Case) -> None:
-    """Requests and sums with many headers are dropped before they are read, which would take much time and memory."""
+    """Requests and sums with many headers are refused unread, since reading them would need much time and memory."""
     replica = case.replica("a", "--sum-every", "0")
     case.table()
     before = memory_of(replica)
@@ -858,15 +858,15 @@ def many_headers(case: Case) -> None:
         for _ in range(40):
             case.connection.send(f"HPUB {LOG}{subject} {len(block)} {len(block)}\r\n".encode() + block + b"\r\n")
     case.ask(b"TABLES")
-    must(memory_of(replica) - before < 40, f"memory went from {before} to {memory_of(replica)} MiB")
+    must(memory_of(replica) - before < 40, f"memory grew from {before} to {memory_of(replica)} MiB")
     answer = case.request(".ask", b"TABLES", k="1" * 8000)
     must(answer.headers["Mmdb-Status"] == "done", f"8,000 bytes of headers were answered {answer}")
 
 
 def leaves_under_load(case: Case) -> None:
-    """A replica that leaves the group and joins it again and again, while requests arrive, uses no memory that libnats freed.
+    """A replica that repeatedly leaves and joins the group while requests arrive does not use memory that libnats freed.
 
-    libnats 3.4 looks a subscription up for a message, and locks it later, when it may be freed. delay.c makes that time longer.
+    libnats 3.4 looks up the subscription of a message and locks it later, when it may have been freed. delay.c prolongs the time between.
     """
     delay, source = case.folder / "delay.so", Path(__file__).resolve().parent / "delay.c"
     subprocess.run(["cc", "-O1", "-D_GNU_SOURCE", "-shared", "-fPIC", "-o", str(delay), str(source), "-ldl"], check=True)
@@ -896,29 +896,29 @@ def leaves_under_load(case: Case) -> None:
 
 
 def ends_without_servers(case: Case) -> None:
-    """Without servers, mmdb-replica ends at SIGTERM, and mmdb-ask gives up in time."""
+    """Without servers, mmdb-replica ends at SIGTERM, and mmdb-ask fails in time."""
     folder = case.cluster.programs
     replica = Process("x", [str(folder / "mmdb-replica"), "--servers", "nats://127.0.0.1:1", "--replica", "x"], case.folder)
     replica.start()
     time.sleep(1)
-    must(replica.stop() == 0, "mmdb-replica without servers did not end well")
+    must(replica.stop() == 0, "mmdb-replica without servers did not end with status 0")
     words = [str(folder / "mmdb-ask"), "--servers", "nats://127.0.0.1:1", "--wait", "500"]
     status = subprocess.run(words, input=b"TABLES\n", capture_output=True, timeout=8).returncode
     must(status == 1, f"mmdb-ask without servers ended with status {status}")
 
 
 def snapshot_at_the_end(case: Case) -> None:
-    """A replica that ends at SIGTERM writes a snapshot first, which only its user may read."""
+    """At SIGTERM, a replica first writes a snapshot that only its user may read."""
     replica = case.replica("a", *case.snapshots, "--snapshot-every", "1000")
     case.table()
     case.insert(0, 3)
-    must(replica.stop() == 0, "the replica did not end well")
+    must(replica.stop() == 0, "the replica did not end with status 0")
     files = case.snapshot_files()
     must(files and files[-1].stat().st_mode & 0o077 == 0, f"the snapshots are {[(path.name, oct(path.stat().st_mode)) for path in files]}")
 
 
 def same_name(case: Case) -> None:
-    """Two replicas of one name that write the same snapshot at the same time do not spoil it for each other."""
+    """Two replicas with one name that write the same snapshot at the same time do not corrupt it."""
     first = case.replica("a", *case.snapshots)
     case.table()
     case.rows("t", 30000)
@@ -931,13 +931,13 @@ def same_name(case: Case) -> None:
     said = second.said()
     first.kill()
     must("was not written" not in said, f"a snapshot was not written: {said[-400:]}")
-    must(len(case.snapshot_files()) == 2 and not list(case.cluster.snapshots.glob("*.part")), "other files are there")
+    must(len(case.snapshot_files()) == 2 and not list(case.cluster.snapshots.glob("*.part")), "there are other files")
     case.replica("b", *case.snapshots)
-    must("is passed over" not in case.cluster.replicas["b"].said(), "a snapshot is spoilt")
+    must("is passed over" not in case.cluster.replicas["b"].said(), "a snapshot is corrupt")
 
 
 def limited_memory(case: Case) -> None:
-    """A replica that is refused all memory for a while goes on afterwards, with the rows of the log."""
+    """A replica whose allocations fail for a while continues afterwards with the rows of the log."""
     replica = case.replica("a", "--sum-every", "10")
     case.table()
     case.insert(0, 10)
@@ -956,7 +956,7 @@ def limited_memory(case: Case) -> None:
     case.insert(100, 1)
     case.replica("b", "--sum-every", "10")
     last = case.state()["last_seq"]
-    must(case.ask(b"SCAN t", "a", last) == case.ask(b"SCAN t", "b", last), "two replicas differ after memory was short")
+    must(case.ask(b"SCAN t", "a", last) == case.ask(b"SCAN t", "b", last), "two replicas differ after failed allocations")
 
 
 # Scripts.
@@ -969,14 +969,14 @@ def conditions(case: Case) -> None:
     case.insert(0, 2)
     script = b"BEGIN\nUPDATE t SET k = 5 WHERE id = 1\nUPDATE t SET k = 5 WHERE id = 77\nCOMMIT\n"
     answer = case.request(".change", script, Id="u-1", Condition="rows")
-    must(answer.headers["Mmdb-Status"] == "unmet" and answer.body.endswith(b"ok 0\n"), f"an unmet condition is answered {answer}")
+    must(answer.headers["Mmdb-Status"] == "unmet" and answer.body.endswith(b"ok 0\n"), f"an unmet condition was answered {answer}")
     must(b"(1, 0, " in case.ask(b"SCAN t"), "a script with an unmet condition changed a row")
     again = case.request(".change", script, Id="u-1", Condition="rows")
-    must((again.body, again.headers["Mmdb-Sequence"]) == (answer.body, answer.headers["Mmdb-Sequence"]), "the second try differs")
+    must((again.body, again.headers["Mmdb-Sequence"]) == (answer.body, answer.headers["Mmdb-Sequence"]), "the second attempt differs")
 
 
 def gathered_changes(case: Case) -> None:
-    """Changes that come at the same time share messages of the log, and each has its own outcome."""
+    """Changes that arrive at the same time share messages of the log, and each has its own outcome."""
     case.replica("a")
     case.table()
     first = case.state()["last_seq"]
@@ -999,7 +999,7 @@ def gathered_changes(case: Case) -> None:
 
 
 def small_messages(case: Case) -> None:
-    """Changes gather into no message that exceeds those that the servers take."""
+    """Gathered changes never exceed the message size that the servers accept."""
     server, configuration = case.cluster.servers[0], case.folder / "small.conf"
     server.stop()
     configuration.write_text("max_payload: 16384\n")
@@ -1024,7 +1024,7 @@ def entries_of(*entries: tuple[str, int, bytes]) -> bytes:
 
 
 def outcomes_in(body: bytes) -> list[tuple[str, str, int, bytes]]:
-    """The id, the status, the number and the replies of each entry of an answer."""
+    """Returns the id, the status, the number and the replies of each entry of an answer."""
     outcomes = []
     while body:
         head, body = body.split(b"\n", 1)
@@ -1036,7 +1036,7 @@ def outcomes_in(body: bytes) -> list[tuple[str, str, int, bytes]]:
 
 
 def changes_in_one_request(case: Case) -> None:
-    """Several changes in one request share a message of the log, and each has its own id and outcome, also at the second try."""
+    """Several changes in one request share a message of the log. Each has its own id and outcome, also in a second attempt."""
     case.replica("a")
     case.table()
     case.change(b"INSERT t (1, 0, 'x')\n", name="known")
@@ -1063,13 +1063,13 @@ def changes_in_one_request(case: Case) -> None:
     must(case.ask(b"SCAN t") == b"(1, 0, 'x')\n(2, 0, 'x')\nrows 2\n", "the rows are wrong")
     for wrong in (b"", b"words", body + b"x", entries_of(*[(f"m-{number}", 0, b"") for number in range(4097)])):
         answer = case.request(".change", wrong, Format="2")
-        must(answer.headers["Mmdb-Status"] == "invalid", f"what is no sequence of entries was answered {answer}")
-    must(case.request(".change", body, Format="3").headers["Mmdb-Status"] == "invalid", "changes of another format were taken")
+        must(answer.headers["Mmdb-Status"] == "invalid", f"a malformed sequence of entries was answered {answer}")
+    must(case.request(".change", body, Format="3").headers["Mmdb-Status"] == "invalid", "changes of another format were accepted")
     must(case.state()["last_seq"] == before + 1, "invalid requests changed the log")
 
 
 def changes_sent_together(case: Case) -> None:
-    """mmdb-ask --together prints the same as without, and puts changes that follow each other into one message."""
+    """mmdb-ask prints the same with and without --together. With it, consecutive changes share a message."""
     case.replica("a")
     for table in "tu":
         case.table(table)
@@ -1080,7 +1080,7 @@ def changes_sent_together(case: Case) -> None:
         before = case.state()["last_seq"]
         done = subprocess.run([*words, *options], input=lines.format(table), capture_output=True, text=True, timeout=50)
         printed.append((done.returncode, done.stdout))
-    must(printed[0] == printed[1] and printed[0][1].count("duplicate key") == 150, f"mmdb-ask printed {printed[1]}, and not {printed[0]}")
+    must(printed[0] == printed[1] and printed[0][1].count("duplicate key") == 150, f"mmdb-ask printed {printed[1]}, not {printed[0]}")
     must(case.state()["last_seq"] - before <= 5, f"303 changes took {case.state()['last_seq'] - before} messages")
 
 
@@ -1093,22 +1093,22 @@ def asked_by(case: Case, *options: str, script: bytes = b"") -> "subprocess.Comp
 
 
 def full_output(case: Case) -> None:
-    """mmdb-ask fails, and says so, if what it prints cannot be written, or if its input cannot be read."""
+    """mmdb-ask fails with a message if its output cannot be written or its input cannot be read."""
     case.replica("a")
     case.table()
     words = [str(case.cluster.programs / "mmdb-ask"), "--servers", case.cluster.urls(), "--name", LOG]
     for options in (["--status"], ["--backup", "a"], ["--numbers"]):
         with open("/dev/full", "wb") as full:
             found = subprocess.run([*words, *options], input=b"TABLES\n", stdout=full, stderr=subprocess.PIPE, timeout=30)
-        must(found.returncode == 1 and b"cannot be written\n" in found.stderr, f"mmdb-ask {options[0]} ended so: {found}")
+        must(found.returncode == 1 and b"cannot be written\n" in found.stderr, f"mmdb-ask {options[0]} ended with {found}")
     descriptor = os.open(case.folder, os.O_RDONLY)
     found = subprocess.run(words, stdin=descriptor, capture_output=True, timeout=30)
     os.close(descriptor)
-    must(found.returncode == 1 and b"cannot be read\n" in found.stderr, f"mmdb-ask without an input ended so: {found}")
+    must(found.returncode == 1 and b"cannot be read\n" in found.stderr, f"mmdb-ask without an input ended with {found}")
 
 
 def closed_files(case: Case) -> None:
-    """Programs that are started without a standard output or a standard error send nothing of what they print to the servers."""
+    """Programs that start without a standard output or a standard error do not send their output to the servers."""
     words = [str(case.cluster.programs / "mmdb-replica"), "--servers", case.cluster.urls(), "--name", LOG, "--replica", "a"]
     replica = Process("a", ["sh", "-c", 'exec "$@" 2>&-', "sh", *words], case.folder)
     case.cluster.replicas["a"] = replica
@@ -1119,11 +1119,11 @@ def closed_files(case: Case) -> None:
     asked = subprocess.run(["sh", "-c", 'exec "$@" >&-', "sh", *words], input=b"TABLES\n", stderr=subprocess.DEVNULL, timeout=30)
     must(asked.returncode == 1, f"mmdb-ask without an output ended with status {asked.returncode}")
     said = case.cluster.servers[0].said()
-    must("arser" not in said, f"a server was sent what is no message: {said[-600:]}")
+    must("arser" not in said, f"a server received bytes that are not a message: {said[-600:]}")
 
 
 def cut_snapshot(case: Case) -> None:
-    """mmdb-ask --load sends nothing of a snapshot that is cut off, changed, or goes on after its end."""
+    """mmdb-ask --load sends no part of a snapshot that is cut off or changed, or that has bytes after its end."""
     case.replica("a")
     case.table()
     case.insert(0, 20)
@@ -1144,18 +1144,18 @@ def cut_snapshot(case: Case) -> None:
                 by_file = subprocess.run(words, stdin=file, capture_output=True, timeout=30)
             for found in (by_file, asked_by(case, "--load", script=given)):
                 must((found.returncode, found.stdout) == (1, b"") and wrong.encode() in found.stderr, f"{wrong}: {found}")
-    must(case.state()["last_seq"] == last, "something of a broken snapshot was sent")
+    must(case.state()["last_seq"] == last, "a part of a broken snapshot was sent")
     case.change(b"DROP TABLE t\n")
     path.write_bytes(backup)
     with open(path, "rb") as file:
         found = subprocess.run(words, stdin=file, capture_output=True, timeout=30)
-    must(found.returncode == 0 and b"rows 20\n" in case.ask(b"SCAN t", "a", case.state()["last_seq"]), f"a whole one: {found}")
+    must(found.returncode == 0 and b"rows 20\n" in case.ask(b"SCAN t", "a", case.state()["last_seq"]), f"an intact snapshot: {found}")
     found = asked_by(case, "--load", script=b"-- words\nINSERT t (100, 0, 'x')\n")
     must(found.returncode == 0 and case.ask(b"SCAN t").endswith(b"rows 21\n"), f"a script that is no snapshot: {found}")
 
 
 def lost_part_of_a_backup(case: Case) -> None:
-    """mmdb-ask --backup fails if fewer bytes reach it than the replica sent, as where a server ends meanwhile."""
+    """mmdb-ask --backup fails if it receives fewer bytes than the replica sent, for example because a server ended."""
     case.replica("a")
     case.table()
     backup = asked_by(case, "--backup", "a")
@@ -1165,7 +1165,7 @@ def lost_part_of_a_backup(case: Case) -> None:
     other.connect(case.until)
 
     def answer_with(number: bytes) -> None:
-        """Answers as a replica that sent so many bytes, of which 5 arrive."""
+        """Answers like a replica that sent `number` bytes, of which 5 arrive."""
         request = other.message(case.until)
         other.publish(request.reply, b"part\n")
         other.publish(request.reply, number, {"Mmdb-Status": "done"})
@@ -1177,7 +1177,7 @@ def lost_part_of_a_backup(case: Case) -> None:
 
 
 def slow_reader_of_a_backup(case: Case) -> None:
-    """A backup of more than the 64 MiB that libnats keeps by default is whole, also if its reader is slow."""
+    """A backup larger than the 64 MiB that libnats buffers by default is complete, even if its reader is slow."""
     other, part, count = Connection(case.cluster.addresses), b"x" * (MEBIBYTE // 2), 150
     other.subscribe(LOG + ".backup.x")
     other.connect(case.until)
@@ -1193,7 +1193,7 @@ def slow_reader_of_a_backup(case: Case) -> None:
 
 
 def linearizable_again(case: Case) -> None:
-    """A linearizable question sees the end of the log in each run, also with ids that an earlier run had."""
+    """A linearizable question sees the end of the log in each run, even if an earlier run used the same ids."""
     case.replica("a")
     case.table()
     for number in range(3):
@@ -1255,7 +1255,7 @@ TESTS: list[tuple[Callable[[Case], None], int]] = [
 
 
 def run(programs: Path, test: Callable[[Case], None], servers: int) -> Optional[str]:
-    """What is wrong, or None."""
+    """Runs a test. Returns its failure, or None."""
     began = time.monotonic()
     case: Optional[Case] = None
     try:
@@ -1276,7 +1276,7 @@ def main() -> int:
     began = time.monotonic()
     with ThreadPoolExecutor(AT_ONCE) as pool:
         wrong = [found for found in pool.map(lambda one: run(programs, *one), chosen) if found]
-    print("\n".join(wrong) or f"{len(chosen)} causes of lost data are not there, in {time.monotonic() - began:.0f} s")
+    print("\n".join(wrong) or f"{len(chosen)} tests passed in {time.monotonic() - began:.0f} s")
     return 1 if wrong or not chosen else 0
 
 

@@ -1,26 +1,26 @@
 #!/usr/bin/env python3
-"""Decides whether a history is one that replicas may have.
+"""Checks whether replicas may produce a history.
 
     check.py LIBRARY HISTORY [KEPT]
 
-LIBRARY is libmmdb.so, and HISTORY is a file that storm.py wrote. KEPT is the number of ids that the replicas kept, if it was not 65,536.
+LIBRARY is libmmdb.so, and HISTORY is a file that storm.py wrote. KEPT is the number of ids that the replicas kept, by default 65,536.
 The rules:
 
-- log: a message of the log never changes, no number is left out, and each acknowledged change is in it. If servers failed, NATS may have
-  broken this rule, and answers from the first broken number on are not held against the replicas. A replica with another chain hash than
-  the log counts as such a case then: the log passed on a message that it lost. If no server failed, it breaks the rule `chain`.
-- acknowledged: a change that was answered is in the log, and had the outcome and the replies of its answer.
-- once: no change is applied twice, and a change that was sent many times has the number where it was applied.
-- invalid: what was answered `invalid` is not in the log.
-- state: an answer at a number is that of the library after the messages up to that number.
-- chain: the chain hash of an answer is that of the log at its number, and so is each chain hash in the log itself. Two answers with one
-  chain hash are the same, also where the log itself changed.
-- demanded: no answer has a number below the one that its client demanded.
+- log: a message of the log never changes, no number is missing, and the log contains each acknowledged change. If a server failed, NATS
+  may have broken this rule, and answers from the first broken number on are not judged. If a chain hash of a replica then differs from
+  that of the log, the log delivered a message and lost it, which breaks this rule. If no server failed, it breaks the rule `chain`.
+- acknowledged: an answered change is in the log, with the outcome and the replies of its answer.
+- once: no change is applied twice. Each answer to a change has the number at which the change was applied, even if it was sent many times.
+- invalid: a change with the answer `invalid` is not in the log.
+- state: an answer equals that of the library after the messages up to the number of the answer.
+- chain: each chain hash in an answer or in the log is that of the log at its number. Two answers with the same chain hash are equal, even
+  if the log itself changed.
+- demanded: no answer has a number below the number that its client demanded.
 - order: a change that began after another call was answered has a higher number than that call.
-- linearizable: a linearizable question has at least the number of each call that was answered before it began.
+- linearizable: a linearizable question has at least the number of each call that was answered before the question began.
 
-The log is one order of all changes, and an answer is a function of its number. So calls are linearizable if and only if the numbers are
-in the order of time wherever calls do not overlap; the last two rules say this. The status is 0 only if no rule is broken.
+The log is one order of all changes, and an answer is a function of its number. So calls are linearizable if and only if the numbers of
+calls that do not overlap are in order of time. The last two rules state this. The status is 0 only if no rule is broken.
 """
 
 import sys
@@ -34,9 +34,9 @@ from history import Change, Event, Logged, Question, Record, bytes_of
 from replay import KEPT_IDS, Library, Outcome, Replay, chain_after, chain_begin, checked_in, entries_of
 
 APPLIED = ("done", "refused", "unmet")
-ANSWERED = ("done", "refused", "orphaned")  # of questions
-SERVER_FAULT = "a server fails: "  # how the event of a fault begins after which NATS may have lost a message
-JUNK = "junk"  # who publishes messages that were made wrong on purpose
+ANSWERED = ("done", "refused", "orphaned")  # the final statuses of questions
+SERVER_FAULT = "a server fails: "  # the prefix of the event of a fault after which NATS may lose a message
+JUNK = "junk"  # the publisher of deliberately wrong messages
 MOST_LINES_SHOWN = 6
 
 Call = Union[Change, Question]
@@ -44,7 +44,7 @@ Call = Union[Change, Question]
 
 @dataclass
 class Finding:
-    """A rule that is broken, and how."""
+    """A broken rule, with details."""
 
     rule: str
     what: str
@@ -62,7 +62,7 @@ def name_of(call: Call) -> str:
 
 
 class Checker:
-    """The records of a history, and what the log leads to."""
+    """Compares the records of a history with its log, and collects findings."""
 
     def __init__(self, records: list[Record], make_replay: Callable[[], Replay]):
         self.trusts_log = not any(isinstance(one, Event) and one.what.startswith(SERVER_FAULT) for one in records)
@@ -83,7 +83,7 @@ class Checker:
 
     @staticmethod
     def sort_messages(messages: list[Logged]) -> tuple[dict[int, Logged], list[Logged]]:
-        """The log as it is at the end, with what the witness saw of numbers that were cut off; and all that the witness saw."""
+        """Returns the final log, with the cut-off messages that the witness read before it, and all messages that the witness read."""
         witnessed = [one for one in messages if one.seen == "witness"]
         at_end = {one.number: one for one in messages if one.seen == "end"}
         first = min(at_end, default=max((one.number for one in witnessed), default=0) + 1)
@@ -91,12 +91,12 @@ class Checker:
         return {**before, **at_end}, witnessed
 
     def names_in_log(self) -> set[str]:
-        """The ids of changes that replicas published. Junk may have an id that a client uses later."""
+        """Returns the ids of changes that replicas published. Junk may contain an id that a client uses later."""
         messages = [message for message in self.log.values() if message.headers.get("Mmdb-Replica") != JUNK]
         return {entry.name for message in messages for entry in entries_of(message) or []}
 
     def first_broken(self) -> Optional[int]:
-        """The first number at which the log does not have what it had."""
+        """Returns the first number at which the log lost or changed a message, or None."""
         broken = [*self.changed_messages(), *self.missing_messages()]
         if not self.trusts_log:
             broken += [*self.lost_changes(), *self.lost_histories(min(broken, default=self.last + 1))]
@@ -106,23 +106,23 @@ class Checker:
         for one in self.witnessed:
             now = self.log.get(one.number)
             if not now or (one.headers, one.body) != (now.headers, now.body):
-                self.find("log", f"number {one.number} was {one.body[:60]!r}, and is {now.body[:60] if now else 'not there'!r}")
+                self.find("log", f"number {one.number} was {one.body[:60]!r}, and is {now.body[:60] if now else 'missing'!r}")
                 yield one.number
 
     def missing_messages(self) -> Iterator[int]:
         for number in range(1, self.last + 1):
             if number not in self.log:
-                self.find("log", f"number {number} is not there, and {self.last} is")
+                self.find("log", f"number {number} is missing, but {self.last} exists")
                 yield number
 
     def lost_changes(self) -> Iterator[int]:
         for change in self.changes:
             if change.answer.status in APPLIED and change.name not in self.names:
-                self.find("log", f"{change.name} was acknowledged at number {change.answer.number}, and the log does not have it")
+                self.find("log", f"{change.name} was acknowledged at number {change.answer.number}, but is not in the log")
                 yield change.answer.number
 
     def lost_histories(self, until: int) -> Iterator[int]:
-        """The first numbers at which replicas had messages that the log does not have: it passed them on and lost them."""
+        """Yields the first numbers at which replicas had messages that the log delivered and then lost."""
         points = self.chain_points()
         identities = {call.answer.log for call in self.calls() if call.answer.log}
         if len(identities) != 1 or 1 not in self.log:
@@ -135,7 +135,7 @@ class Checker:
                 yield max(same, default=0) + 1
 
     def chain_points(self) -> list[tuple[str, int, str]]:
-        """The chain hashes that replicas had, as their answers and their messages say: the replica, the number, and the hash."""
+        """Returns the chain hashes in the answers and messages of replicas, each with its replica and its number."""
         answers = [call.answer for call in self.calls() if call.answer.chain]
         points = [(answer.replica, answer.chain_number, answer.chain) for answer in answers]
         for message in self.log.values():
@@ -145,7 +145,7 @@ class Checker:
         return points
 
     def is_judged(self, call: Call) -> bool:
-        """Whether the log before the number of an answer is the one that the replica had. Counts the answer."""
+        """Returns whether the log up to the number of an answer is unbroken. Counts the answer as judged or not judged."""
         is_judged = self.broken_at is None or call.answer.number < self.broken_at
         self.judged += is_judged
         self.unjudged += not is_judged
@@ -154,7 +154,7 @@ class Checker:
     # States.
 
     def check_states(self) -> dict[str, tuple[int, Outcome]]:
-        """Applies the log, and compares each answer with that of the library at its number. Returns what came of each id."""
+        """Applies the log, and compares each answer with that of the library at its number. Returns the number and outcome of each id."""
         by_number: dict[int, list[Question]] = defaultdict(list)
         for question in self.questions:
             if has_ended(question) and self.is_judged(question):
@@ -167,7 +167,7 @@ class Checker:
                     replay.apply(self.log[number])
                 self.check_answers(replay, by_number.pop(number, []))
             for number, answers in sorted(by_number.items()):
-                self.find("state", f"{answers[0].answer.replica} answered at number {number}, and the log ends at {self.last}")
+                self.find("state", f"{answers[0].answer.replica} answered at number {number}, but the log ends at {self.last}")
             for name, first, second in replay.twice:
                 self.find("once", f"the rules of the protocol apply {name} at {first} and at {second}")
             return replay.outcomes
@@ -196,32 +196,32 @@ class Checker:
     def check_changes(self, outcomes: dict[str, tuple[int, Outcome]]) -> None:
         for change in self.changes:
             if change.answer.status == "invalid" and change.name in self.names:
-                self.find("invalid", f"{change.name} was answered invalid, and is in the log")
+                self.find("invalid", f"{change.name} was answered invalid, but is in the log")
             elif change.answer.status in APPLIED and self.is_judged(change):
                 self.check_acknowledged(change, outcomes.get(change.name))
 
     def check_acknowledged(self, change: Change, applied: Optional[tuple[int, Outcome]]) -> None:
         answer = change.answer
         if not applied:
-            self.find("acknowledged", f"{change.name} was answered {answer.status} at {answer.number}, and no state has it")
+            self.find("acknowledged", f"{change.name} was answered {answer.status} at {answer.number}, but was never applied")
             return
         number, outcome = applied
         if number != answer.number:
-            self.find("once", f"{change.name} was answered at number {answer.number}, and was applied at {number}")
+            self.find("once", f"{change.name} was answered at number {answer.number}, but was applied at {number}")
         elif outcome != Outcome(str(answer.status), bytes_of(answer.replies)):
-            told = f"{answer.status} {answer.replies!r}, and came to {outcome.status} {outcome.replies!r}"
+            told = f"{answer.status} {answer.replies!r}, but its outcome is {outcome.status} {outcome.replies!r}"
             self.find("acknowledged", f"{change.name} at number {number} was answered {told}")
 
     # Chains.
 
     def check_same_chains(self) -> None:
-        """An answer is a function of its question and its chain hash."""
+        """Checks that answers with the same question and the same chain hash are equal."""
         answers: dict[tuple[str, str], Question] = {}
         for one in self.questions:
             if has_ended(one) and one.answer.chain and one.answer.chain_number == one.answer.number:
                 first = answers.setdefault((one.answer.chain, one.question), one)
                 if first.answer.replies != one.answer.replies:
-                    self.find("chain", f"{first.answer.replica} and {one.answer.replica} answered {name_of(one)} in two ways")
+                    self.find("chain", f"{first.answer.replica} and {one.answer.replica} differ in their answers to {name_of(one)}")
 
     def check_chains(self) -> None:
         identities = {call.answer.log for call in self.calls() if call.answer.log}
@@ -238,7 +238,7 @@ class Checker:
                 self.check_chain(chains, *checked, f"message {message.number} of {message.headers['Mmdb-Replica']}")
 
     def chains(self, identity: str, until: int) -> dict[int, str]:
-        """The chain hash of the log at each number before another one."""
+        """Returns the chain hash of the log at each number below `until`."""
         chains = {0: chain_begin(identity)}
         for number in range(1, min(self.last + 1, until)):
             chains[number] = chain_after(chains[number - 1], self.log[number])
@@ -246,7 +246,7 @@ class Checker:
 
     def check_chain(self, chains: dict[int, str], number: int, chain: str, where: str) -> None:
         if chain and number in chains and chains[number] != chain:
-            self.find("chain", f"{where} has the chain hash {chain} at {number}, and the log has {chains[number]}")
+            self.find("chain", f"{where} has the chain hash {chain} at {number}, but the log has {chains[number]}")
 
     # Order.
 
@@ -254,7 +254,7 @@ class Checker:
         return [*self.changes, *self.questions]
 
     def check_order(self) -> None:
-        """Goes through begins and ends in the order of time, with the highest number that was answered so far."""
+        """Checks each call against the highest number of all answers before its begin."""
         calls = [call for call in self.calls() if has_ended(call) and (self.broken_at is None or call.answer.number < self.broken_at)]
         begins = [(call.begin, 1, place) for place, call in enumerate(calls)]
         ends = [(call.answer.end or 0.0, 0, place) for place, call in enumerate(calls)]
@@ -271,7 +271,7 @@ class Checker:
         if call.answer.number >= least or (isinstance(call, Question) and not call.linearizable):
             return
         rule = "order" if isinstance(call, Change) else "linearizable"
-        self.find(rule, f"{name_of(call)} got number {call.answer.number}, and began after {name_of(before)} got {before.answer.number}")
+        self.find(rule, f"{name_of(call)} got number {call.answer.number}, but began after {name_of(before)} got {before.answer.number}")
 
     def check_demanded(self) -> None:
         for one in self.questions:
@@ -292,7 +292,7 @@ def main() -> int:
     checker = Checker(history.read(Path(path)), lambda: Replay(Library(Path(library)), int(kept[0]) if kept else KEPT_IDS))
     for finding in checker.check():
         print(finding)
-    print(f"{checker.judged} answers were judged, and {checker.unjudged} were not, as the log itself changed")
+    print(f"{checker.judged} answers were judged; {checker.unjudged} were not, because the log itself changed")
     return 1 if checker.findings else 0
 
 

@@ -1,5 +1,5 @@
 /*
- * Preloaded into a replica, it lets the thread of libnats that reads a connection wait before each lock that it takes for a message: also
+ * A preloaded library that makes the reading thread of libnats wait before each lock that it takes for a message. One of these waits is
  * between looking up the subscription of a message and locking it.
  *
  *     cc -shared -fPIC -o delay.so delay.c -ldl
@@ -11,7 +11,7 @@
 
 typedef void lock(void *mutex);
 
-/* The bytes of the function of libnats that takes a message, at least about. Nanoseconds. */
+/* The approximate size of natsConn_processMsg in bytes, and the delay in nanoseconds. */
 enum { BYTES = 0x600, DELAY = 1000000 };
 
 void natsMutex_Lock(void *mutex);

@@ -1,6 +1,6 @@
 """The history of a run: each call with its begin, end, answer and number, and each message of the log, as lines of JSON.
 
-Times are seconds of one clock that is never set. Bytes are texts with one character for each byte.
+Times are seconds of one monotonic clock. Bytes are stored as texts with one character per byte.
 """
 
 import json
@@ -12,7 +12,7 @@ from typing import Iterable, Optional, Union
 
 @dataclass
 class Answer:
-    """What a replica answered. Without an answer, `end` and `status` are None."""
+    """The answer of a replica. Without an answer, `end` and `status` are None."""
 
     end: Optional[float] = None
     status: Optional[str] = None
@@ -26,14 +26,14 @@ class Answer:
 
 @dataclass
 class Change:
-    """A script that a client sent until it was answered. Without an answer it may be in the log or not."""
+    """A script that a client sent until a replica answered. Without an answer, the log may contain the script or not."""
 
     client: str
     name: str  # its id
     script: str
     begin: float
     has_condition: bool = False
-    since: int = 0  # a number of the log before which the id was not sent
+    since: int = 0  # the id was not sent before this number of the log
     tries: int = 0
     answer: Answer = field(default_factory=Answer)
     kind: str = "change"
@@ -41,7 +41,7 @@ class Change:
 
 @dataclass
 class Question:
-    """A question, with the number that it demanded. A linearizable one has to see whatever was answered before it began."""
+    """A question, with the number that it demanded. A linearizable question must see all calls that were answered before it began."""
 
     client: str
     question: str
@@ -54,7 +54,7 @@ class Question:
 
 @dataclass
 class Logged:
-    """A message of the log. `seen` says who read it: "witness" while the run went on, and "end" for the log as it is at the end."""
+    """A message of the log. `seen` is "witness" if it was read during the run, and "end" if it was read from the final log."""
 
     number: int
     headers: dict[str, str]
@@ -66,7 +66,7 @@ class Logged:
 
 @dataclass
 class Event:
-    """Something for a reader of the history: a fault that begins or ends, or what a replica said."""
+    """A note for readers of the history, such as a fault that begins or ends."""
 
     time: float
     what: str
@@ -86,7 +86,7 @@ def bytes_of(text: str) -> bytes:
 
 
 class History:
-    """The records of a run, which many threads add to."""
+    """The records of a run. Many threads may add records at the same time."""
 
     def __init__(self) -> None:
         self.lock = threading.Lock()

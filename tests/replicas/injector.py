@@ -24,21 +24,21 @@ def both_ways(one: str, others: Iterable[str]) -> list[Pair]:
 
 
 class Injector:
-    """The faults of one seed. Each kind of fault has a method that begins it and one that ends it, named after the kind."""
+    """The faults of one seed. For each kind of fault, a method begins the fault and another one ends it. Their names contain the kind."""
 
     def __init__(self, stage: Stage, schedule: Schedule, history: History):
         self.stage, self.schedule, self.history = stage, schedule, history
         self.random = random.Random(f"{schedule.seed} faults")
-        self.hosts: dict[int, list[str]] = {}  # of each fault that has begun, by its place: the hosts that it struck
+        self.hosts: dict[int, list[str]] = {}  # the hosts that each begun fault affects, by its index in the schedule
         self.stopped: set[str] = set()
 
     def tell(self, what: str) -> None:
         self.history.add(Event(time.monotonic(), what))
 
-    # The order of time.
+    # The schedule.
 
     def run(self, board: Board) -> None:
-        """Begins and ends all faults at their times, and ends those that are left at the end of the run."""
+        """Begins and ends each fault at its time, and ends the remaining faults at the end of the run."""
         began = time.monotonic()
         faults = list(enumerate(self.schedule.faults))
         steps = [(fault.at, 0, place) for place, fault in faults]
@@ -81,13 +81,13 @@ class Injector:
         self.stage.network.set_links(self.links(place, fault)[first::2], cut=True)
 
     def begin_split(self, place: int, fault: Fault) -> None:
-        """Cuts a server off the other servers, while replicas and clients reach all of them."""
+        """Cuts a server off from the other servers, while replicas and clients reach all of them."""
         server = self.hosts[place][0] if self.hosts[place][0] in SERVERS else self.stage.leader()
         self.hosts[place] = [server]
         self.stage.network.set_links(both_ways(server, SERVERS), cut=True)
 
     def begin_slow(self, place: int, fault: Fault) -> None:
-        """Delays packets, each by another time, so that they overtake each other."""
+        """Delays packets by random times, so that they overtake each other."""
         self.stage.network.set_links(self.links(place, fault), delay=fault.value / 2, jitter=fault.value)
 
     def begin_lossy(self, place: int, fault: Fault) -> None:
@@ -130,7 +130,7 @@ class Injector:
         self.begin_kill(place, fault)
 
     def strike_most(self, place: int) -> None:
-        """Chooses the server that leads the log, and another one."""
+        """Selects the leader of the log and one other server."""
         leader = self.stage.leader()
         self.hosts[place] = [leader, *(server for server in SERVERS if server != leader)][:2]
         self.tell(SERVER_FAULT + " ".join(self.hosts[place]))
@@ -146,7 +146,7 @@ class Injector:
     end_kill_all_replicas = end_kill_most = end_kill
 
     def begin_end(self, place: int, fault: Fault) -> None:
-        """Ends a replica by SIGTERM, as an operator does."""
+        """Ends a replica with SIGTERM, as an operator does."""
         for process in self.processes(self.hosts[place]):
             if process.running and not self.is_struck_elsewhere(place):
                 status = process.stop()
@@ -155,7 +155,7 @@ class Injector:
     end_end = end_kill
 
     def is_struck_elsewhere(self, place: int) -> bool:
-        """Whether another fault has stopped or struck the same host, so it cannot end in time."""
+        """Returns whether another fault affects the same host, so that it may not end in time."""
         host = self.hosts[place][0]
         return any(host in hosts for other, hosts in self.hosts.items() if other != place)
 
@@ -163,7 +163,7 @@ class Injector:
     def no_crash(process) -> None:
         if process.running:
             status = process.running.poll()
-            must(status is None, f"{process.name} ended by itself with status {status}: {process.said()[-600:]}")
+            must(status is None, f"{process.name} ended unexpectedly with status {status}: {process.said()[-600:]}")
 
     def begin_clock(self, place: int, fault: Fault) -> None:
         self.stage.set_clock(fault.host, fault.value)
@@ -172,7 +172,7 @@ class Injector:
         self.stage.set_clock(fault.host, 0)
 
     def begin_memory(self, place: int, fault: Fault) -> None:
-        """Refuses the library all memory for a third of a second."""
+        """Fails all allocations of the library for 0.3 s."""
         process = self.stage.replicas[fault.host]
         if self.stage.programs.refuse and process.running and process.running.poll() is None:
             process.send(signal.SIGUSR1)
@@ -190,7 +190,7 @@ class Injector:
             self.stage.fill(self.stage.store(self.hosts[place][0]))
 
     def end_full(self, place: int, fault: Fault) -> None:
-        """Makes room again and starts the server again: one that could not write stays without JetStream until then."""
+        """Frees the device and restarts the server, since a server that could not write disables JetStream until its restart."""
         (self.stage.store(self.hosts[place][0]) / FILLER).unlink(missing_ok=True)
         self.begin_kill(place, fault)
         self.end_kill(place, fault)
@@ -203,7 +203,7 @@ class Injector:
         (self.stage.snapshots / FILLER).unlink(missing_ok=True)
 
     def begin_bad_snapshot(self, place: int, fault: Fault) -> None:
-        """Changes a byte of the newest snapshot, and lets a replica begin from it."""
+        """Flips a bit of the newest snapshot, and kills a replica, which then starts with that snapshot."""
         snapshots = sorted(self.stage.snapshots.glob("*.snapshot"))
         if snapshots:
             data = bytearray(snapshots[-1].read_bytes())
@@ -217,7 +217,7 @@ class Injector:
     # Messages.
 
     def begin_junk(self, place: int, fault: Fault) -> None:
-        """Publishes messages that no replica would: no scripts, late copies of earlier messages, and spoilt ones."""
+        """Publishes messages that no replica would publish: invalid scripts, late copies of earlier messages, and corrupted copies."""
         connection = Connection(self.stage.network.addresses(WITNESS))
         try:
             connection.connect(time.monotonic() + 1)
@@ -237,7 +237,8 @@ class Injector:
         return self.random.sample(messages, min(len(messages), 8))
 
     def spoil(self, message: Logged) -> tuple[bytes, dict[str, str]]:
-        """A message with other ids, some bytes changed and now and then a header. None claims a newer format, which stops replicas."""
+        """Returns a copy of a message with other ids, some changed bytes and sometimes a wrong header. Its format is never newer, which
+        would stop replicas."""
         rng = self.random
         body = bytearray(IDS.sub(rb"\1~\2", bytes_of(message.body)))
         headers = {**message.headers, "Mmdb-Replica": JUNK}
@@ -248,13 +249,13 @@ class Injector:
             headers["Mmdb-Checked"] = rng.choice(["", "0", "999999999 " + "0" * 32, "01 " + "0" * 32, "1 " + "a" * 31, "0 " + "A" * 32])
         if rng.random() < 0.2:
             headers["Mmdb-Format"] = rng.choice(["", "0", "1", "two", "-2"])
-        # libnats 3.4 reads the line after an empty header as its value, so an empty one is left out.
+        # libnats 3.4 reads the line after an empty header as its value, so empty headers are left out.
         return bytes(body), {name: value for name, value in headers.items() if value}
 
     # The end.
 
     def heal(self) -> None:
-        """Takes everything back, whatever has ended by itself: afterwards no fault is left."""
+        """Ends every fault, and restarts every process that has ended."""
         network = self.stage.network
         network.set_links([pair for host in HOSTS for pair in both_ways(host, HOSTS)])
         for name in SERVERS:

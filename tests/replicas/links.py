@@ -1,10 +1,10 @@
 #!/usr/bin/env python3
-"""Tests the network of the other tests: links between hosts that are cut, cut one way, slow, lossy and out of order.
+"""Tests the network of the other tests: links between hosts that are cut, cut in one direction, slow, lossy and out of order.
 
     links.py
 
-If the kernel refuses network namespaces, it says so, and tests the proxies on loopback instead. The exit status is 0 if all tests pass.
-Takes 3 seconds.
+Tests the proxies on loopback first. If the kernel refuses network namespaces, prints the reason and skips the other tests. The exit
+status is 0 if no test fails. Takes 3 seconds.
 """
 
 import socket
@@ -21,7 +21,7 @@ INSIDE = "--inside"
 
 
 class Echo:
-    """A host that returns each packet to its sender, and one that sends packets and looks at what comes back."""
+    """A host that returns each packet to its sender, and a host that sends packets and receives the returned ones."""
 
     def __init__(self, network: Namespaces):
         self.network = network
@@ -41,7 +41,8 @@ class Echo:
             self.server.sendto(packet, sender)
 
     def send(self, wait: float, most: int = 2 * PACKETS) -> list[tuple[int, float]]:
-        """The numbers of the packets that come back, each with its time on the way: at most so many, until none comes for a while."""
+        """Sends PACKETS packets. Returns the number and the round-trip time of each returned packet, up to `most`, until none arrives for
+        `wait` seconds."""
         sent, came, self.received = [], [], 0
         for number in range(PACKETS):
             sent.append(time.monotonic())
@@ -57,7 +58,7 @@ class Echo:
         return came
 
     def send_all(self) -> list[tuple[int, float]]:
-        """The same where all packets should come back, however late the machine is."""
+        """Like `send`, but waits until all packets have returned, even on a slow machine."""
         return self.send(5, PACKETS)
 
 
@@ -65,12 +66,12 @@ def packets() -> None:
     network = Namespaces(["s0", "c0"], ["s0"])
     there, back = ("c0", "s0"), ("s0", "c0")
     echo = Echo(network)
-    must([number for number, _ in echo.send_all()] == list(range(PACKETS)), "a whole link loses or reorders packets")
+    must([number for number, _ in echo.send_all()] == list(range(PACKETS)), "an intact link loses or reorders packets")
     network.set_links([there], cut=True)
-    must(not echo.send(0.2) and echo.received == 0, "a link that is cut passes packets on")
+    must(not echo.send(0.2) and echo.received == 0, "a cut link forwards packets")
     network.set_links([there])
     network.set_links([back], cut=True)
-    must(not echo.send(1) and echo.received == PACKETS, "a link that is cut one way passes all packets or none")
+    must(not echo.send(1) and echo.received == PACKETS, "a link that is cut in one direction forwards packets in both directions or in none")
     network.set_links([back], delay=0.05)
     came = echo.send_all()
     must(len(came) == PACKETS and min(taken for _, taken in came) >= 0.05, "a slow link is not slow")
@@ -79,7 +80,7 @@ def packets() -> None:
     must(sorted(numbers) == list(range(PACKETS)) and numbers != sorted(numbers), "packets do not overtake each other")
     network.set_links([back], loss=0.3, twice=0.3)
     numbers = [number for number, _ in echo.send(0.3)]
-    must(len(set(numbers)) < PACKETS * 0.9 and len(set(numbers)) < len(numbers), "a lossy link loses and repeats nothing")
+    must(len(set(numbers)) < PACKETS * 0.9 and len(set(numbers)) < len(numbers), "a lossy link does not lose and repeat packets")
     network.close()
 
 
@@ -103,11 +104,11 @@ def proxies() -> None:
 
     threading.Thread(target=serve, daemon=True).start()
     connection = socket.create_connection(network.addresses("c0")[0])
-    must(round_trip(connection, 1), "a whole link passes nothing on")
+    must(round_trip(connection, 1), "an intact link forwards nothing")
     network.set_links([("s0", "c0")], cut=True)
-    must(not round_trip(connection, 0.3), "a link that is cut passes bytes on")
+    must(not round_trip(connection, 0.3), "a cut link forwards bytes")
     network.set_links([("s0", "c0")])
-    must(round_trip(connection, 1), "a link that is whole again passes nothing on")
+    must(round_trip(connection, 1), "a restored link forwards nothing")
     network.close()
 
 
@@ -122,7 +123,7 @@ def main() -> int:
             print(f"The kernel refuses network namespaces ({refusal}); the proxies on loopback cut and delay.")
             return 0
         status = subprocess.run(words_in_sandbox([sys.executable, __file__, INSIDE]), check=False).returncode
-        print("links are cut, slow, lossy and out of order as they should" if status == 0 else "the network of the tests does not work")
+        print("links can be cut, slow, lossy and out of order" if status == 0 else "the network of the tests does not work")
         return status
     except Failed as wrong:
         print(wrong)

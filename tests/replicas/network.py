@@ -1,9 +1,11 @@
 """Separate hosts for the processes of a test, and the network between them.
 
-`Namespaces` gives each host a network namespace with an address of its own, and connects them through switch.py. It needs a process that
-`words_in_sandbox` started: one with its own namespaces for users, networks, mounts and processes, so a test has no effect
-outside, and all its processes end with it. `Loopback` is for a kernel that refuses this: the hosts are names, and a proxy stands between
-each of them and each server. It cuts and delays, but it cannot reorder, lose or repeat packets, or cut a server off the others.
+`Namespaces` creates a network namespace with its own address for each host, and connects the hosts through switch.py. The test must run
+in a process that `words_in_sandbox` started. That process has its own namespaces for users, networks, mounts and processes, so a test has
+no effect outside, and all its processes end with it.
+
+`Loopback` is for kernels that refuse this. Its hosts are only names, and a proxy connects each host with each server. A proxy cuts and
+delays, but cannot reorder, lose or repeat packets, or cut a server off from the others.
 """
 
 import ctypes
@@ -28,17 +30,17 @@ Pair = tuple[str, str]
 
 
 def words_in_sandbox(words: list[str]) -> list[str]:
-    """The words that run a program in a sandbox. Whoever is not root becomes root of a namespace of users."""
+    """Returns the command that runs a program in a sandbox. A user other than root becomes root of a new user namespace."""
     return [*SANDBOX, *([] if os.geteuid() == 0 else USER), *words]
 
 
 def missing_programs() -> list[str]:
-    """The programs of a sandbox that are not installed."""
+    """Returns the programs that a sandbox requires and that are not installed."""
     return [name for name in ("unshare", "nsenter", "ip", "mount", "umount") if not shutil.which(name)]
 
 
 def why_no_sandbox() -> str:
-    """What the kernel says where it refuses a sandbox with TUN devices and mounts; an empty text where it allows them."""
+    """Returns the error of a sandbox with TUN devices and mounts, or an empty text if the kernel allows one."""
     probe = "ip tuntap add probe mode tun && mount -t tmpfs none /mnt && ip netns list"
     try:
         done = subprocess.run(words_in_sandbox(["sh", "-c", probe]), capture_output=True, text=True, timeout=20)
@@ -73,7 +75,7 @@ class Namespaces:
         subprocess.run(words, check=True)
 
     def make_host(self, host: str) -> int:
-        """Makes a namespace with an address. Returns the file of its device."""
+        """Creates a network namespace with an address. Returns the descriptor of its device."""
         device = os.open("/dev/net/tun", os.O_RDWR)
         fcntl.ioctl(device, self.TUNSETIFF, struct.pack("16sH22x", host.encode(), self.IFF_TUN | self.IFF_NO_PI))
         self.run("ip", "netns", "add", host)
@@ -87,20 +89,20 @@ class Namespaces:
         return f"10.99.0.{self.numbers[host]}"
 
     def addresses(self, host: str) -> list[tuple[str, int]]:
-        """Where the servers are, as a host sees them."""
+        """Returns the addresses of the servers as a host sees them."""
         return [(self.address(server), CLIENT_PORT) for server in self.servers]
 
     def own_address(self, server: str) -> tuple[str, int, int]:
-        """The address of a server, its port for clients and that for routes."""
+        """Returns the address of a server, its port for clients and its port for routes."""
         return self.address(server), CLIENT_PORT, ROUTE_PORT
 
     @staticmethod
     def words(host: str, words: list[str]) -> list[str]:
-        """The words that run a program on a host. The process has the number that the program gets."""
+        """Returns the command that runs a program on a host. The program keeps the process id of the command."""
         return ["nsenter", f"--net=/run/netns/{host}", *words]
 
     def enter(self, host: str) -> None:
-        """Moves the calling thread to a host: sockets that it opens are there."""
+        """Moves the calling thread to a host. New sockets of the thread belong to that host."""
         with open(f"/run/netns/{host}", "rb") as namespace:
             if self.libc.setns(namespace.fileno(), self.CLONE_NEWNET):
                 raise OSError(ctypes.get_errno(), f"cannot enter {host}")
@@ -111,7 +113,7 @@ class Namespaces:
         self.switch.stdin.flush()
 
     def set_links(self, pairs: Iterable[Pair], **link: float) -> None:
-        """Sets how packets pass from the first host of each pair to the second one. See switch.py for the words."""
+        """Sets the link from the first host of each pair to the second one. switch.py documents the settings."""
         self.command(links=[[self.numbers[source], self.numbers[target]] for source, target in pairs], **link)
 
     def close(self) -> None:
@@ -120,7 +122,7 @@ class Namespaces:
 
 
 class Proxy:
-    """Passes the bytes of one host to one server and back. What was held back while a direction is cut is passed on later."""
+    """Forwards bytes between one host and one server. Bytes that arrive while their direction is cut are forwarded later."""
 
     def __init__(self, target: tuple[str, int]):
         self.target = target
@@ -162,7 +164,7 @@ class Proxy:
 
 
 class Loopback:
-    """Hosts that are names: a proxy stands between each of them and each server."""
+    """Hosts that are only names. A proxy connects each host with each server."""
 
     has_packets = False
     has_mounts = False
@@ -189,10 +191,10 @@ class Loopback:
         return words
 
     def enter(self, host: str) -> None:
-        """There is nothing to enter."""
+        """Does nothing, since hosts are only names."""
 
     def command(self, **said: object) -> None:
-        """There are no packets, so nothing is left to chance."""
+        """Does nothing, since proxies have no randomness to seed."""
 
     def set_links(self, pairs: Iterable[Pair], cut: bool = False, delay: float = 0.0, jitter: float = 0.0, **_: float) -> None:
         for source, target in pairs:

@@ -634,8 +634,8 @@ static void snapshots_of(const char *folder) {
   has_history = false;
   MUST(loads_at(&snapshots, extent_of(identity, 1, 20), 0));
   has_history = true;
-  MUST(load(&snapshots, &again, extent_of(identity, 16, 15), 15) == LOADED && database_sum(&again, ALL_TABLES, &sum_again));
-  MUST(database_sum(&database, ALL_TABLES, &sum) && is_same_digest(&sum, &sum_again) && again.recents.forgotten == 3);
+  MUST(load(&snapshots, &again, extent_of(identity, 16, 15), 15) == LOADED && snapshot_sum(&again, &sum_again));
+  MUST(snapshot_sum(&database, &sum) && is_same_digest(&sum, &sum_again) && again.recents.forgotten == 3);
   MUST(is_same_digest(&again.chain, &database.chain) && is_same_digest(&again.before, &database.before));
   MUST(!database_chain_at(&again, 14) && database_chain_at(&again, 15));
   MUST(answers(&again, "TABLES",
@@ -648,6 +648,122 @@ static void snapshots_of(const char *folder) {
   broken_snapshots(&snapshots, path);
   MUST(!unlink(path));
   kept_snapshots(&snapshots, &database);
+  database_close(&again);
+  database_close(&database);
+}
+
+/* Standing queries in snapshots. */
+
+/* Makes standing queries by lines that are not those of a dump. */
+static void fill_standing(struct database *database) {
+  MUST(database_open(database, identity));
+  MUST(applies(database, "s1", "TABLE t (id INT KEY, s TEXT)", OUTCOME_DONE, "ok\n"));
+  MUST(applies(database, "s2", "TABLE u (id INT KEY, t INT REF t)", OUTCOME_DONE, "ok\n"));
+  MUST(applies(database, "s3", "BEGIN\nINSERT t (1, 'it''s'), (2, ''), (3, 'WATCH')\nINSERT u (7, 1), (8, 3)\nCOMMIT", OUTCOME_DONE,
+               "ok\nok 3\nok 2\nok\n"));
+  MUST(applies(database, "s4", "INDEX i ON t (s) TREE", OUTCOME_DONE, "ok\n"));
+  MUST(applies(database, "s5", "WATCH w SELECT a.id FROM u a", OUTCOME_DONE, "ok\n"));
+  MUST(applies(database, "s6",
+               "-- comment\n\n\t WATCH  n SELECT a_long_alias . s , b.id FROM  t a_long_alias,u b\tWHERE b.t=a_long_alias.id AND "
+               "a_long_alias.id <b.id + 007 AND a_long_alias.s > '-- WATCH ''x'' ---------------------------------------------------' "
+               "ORDER 02 \r\n",
+               OUTCOME_DONE, "ok\n"));
+  MUST(applies(database, "s7", "UNWATCH w", OUTCOME_DONE, "ok\n"));
+  MUST(applies(database, "s8", "WATCH w SELECT DISTINCT a.s FROM t a WHERE a.id >= -0000", OUTCOME_DONE, "ok\n"));
+}
+
+/* The snapshot of this database that earlier versions wrote: rows and indexes follow their table, and WATCH lines are those of the log. */
+static const char older_snapshot[] =
+    "-- mmdb snapshot 2\n"
+    "-- log log 0123456789abcdef\n"
+    "-- sequence 8\n"
+    "-- before 8a622cd5a260b1354c274bc3d75149de\n"
+    "-- chain c81a7244e66b0d022d4ad963ea673c52\n"
+    "-- forgotten 0\n"
+    "-- replica r\n"
+    "-- sum 6767387c8a0411d5a65be93c15ed0f92\n"
+    "-- id s1 1 c3b17f7b1394835a94235d8e405d4e11 0 1\n"
+    "-- > ok\n"
+    "-- id s2 2 0daad6e37c8383d043669301f3061e7a 0 1\n"
+    "-- > ok\n"
+    "-- id s3 3 e0d4c762a0cd4c7cae3d3e0db86d368e 0 4\n"
+    "-- > ok\n"
+    "-- > ok 3\n"
+    "-- > ok 2\n"
+    "-- > ok\n"
+    "-- id s4 4 f7b13c5e61a84e96955d380e504389d8 0 1\n"
+    "-- > ok\n"
+    "-- id s5 5 c9a6318a9916b29aeb34236e7f7bb378 0 1\n"
+    "-- > ok\n"
+    "-- id s6 6 01bb62fc87f90025f44ba8d70fae7b33 0 1\n"
+    "-- > ok\n"
+    "-- id s7 7 db2732251fca099cce16abcbdac797f0 0 1\n"
+    "-- > ok\n"
+    "-- id s8 8 f01d7fac5d3b31b838a2fdd07cd7171e 0 1\n"
+    "-- > ok\n"
+    "TABLE t (id INT KEY, s TEXT)\n"
+    "INSERT t (1, 'it''s'), (2, ''), (3, 'WATCH')\n"
+    "INDEX i ON t (s) TREE\n"
+    "TABLE u (id INT KEY, t INT REF t)\n"
+    "INSERT u (7, 1), (8, 3)\n"
+    "\t WATCH  n SELECT a_long_alias . s , b.id FROM  t a_long_alias,u b\tWHERE b.t=a_long_alias.id AND a_long_alias.id <b.id + "
+    "007 AND a_long_alias.s > '-- WATCH ''x'' ---------------------------------------------------' ORDER 02 \n"
+    "WATCH w SELECT DISTINCT a.s FROM t a WHERE a.id >= -0000\n"
+    "-- end 906379dc4a1e9ed924cb1371b668c43b\n";
+
+/* Whether two databases answer each question alike. */
+static bool are_alike(struct database *one, struct database *other) {
+  static const char *const questions[] = {"TABLES", "SCAN t", "SCAN u", "SCAN INDEX i", "SHOW n", "SHOW w"};
+  char columns[COLUMNS_BYTES];
+  bool is_same = true;
+  for (size_t i = 0; i < sizeof questions / sizeof *questions; i++) {
+    MUST(asks(one, questions[i], 1 << 20, ANY_READS, columns) == ANSWER_DONE);
+    MUST(asks(other, questions[i], 1 << 20, ANY_READS, columns) == ANSWER_DONE);
+    is_same = is_same && one->replies.length == other->replies.length && !memcmp(one->replies.at, other->replies.at, one->replies.length);
+  }
+  return is_same;
+}
+
+/* Whether two databases have the same sums, and no two of the sums of single tables and standing queries are the same. */
+static bool have_same_sums(struct database *one, struct database *other) {
+  enum { LISTS = 4 };
+  struct digest sum, sums[2 * LISTS];
+  bool is_same = snapshot_sum(one, &sum) && snapshot_sum(other, sums) && is_same_digest(&sum, sums);
+  for (size_t i = 0; i < 2 * LISTS; i++) {
+    MUST(database_sum_part(one, i, 0, &sum) && database_sum_part(other, i, 0, &sums[i]));
+    is_same = is_same && is_same_digest(&sum, &sums[i]);
+    for (size_t j = 0; j < i; j++) is_same = is_same && is_same_digest(&sums[i], &sums[j]) == (i == j + LISTS);
+  }
+  return is_same;
+}
+
+static void changed_alike(struct database *one, struct database *other) {
+  struct database *both[] = {one, other};
+  for (size_t i = 0; i < 2; i++) {
+    MUST(applies(both[i], "c1", "INSERT u (9, 3), (-9, 3)", OUTCOME_DONE, "ok 2\n"));
+    MUST(applies(both[i], "c2", "UPDATE t SET s = 'x' WHERE id = 2", OUTCOME_DONE, "ok 1\n"));
+    MUST(applies(both[i], "c3", "DROP TABLE u", OUTCOME_REFUSED, "error 43 in use\n"));
+  }
+  MUST(are_alike(one, other) && have_same_sums(one, other));
+}
+
+/* A snapshot leads to the same standing queries, in the order of a dump and in that of older ones. */
+static void standing_queries(const char *folder) {
+  const struct snapshots snapshots = {.folder = folder, .log = "log", .replica = "r"};
+  struct database database, again;
+  char path[PATH_MAX];
+  fill_standing(&database);
+  MUST(snapshot_path(&snapshots, identity, 8, path) && snapshot_write(&snapshots, &database, identity, false));
+  MUST(has_line(path, "WATCH w SELECT DISTINCT a.s FROM t a WHERE a.id>=0\n"));
+  MUST(load(&snapshots, &again, extent_of(identity, 1, 8), 8) == LOADED);
+  MUST(answers(&again, "SHOW n", "('it''s', 7)\n('WATCH', 8)\nrows 2\n"));
+  MUST(are_alike(&again, &database) && have_same_sums(&again, &database));
+  database_close(&again);
+  write_back(path, older_snapshot, sizeof older_snapshot - 1);
+  MUST(load(&snapshots, &again, extent_of(identity, 1, 8), 8) == LOADED);
+  MUST(are_alike(&again, &database) && have_same_sums(&again, &database));
+  MUST(snapshot_write(&snapshots, &again, identity, false) && loads_at(&snapshots, extent_of(identity, 1, 8), 8) && !unlink(path));
+  changed_alike(&again, &database);
   database_close(&again);
   database_close(&database);
 }
@@ -887,6 +1003,7 @@ int main(int words, char **word) {
   lost_parts(word[1]);
   loaded_snapshots(word[1]);
   snapshots_of(word[1]);
+  standing_queries(word[1]);
   logins(word[1]);
   compared_sums();
   sums_of_histories();

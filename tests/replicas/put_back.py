@@ -196,7 +196,7 @@ FAULTS = [
         "a snapshot lacks the ids",
         [
             Edit("snapshot_write.c", "i < database->recents.count; i++) put_recent", "i < database->recents.count / 2; i++) put_recent"),
-            Edit("snapshot_load.c", "return is_same_digest(&sum, &head.sum) ? NULL", "return is_same_digest(&sum, &sum) ? NULL"),
+            Edit("snapshot_load.c", "return is_same_digest(&sum, &head->sum) ? NULL", "return is_same_digest(&sum, &sum) ? NULL"),
         ],
         build="forgetful",
     ),
@@ -248,6 +248,19 @@ FAULTS = [
     Fault(
         "a .lost file replaces one of another history",
         [Edit("snapshot_write.c", "  write_digest(chain, &database->chain);\n  int length", "  strcpy(chain, \"00000000\");\n  int length")],
+        program="parts",
+    ),
+    Fault(
+        "the sum of a snapshot covers other WATCH lines than the snapshot has",
+        [Edit("snapshot_load.c", "database_sum(database, watches, &sum)", "(watches && snapshot_sum(database, &sum))")],
+        program="parts",
+    ),
+    Fault(
+        "sums do not cover the rows of standing queries",
+        [
+            Edit("database.c", "count_lists(rest, is_part)", "count_lists(rest, false)"),
+            Edit("database.c", "next_list(&rest, is_part, question)", "next_list(&rest, false, question)"),
+        ],
         program="parts",
     ),
     Fault(

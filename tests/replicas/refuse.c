@@ -1,11 +1,11 @@
 /*
- * Preloaded into a process, it fails all allocations of libmmdb for 0.3 s each time that the process gets SIGUSR1, and all of 64 KiB or
- * more from the first SIGUSR2 on:
+ * A preloaded library that fails allocations of libmmdb. All of them fail for 0.3 s after each SIGUSR1, and those of 64 KiB or more from
+ * the first SIGUSR2 on.
  *
  *     cc -shared -fPIC -o refuse.so refuse.c
  *     LD_PRELOAD=./refuse.so mmdb-replica ..
  *
- * An allocation of libmmdb is a call of malloc, calloc or realloc from libmmdb.so. All others go to the C library.
+ * An allocation of libmmdb is a call of malloc, calloc or realloc from libmmdb.so. The C library executes all other calls.
  */
 #include <errno.h>
 #include <link.h>
@@ -20,7 +20,7 @@ void *__libc_realloc(void *block, size_t size);
 
 enum { MILLISECONDS = 300, LARGE = 65536 };
 
-static uintptr_t first, end; /* where libmmdb.so is */
+static uintptr_t first, end; /* the address range of libmmdb.so */
 static volatile int64_t until;
 static volatile sig_atomic_t fails_large;
 

@@ -1,6 +1,6 @@
-"""Replays a log: applies its messages one after another with the library, as replica/PROTOCOL.md requires of a replica.
+"""Replays a log: applies its messages in order with the library, as replica/PROTOCOL.md requires of a replica.
 
-Shares no code with the replicas, and remembers each id for ever, so it finds an id that the rules of the protocol apply twice.
+The replay shares no code with the replicas, and never forgets an id. So it detects an id that the rules of the protocol apply twice.
 """
 
 import ctypes
@@ -23,7 +23,7 @@ CHECKED = re.compile(r"(0|[1-9][0-9]*) ([0-9a-f]{32})")
 
 
 class Outcome(NamedTuple):
-    """What came of a script or a question: "done", "refused", "unmet" or "invalid", and the replies."""
+    """The outcome of a script or a question: "done", "refused", "unmet" or "invalid", and the replies."""
 
     status: str
     replies: bytes
@@ -39,13 +39,13 @@ class Entry(NamedTuple):
 
 
 def checked_in(message: Logged) -> Optional[tuple[int, str]]:
-    """The number and the chain hash that the publisher had; None where the header is missing or wrong."""
+    """Returns the number and the chain hash of the publisher, or None if the header is missing or malformed."""
     found = CHECKED.fullmatch(message.headers.get("Mmdb-Checked", ""))
     return (int(found[1]), found[2]) if found else None
 
 
 def entries_of(message: Logged) -> Optional[list[Entry]]:
-    """The scripts of a message; None where it is malformed."""
+    """Returns the scripts of a message, or None if the message is malformed."""
     checked = checked_in(message)
     if message.headers.get("Mmdb-Format") != FORMAT or not checked or checked[0] >= message.number:
         return None
@@ -104,7 +104,7 @@ class Library:
         self.calls.mmdb_close(self.handle)
 
     def execute(self, line: bytes) -> tuple[int, bytes]:
-        """The status and the reply of a line."""
+        """Executes a line. Returns its status and its reply."""
         status = self.calls.mmdb_execute(self.handle, line, len(line))
         length = ctypes.c_size_t(0)
         self.calls.mmdb_text(self.handle, None, 0, length)
@@ -114,7 +114,7 @@ class Library:
         return status, reply.raw
 
     def reads(self, line: bytes) -> bool:
-        """Whether a line has a reading without a hole."""
+        """Returns whether a line is a command without parameters."""
         statement, holes = ctypes.c_size_t(0), ctypes.c_size_t(0)
         if self.calls.mmdb_prepare(self.handle, line, len(line), statement) != DONE:
             return False
@@ -139,20 +139,21 @@ def is_command(line: bytes) -> bool:
 
 
 class Replay:
-    """A database after the messages of a log, with the ids that are kept. `kept_ids` is how many a replica keeps."""
+    """A database after the messages of a log, with the kept ids. `kept_ids` is the number of ids that a replica keeps."""
 
     def __init__(self, library: Library, kept_ids: int = KEPT_IDS):
         self.library = library
         self.kept_ids, self.forgotten, self.number = kept_ids, 0, 0
-        self.kept: dict[str, int] = {}  # each id that is kept, the oldest first, with its number
-        self.outcomes: dict[str, tuple[int, Outcome]] = {}  # of each id ever: where it was applied, and what came of it
+        self.kept: dict[str, int] = {}  # the number of each kept id, oldest first
+        self.outcomes: dict[str, tuple[int, Outcome]] = {}  # the number and the outcome of each applied id
         self.twice: list[tuple[str, int, int]] = []  # ids that were applied at two numbers
 
     def close(self) -> None:
         self.library.close()
 
     def is_script(self, script: bytes) -> bool:
-        """One change, one definition, or BEGIN, changes and savepoints, and COMMIT or ROLLBACK; each line has a reading."""
+        """Returns whether a script is valid: one change, one definition, or BEGIN, changes and savepoints, and COMMIT or ROLLBACK. Each line
+        must be a command without parameters."""
         lines = [line for line in lines_of(script) if is_command(line)]
         if len(script) > MOST_SCRIPT_BYTES or not lines or any(len(line) > MOST_LINE_BYTES for line in lines_of(script)):
             return False

@@ -1,6 +1,6 @@
-"""What a seed decides: the faults with their times, how replicas are started, and what each client calls.
+"""The decisions of a seed: the faults with their times, the options of the replicas, and the calls of each client.
 
-A seed gives the same schedule each time. Names such as "leader" are resolved while the run goes on, since the servers choose their leader.
+A seed always produces the same schedule. Names such as "leader" are resolved during the run, since the servers elect their leader.
 """
 
 import random
@@ -12,26 +12,26 @@ CLIENTS = ["c0", "c1"]
 WITNESS = "w0"
 HOSTS = [*SERVERS, *REPLICAS, *CLIENTS, WITNESS]
 
-# Faults of hosts and links that leave most servers and their leader alone, and those that do not.
+# Faults of hosts and links that spare the leader and a majority of the servers, and faults that do not.
 LIGHT = ["cut", "cut-one-way", "slow", "lossy", "stop", "kill", "end", "clock", "memory", "no-room-for-snapshots", "bad-snapshot", "junk"]
 HEAVY = ["cut", "cut-one-way", "slow", "stop", "kill", "kill-all-replicas", "lose-files", "full", "split", "kill-most", "stop-most"]
 OF_SERVERS = ["kill", "stop", "cut", "cut-one-way", "lose-files", "full", "kill-most", "stop-most", "split"]
-HEAVY_OF = 3  # one seed of so many has heavy faults
+HEAVY_OF = 3  # one in HEAVY_OF seeds has heavy faults
 
-# The builds of the programs. A forgetful one keeps 64 ids in place of 65,536, so a run is long enough to forget some.
+# The builds of the programs. Forgetful replicas keep 64 ids instead of 65,536, so that they forget some ids during a run.
 BUILD_OF = ["plain", "forgetful", "plain", "forgetful", "address", "forgetful", "plain", "forgetful", "thread"]
 SANITIZED, FEW_IDS = ("address", "thread"), 64
 
 
 @dataclass
 class Fault:
-    """A fault, when it begins and for how long it lasts, in seconds of the run."""
+    """A fault, with its begin and its duration in seconds of the run."""
 
     at: float
     lasts: float
     kind: str
     host: str
-    other: str = ""  # the other end of a link; empty for all others
+    other: str = ""  # the other end of a link; empty for the links to all hosts
     value: float = 0.0
 
     def __str__(self) -> str:
@@ -41,13 +41,13 @@ class Fault:
 
 @dataclass
 class Schedule:
-    """All that a seed decides, but for the calls of the clients."""
+    """All decisions of a seed except the calls of the clients."""
 
     seed: int
     length: float
     is_heavy: bool
     faults: list[Fault]
-    replicas: dict[str, list[str]] = field(default_factory=dict)  # the options of each
+    replicas: dict[str, list[str]] = field(default_factory=dict)  # the options of each replica
     build: str = "plain"
 
     def describe(self) -> str:
@@ -80,7 +80,8 @@ def draw_heavy(rng: random.Random, length: float) -> Fault:
 
 
 def value_of(rng: random.Random, kind: str) -> float:
-    """How slow, how lossy, how far the clock jumps, or which bytes are changed."""
+    """Returns the parameter of a fault: a delay in seconds, a loss rate, a jump of the clock in seconds, or a random choice such as the
+    byte to change."""
     if kind == "slow":
         return rng.choice([0.005, 0.03, 0.1, 0.3])
     if kind == "lossy":
@@ -91,7 +92,7 @@ def value_of(rng: random.Random, kind: str) -> float:
 
 
 def options_of(rng: random.Random, place: int) -> list[str]:
-    """How a replica is started. All must agree on --sum-every; the first always writes snapshots."""
+    """Returns the options of a replica. All replicas must agree on --sum-every, and the first always writes snapshots."""
     options = ["--sum-every", "40", "--lost-after", str(rng.choice([1500, 3000, 15000]))]
     if place == 0 or rng.random() < 0.3:
         options += ["--snapshot-every", str(rng.choice([20, 60, 150]))]
@@ -139,20 +140,20 @@ NO_SCRIPTS = [
 
 @dataclass
 class Call:
-    """What a client does next: a change or a question, how long it waits for an answer, and what it does before."""
+    """The next call of a client: a change or a question, its timeout and the pause before it, both in seconds."""
 
     script: str = ""
     is_valid: bool = True
-    has_condition: bool = False  # whether it is refused if an UPDATE or DELETE of it matches no row
+    has_condition: bool = False  # whether the script fails if one of its UPDATE or DELETE commands matches no row
     question: str = ""
     linearizable: bool = False
-    passed_on: bool = False  # whether it demands the newest number of any client, not only its own
+    passed_on: bool = False  # whether the question demands the highest number of all clients
     wait: float = 1.0
     pause: float = 0.0
 
 
 class Calls:
-    """The calls of one client, one after another."""
+    """Generates the calls of one client."""
 
     def __init__(self, seed: int, client: str):
         self.rng = random.Random(f"{seed} {client}")

@@ -28,9 +28,10 @@ write_deadline: "2s"
 
 
 class Programs(NamedTuple):
-    """What is tested: the folder of mmdb-replica and mmdb-ask, libmmdb.so, the library of refuse.c, and how many ids replicas keep.
+    """The tested programs: the folder of mmdb-replica and mmdb-ask, libmmdb.so, the library of refuse.c, and the number of kept ids.
 
-    Programs with sanitizers take no other library before their own, so they have none of refuse.c and their clocks do not jump.
+    Sanitizers must be the first library of a program. So programs with sanitizers run without the library of refuse.c and without jumps of
+    the clock.
     """
 
     folder: Path
@@ -45,11 +46,11 @@ def library_of_clocks() -> Optional[Path]:
 
 
 class Unrecovered(Failed):
-    """The servers do not come back, whatever the replicas do."""
+    """The servers did not recover. That is not a fault of the replicas."""
 
 
 class Stage:
-    """The servers of all seeds of a lane, and the replicas of one seed at a time."""
+    """The servers of a lane, which all its seeds share, and the replicas of one seed at a time."""
 
     def __init__(self, folder: Path, programs: Programs, network: Network):
         self.folder, self.programs, self.network = folder, programs, network
@@ -64,7 +65,7 @@ class Stage:
     # Files.
 
     def make_folder(self, name: str, most_bytes: int) -> Path:
-        """Makes a folder on a device of its own where mounts are allowed, so that it can be full."""
+        """Creates a folder. If mounts are allowed, the folder has its own device of `most_bytes`, which can become full."""
         path = self.folder / name
         path.mkdir()
         if self.network.has_mounts:
@@ -78,7 +79,7 @@ class Stage:
 
     @staticmethod
     def fill(folder: Path) -> None:
-        """Fills the device of a folder up to its last byte."""
+        """Fills the device of a folder to its last byte."""
         with open(folder / FILLER, "wb", buffering=0) as file:
             block = bytes(1 << 20)
             while block:
@@ -115,7 +116,7 @@ class Stage:
             server.start()
 
     def restart_servers(self) -> None:
-        """Starts all servers again without any files."""
+        """Restarts all servers without their files."""
         for name, server in self.servers.items():
             server.kill()
             self.empty(self.store(name))
@@ -125,7 +126,7 @@ class Stage:
         return patient(self.admin, "STREAM.INFO." + self.log, None, time.monotonic() + wait)
 
     def leader(self) -> str:
-        """The server that leads the log, or the one that did last."""
+        """Returns the leader of the log, or the last known leader."""
         try:
             self.last_leader = self.admin.api("STREAM.INFO." + self.log, wait=0.5)["cluster"].get("leader") or self.last_leader
         except (OSError, KeyError):
@@ -142,7 +143,7 @@ class Stage:
             except (OSError, KeyError):
                 self.admin.close()
             if time.monotonic() > until:
-                raise Unrecovered("the servers did not agree on the log again")
+                raise Unrecovered("the servers did not agree on the log in time")
             time.sleep(0.1)
 
     def ask_words(self, host: str, *options: str) -> list[str]:
@@ -154,7 +155,7 @@ class Stage:
         self.log = log
         while subprocess.run(self.ask_words(WITNESS, "--make-log", "3"), stderr=subprocess.DEVNULL, timeout=30).returncode:
             if time.monotonic() > until:
-                raise Unrecovered("the servers did not make a log")
+                raise Unrecovered("the servers did not create a log")
             time.sleep(0.1)
 
     def delete_log(self) -> None:
@@ -169,7 +170,7 @@ class Stage:
         return self.folder / f"{name}.clock"
 
     def set_clock(self, name: str, seconds: float) -> None:
-        """Lets the clock of a replica jump. Its monotonic clock goes on."""
+        """Makes the clock of a replica jump. Its monotonic clock is not affected."""
         written = self.folder / f"{name}.clock.new"
         written.write_text(f"{seconds:+.0f}\n")
         written.rename(self.clock_file(name))
@@ -198,15 +199,15 @@ class Stage:
             self.replicas[name].start()
 
     def crashes(self) -> list[str]:
-        """What was wrong with replicas that ended by themselves. They are started again later."""
+        """Returns a finding for each replica that ended unexpectedly. These replicas are restarted later."""
         ended = [one for one in self.replicas.values() if one.running and one.running.poll() is not None]
-        wrong = [f"crash: {one.name} ended by itself: {one.running.poll() if one.running else 0}: {one.said()[-600:]}" for one in ended]
+        wrong = [f"crash: {one.name} ended unexpectedly: {one.running.poll() if one.running else 0}: {one.said()[-600:]}" for one in ended]
         for one in ended:
             one.kill()
         return wrong
 
     def end_replicas(self) -> list[str]:
-        """Ends all replicas. Returns what was wrong with how they ended."""
+        """Ends all replicas. Returns a finding for each that did not end with status 0 within 10 s."""
         wrong = []
         for name, replica in self.replicas.items():
             try:

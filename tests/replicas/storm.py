@@ -1,19 +1,19 @@
 #!/usr/bin/env python3
-"""Runs seeds: servers, replicas and clients on hosts of their own, with the faults that each seed decides, and checks each history.
+"""Runs seeds: servers, replicas and clients on separate hosts, with the faults that each seed decides. Checks the history of each seed.
 
     storm.py BUILDS LIBRARY REFUSE FOLDER SEEDS [--lanes N] [--for SECONDS] [--only BUILD] [--until-found] [--keep-all]
         [--loopback] [--show]
 
-BUILDS has a folder for each build of mmdb-replica and mmdb-ask, as `build` beside this file makes them; a seed decides which one it uses.
-LIBRARY is libmmdb.so, and REFUSE the library that refuse.c makes. SEEDS is FIRST-LAST or one number. Each lane has three servers of its
-own and runs one seed after another; with --for no seed begins after so many seconds. FOLDER gets the history of each seed with findings,
-and what its programs said: SEED.history and SEED.said; with --keep-all those of each seed.
+BUILDS contains a folder for each build of mmdb-replica and mmdb-ask, which `build` in this folder creates. A seed decides which build it
+uses. LIBRARY is libmmdb.so, and REFUSE is the library of refuse.c. SEEDS is FIRST-LAST or one number. Each lane has three servers of its
+own and runs one seed at a time. FOLDER receives the history and the output of each seed with findings, SEED.history and SEED.said.
 
---only lets all seeds use one build. With --until-found no seed begins after one that found something. --loopback runs without namespaces,
-with proxies in place of a network. --show prints what the seeds decide, and runs nothing.
+With --for, no seed begins after SECONDS seconds. --only uses one build for all seeds. With --until-found, no seed begins after a seed with
+findings. With --keep-all, FOLDER receives the files of all seeds. --loopback runs without namespaces, with proxies in place of a network.
+--show prints the decisions of the seeds, and runs nothing.
 
-A seed decides the faults, their times and the calls of each client. A real network and real processes do the rest, so a seed that found
-something may need some tries to find it again. The status is 0 only if nothing was found.
+A seed decides the faults, their times and the calls of each client. Networks and processes are real, so a seed with a finding may need
+several runs to reproduce it. The status is 0 if some answers were judged, and all findings are of the rule `log`.
 """
 
 import argparse
@@ -43,11 +43,11 @@ from stage import Programs, Stage, Unrecovered, make_network
 CALLERS, ASKERS = 4, 2
 AGAIN = 8  # changes that are sent again at the end
 LONGEST_START, LONGEST_RECOVERY, LONGEST_END = 60.0, 60.0, 40.0  # seconds
-LOG_RULE = "log"  # the rule that NATS may break, and replicas cannot
+LOG_RULE = "log"  # the rule that only NATS can break
 
 
 class Run:
-    """A seed on a stage."""
+    """The run of one seed on a stage."""
 
     def __init__(self, stage: Stage, schedule: Schedule, programs: Programs):
         self.stage, self.schedule = stage, schedule
@@ -76,7 +76,7 @@ class Run:
         self.board.give_up = float("inf")
 
     def storm(self) -> None:
-        """Lets clients call while faults happen, and waits until all calls have their answers."""
+        """Runs the clients while faults occur, and waits until all calls have their answers."""
         work = [partial(Witness(self.log, self.stage.network, self.history, self.board).run)]
         for place in range(CALLERS):
             client = f"k{place}"
@@ -102,12 +102,12 @@ class Run:
             self.wrong.append("liveness: a client did not end")
 
     def end(self) -> None:
-        """After the faults: a change goes through, and each replica has the state at the last number."""
+        """Checks after the faults that a change succeeds, and reads the state of each replica at the last number."""
         self.stage.wait_for_servers(time.monotonic() + LONGEST_RECOVERY)
         self.board.give_up = time.monotonic() + LONGEST_END
         last = self.caller(WITNESS, "last")
         if last.change("BEGIN\nCOMMIT\n", 2.5).answer.status != "done":
-            self.wrong.append("liveness: no change goes through after the faults")
+            self.wrong.append("liveness: no change succeeds after the faults")
         self.send_again(last)
         for name in REPLICAS:
             self.ask_all(last, last.number, name)
@@ -117,7 +117,7 @@ class Run:
         last.connection.close()
 
     def send_again(self, caller: Caller) -> None:
-        """Changes that were answered have the same answer when they are sent again, unless their ids are forgotten by now."""
+        """Sends some answered changes again. They must have the same answers, unless their ids have been forgotten."""
         changes = [one for one in self.history.records if isinstance(one, Change)]
         answered = [one for one in changes if one.answer.status in APPLIED]
         for change in answered[:: max(1, len(answered) // AGAIN)]:
@@ -131,7 +131,7 @@ class Run:
                 return
 
     def check(self) -> list[str]:
-        """What was found, one line each."""
+        """Returns the findings, one line each."""
         programs = self.stage.programs
         self.checker = Checker(self.history.records, lambda: Replay(Library(programs.library), programs.kept_ids))
         return [*self.wrong, *(str(finding) for finding in self.checker.check())]
@@ -153,22 +153,22 @@ class Run:
         return found if is_log_broken else found + list(self.alarms())
 
     def alarms(self) -> Iterator[str]:
-        """What no replica may say unless the log changed under it."""
+        """Yields the alarms of replicas, none of which is allowed unless the log changed."""
         if any("DIFFERENT SUMS" in said for said in self.said.values()):
-            yield "sums: replicas told of DIFFERENT SUMS"
+            yield "sums: replicas reported DIFFERENT SUMS"
         for name, said in self.said.items():
             if report := re.search(r"(ERROR|WARNING): \w+Sanitizer.*|.*runtime error:.*|.*LeakSanitizer.*", said):
                 yield f"sanitizer: {name}: {report[0]}"
         for status in self.statuses:
             if status["lives"] - 1 > self.jumps(status["replica"]):
-                yield f"lives: {status['replica']} dropped its rows, and had no reason to"
+                yield f"lives: {status['replica']} dropped its rows without a reason"
             if status["doubted"]:
                 yield f"sums: {status['replica']} is in doubt"
         if not self.wrong and len(self.statuses) < len(REPLICAS):
-            yield f"liveness: only {len(self.statuses)} replicas say their status"
+            yield f"liveness: only {len(self.statuses)} replicas report their status"
 
     def jumps(self, replica: str) -> int:
-        """How often a replica went on from a newer snapshot, because the log was cut after the rows that it had."""
+        """Returns how often a replica continued from a newer snapshot because the log was cut off after its rows."""
         is_cut = "--keep" in self.schedule.describe()
         return self.said[replica].count("the log was cut off after its rows") if is_cut else 0
 
@@ -182,7 +182,7 @@ class Run:
 
 
 def lane(options: argparse.Namespace) -> None:
-    """Runs the seeds that come as lines on standard input, and writes a line of JSON for each."""
+    """Runs the seeds on standard input, one per line, and prints a line of JSON for each."""
     folder = Path(tempfile.mkdtemp(prefix="storm"))
     stage = Stage(folder, programs_of(options, "plain"), make_network(options.loopback))
     try:
@@ -204,7 +204,7 @@ def programs_of(options: argparse.Namespace, build: str) -> Programs:
 
 
 def run_one(run: Run, options: argparse.Namespace) -> dict:
-    """Runs a seed. Returns what to tell of it."""
+    """Runs a seed. Returns its result."""
     began = time.monotonic()
     found = run.run()
     if found or options.keep_all:
@@ -218,7 +218,7 @@ def run_one(run: Run, options: argparse.Namespace) -> dict:
 
 
 class Storm:
-    """All seeds, on some lanes."""
+    """Distributes the seeds over lanes, and prints their findings."""
 
     def __init__(self, options: argparse.Namespace):
         self.options = options
@@ -281,11 +281,11 @@ class Storm:
         judged, unjudged = (sum(told.get(key, 0) for told in self.done) for key in ("judged", "unjudged"))
         messages, refused = (sum(told.get(key, 0) for told in self.done) for key in ("messages", "refused"))
         print(f"{seeds} seeds, {heavy} of them with faults of servers: {judged} answers were judged; the logs have {messages} messages")
-        print(f"{refused} times nobody could answer; {unjudged} answers were not judged, as the log itself had changed")
+        print(f"{refused} attempts had no final answer; {unjudged} answers were not judged, because the log itself changed")
         if lost:
             print(f"NATS lost or changed messages, or did not recover, with the seeds {' '.join(map(str, sorted(lost)))}")
         if bad:
-            print(f"the replicas are wrong with the seeds {' '.join(map(str, sorted(bad)))}; see {self.options.folder}")
+            print(f"the replicas failed with the seeds {' '.join(map(str, sorted(bad)))}; see {self.options.folder}")
         return 1 if bad or not judged else 0
 
 
@@ -323,11 +323,11 @@ def main() -> int:
 
 
 def may_have_hosts() -> bool:
-    """Whether hosts can have network namespaces. Where the kernel refuses them, says so; under CI, a missing program is a failure."""
+    """Returns whether hosts can have network namespaces. Prints the reason if they cannot. Under CI, a missing program is a failure."""
     missing = missing_programs()
     if missing and os.environ.get("CI"):
-        raise SystemExit(f"{', '.join(missing)} is not there")
-    refusal = f"{', '.join(missing)} is not there" if missing else why_no_sandbox()
+        raise SystemExit(f"{', '.join(missing)} is not installed")
+    refusal = f"{', '.join(missing)} is not installed" if missing else why_no_sandbox()
     if refusal:
         print(f"No network namespaces ({refusal}): the seeds run on loopback, with proxies that cut and delay.")
         print("No packet is lost or reordered, no device is full, and no server is cut off from the others.")

@@ -3,13 +3,13 @@
     switch.py NUMBER:DESCRIPTOR ..
 
 Each host has a TUN device in a network namespace of its own. DESCRIPTOR is the open file of the device of the host with the address
-10.99.0.NUMBER. Commands come as lines of JSON on standard input; the switch ends when its input ends:
+10.99.0.NUMBER. The switch reads commands from standard input, as lines of JSON, and ends at the end of its input:
 
-    {"seed": 7}                                        seeds the generator behind loss, jitter and repetition
-    {"links": [[1, 2]], "cut": true}                   from 1 to 2 no packet passes; from 2 to 1 they still do
-    {"links": [[1, 2]], "delay": 0.05, "jitter": 0.1,  each packet is delayed by 50 to 150 ms, so packets overtake each other,
-     "loss": 0.1, "twice": 0.05}                       one in ten is lost, and one in twenty arrives twice
-    {"links": [[1, 2]]}                                a link without faults again
+    {"seed": 7}                                        seeds the generator of loss, jitter and repetition
+    {"links": [[1, 2]], "cut": true}                   cuts the link from 1 to 2, but not from 2 to 1
+    {"links": [[1, 2]], "delay": 0.05, "jitter": 0.1,  delays packets by 50 to 150 ms, so that they overtake each other;
+     "loss": 0.1, "twice": 0.05}                       loses one packet in ten, and repeats one in twenty
+    {"links": [[1, 2]]}                                restores the link
 
 A switch in user space needs no netem in the kernel, and cuts one direction of a link as easily as both.
 """
@@ -26,11 +26,11 @@ from typing import NamedTuple
 LONGEST_PACKET = 65535
 PACKETS_A_TURN = 64
 MOST_DELAYED = 20000
-DESTINATION = slice(16, 20)  # in the header of IPv4
+DESTINATION = slice(16, 20)  # in the IPv4 header
 
 
 class Link(NamedTuple):
-    """How packets pass from one host to another: seconds, and probabilities."""
+    """The settings of a link from one host to another: times in seconds, and probabilities."""
 
     cut: bool = False
     delay: float = 0.0
@@ -47,7 +47,7 @@ class Switch:
         self.devices = devices
         self.numbers = {descriptor: number for number, descriptor in devices.items()}
         self.links: dict[tuple[int, int], Link] = {}
-        self.delayed: list[tuple[float, int, int, bytes]] = []  # when due, a count that keeps the order, the host, the packet
+        self.delayed: list[tuple[float, int, int, bytes]] = []  # delivery time, a count that keeps the order, target, packet
         self.count = 0
         self.random = random.Random(0)
         self.input = b""
@@ -64,7 +64,7 @@ class Switch:
             self.links[source, target] = Link(**said)
 
     def commands(self) -> bool:
-        """Obeys the commands that have come. Returns False at the end of the input."""
+        """Executes the commands that have arrived. Returns False at the end of the input."""
         got = os.read(0, 65536)
         *lines, self.input = (self.input + got).split(b"\n")
         for line in lines:
@@ -75,7 +75,7 @@ class Switch:
         try:
             os.write(self.devices[target], packet)
         except OSError:
-            pass  # a device without room loses packets, as hardware does
+            pass  # a full device drops packets, as hardware does
 
     def take(self, source: int, packet: bytes) -> None:
         target = packet[DESTINATION.stop - 1] if len(packet) >= DESTINATION.stop else 0

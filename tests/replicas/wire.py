@@ -1,6 +1,6 @@
-"""A client of NATS that is just enough for tests: it requests, publishes and subscribes, with headers, over one socket.
+"""A minimal client of NATS for tests: it requests, publishes and subscribes, with headers, over one socket.
 
-It shares nothing with libnats, so it sees what a client in any language would see. A connection is used by one thread.
+The client shares no code with libnats, so tests see what a client in any language sees. Only one thread may use a connection.
 """
 
 import json
@@ -15,7 +15,7 @@ NO_RESPONDERS = "503"
 
 
 class Message(NamedTuple):
-    """A message, with the status of its header: NO_RESPONDERS says that nobody listens to the subject of a request."""
+    """A message, with the status of its header. NO_RESPONDERS means that the subject of a request has no subscriber."""
 
     subject: str
     status: str
@@ -25,7 +25,7 @@ class Message(NamedTuple):
 
 
 def headers_in(block: bytes) -> tuple[str, dict[str, str]]:
-    """The status and the headers of a block of headers."""
+    """Returns the status and the headers of a header block."""
     first, *lines = block.decode().strip().split("\r\n")
     pairs = (line.split(":", 1) for line in lines if ":" in line)
     return first.partition(" ")[2][:3], {name.strip(): value.strip() for name, value in pairs}
@@ -34,7 +34,7 @@ def headers_in(block: bytes) -> tuple[str, dict[str, str]]:
 class Connection:
     """A connection to one of several servers, each a host and a port.
 
-    Where it breaks, it goes to the next one; what was under way is lost.
+    After an error, the next call connects to the next server. Pending answers are lost.
     """
 
     def __init__(self, servers: list[tuple[str, int]]):
@@ -92,7 +92,7 @@ class Connection:
         return block
 
     def message(self, until: float) -> Message:
-        """The next message. TimeoutError where none comes in time."""
+        """Returns the next message. Raises TimeoutError if none arrives in time."""
         while True:
             kind, *words = self.line(until).decode().split(" ")
             if kind == "PING":
@@ -120,7 +120,7 @@ class Connection:
     def request(
         self, subject: str, body: bytes = b"", headers: Optional[dict[str, str]] = None, wait: float = 2.5
     ) -> Message:
-        """The answer. TimeoutError or ConnectionError where none comes. What else comes meanwhile is dropped."""
+        """Sends a request. Returns its answer, and drops other messages. Raises TimeoutError or ConnectionError if there is no answer."""
         until = time.monotonic() + wait
         try:
             if not self.socket:
@@ -139,7 +139,7 @@ class Connection:
             raise ConnectionError(str(wrong)) from wrong
 
     def gather(self, subject: str, bodies: list[bytes], wait: float = 5.0) -> list[Message]:
-        """The answers of many requests that are under way at the same time, in the order of the requests."""
+        """Sends many requests at once. Returns their answers in the order of the requests."""
         until = time.monotonic() + wait
         try:
             if not self.socket:
@@ -162,7 +162,7 @@ class Connection:
             raise ConnectionError(str(wrong)) from wrong
 
     def collect(self, subject: str, most: int, wait: float) -> list[Message]:
-        """The answers of all who listen to a subject: as many as that, or those that come in time."""
+        """Requests answers from all subscribers of a subject. Returns at most `most` answers, and only those that arrive in time."""
         until = time.monotonic() + wait
         answers: list[Message] = []
         try:
@@ -182,16 +182,16 @@ class Connection:
         return answers
 
     def api(self, call: str, said: object = None, wait: float = 2.5) -> dict:
-        """The answer of a call of JetStream. ConnectionError where it is refused, or nobody is there to answer."""
+        """Returns the answer to a JetStream call. Raises ConnectionError if the call is refused or has no responder."""
         answer = self.request("$JS.API." + call, json.dumps(said).encode() if said is not None else b"", wait=wait)
-        told = json.loads(answer.body) if answer.body else {"error": {"description": "nobody answers"}}
+        told = json.loads(answer.body) if answer.body else {"error": {"description": "no responder"}}
         if "error" in told:
             raise ConnectionError(f"{call}: {told['error']['description']}")
         return told
 
 
 def patient(connection: Connection, call: str, said: object, until: float) -> dict:
-    """The answer of a call of JetStream that is made again until it is answered: not while servers choose a leader."""
+    """Repeats a JetStream call until it succeeds, and returns the answer. Calls fail while the servers elect a leader."""
     while True:
         try:
             return connection.api(call, said)
@@ -202,7 +202,7 @@ def patient(connection: Connection, call: str, said: object, until: float) -> di
 
 
 def logged(connection: Connection, log: str, number: int, until: float) -> Message:
-    """A message of the log."""
+    """Returns a message of the log."""
     told = patient(connection, "STREAM.MSG.GET." + log, {"seq": number}, until)["message"]
     headers = headers_in(b64decode(told["hdrs"]))[1] if told.get("hdrs") else {}
     return Message(told["subject"], "", headers, b64decode(told.get("data", "")))

@@ -1,9 +1,9 @@
 #!/usr/bin/env python3
-"""Tests the checker: it finds nothing in a right history, and the rule that is broken in each wrong one.
+"""Tests the checker: it reports nothing for a correct history, and the broken rule for each wrong one.
 
     wrong_histories.py
 
-A small language in place of the library makes the histories readable. The status is 0 only if all passed. It takes less than a second.
+A small language in place of the library makes the histories readable. The status is 0 only if all tests pass. Takes less than a second.
 """
 
 import copy
@@ -19,13 +19,13 @@ IDENTITY = "0123456789abcdef"
 
 
 class Toy:
-    """A database of one counter: UPDATE adds one to it, DELETE matches no row, INSERT is refused once it is 3, and SCAN reads it."""
+    """A database of one counter. UPDATE increments the counter, DELETE matches no row, INSERT is refused at 3, and SCAN reads the counter."""
 
     def __init__(self) -> None:
         self.value = self.saved = 0
 
     def close(self) -> None:
-        """There is nothing to close."""
+        """Does nothing."""
 
     def reads(self, line: bytes) -> bool:
         return b"?" not in line
@@ -48,7 +48,7 @@ class Toy:
 
 
 class Writer:
-    """Writes a history of one client as time goes on."""
+    """Writes the history of one client. Each record has a later time than the one before."""
 
     def __init__(self) -> None:
         self.time = 0.0
@@ -89,7 +89,7 @@ class Writer:
 
 
 def right() -> Writer:
-    """A history that has a change of each outcome, a copy of a message, junk, and questions."""
+    """Returns a correct history with a change of each outcome, a copy of a message, junk and questions."""
     writer = Writer()
     writer.change("a", "UPDATE\n", "done", "ok 1\n")
     writer.ask(1, 1)
@@ -123,7 +123,7 @@ def logged(records: list[Record], number: int, seen: str = "end") -> Logged:
     return next(one for one in records if isinstance(one, Logged) and one.number == number and one.seen == seen)
 
 
-# Each makes a right history wrong; its name and the rule that finds it are in WRONG.
+# Each of these functions makes a correct history wrong. WRONG lists them with the rules that they break.
 
 
 def stale_state(writer: Writer) -> None:
@@ -177,7 +177,7 @@ def stale_linearizable(writer: Writer) -> None:
 
 
 def linearizable_before_a_change(writer: Writer) -> None:
-    """A change gets a number that a question that ended before it had seen already."""
+    """A change has a number that an earlier question had already seen."""
     asked, change = questions(writer.records)[2], changes(writer.records)[4]
     asked.begin, asked.answer.end = change.begin - 0.5, change.begin - 0.4
 
@@ -203,7 +203,7 @@ def two_answers(writer: Writer) -> None:
 
 
 def other_history(writer: Writer) -> None:
-    """A replica applied a message that the servers passed on and lost."""
+    """A replica applied a message that the servers delivered and then lost."""
     other_chain(writer)
     writer.records.append(Event(writer.tick(), SERVER_FAULT + "kill s0"))
 
@@ -258,7 +258,7 @@ WRONG: list[tuple[Callable[[Writer], None], str]] = [
 
 
 def window() -> list[str]:
-    """A copy that comes after its id was forgotten is skipped, unless its publisher had checked the id later."""
+    """Returns the failures of this test: a copy of a forgotten id must be skipped unless its publisher checked the id later."""
     wrong = []
     cases: list[tuple[int, set[str]]] = [(1, set()), (4, {"once"})]
     for checked, wanted in cases:
@@ -275,13 +275,13 @@ def window() -> list[str]:
 def main() -> int:
     wrong = window()
     if found := rules_of(right().records):
-        wrong.append(f"the right history breaks {found}")
+        wrong.append(f"the correct history breaks {found}")
     for spoil, rule in WRONG:
         writer = copy.deepcopy(right())
         spoil(writer)
         if rule not in rules_of(writer.records):
-            wrong.append(f"{spoil.__name__} is not found by {rule}, but by {rules_of(writer.records) or 'nothing'}")
-    print("\n".join(wrong) or f"{len(WRONG)} wrong histories are found")
+            wrong.append(f"{spoil.__name__} does not break {rule}, but {rules_of(writer.records) or 'nothing'}")
+    print("\n".join(wrong) or f"{len(WRONG)} wrong histories are detected")
     return 1 if wrong else 0
 
 

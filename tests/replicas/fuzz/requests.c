@@ -15,8 +15,10 @@ static void fill(struct database *database) {
   static const char *const lines[] = {"TABLE t (id INT KEY, name TEXT)", "TABLE u (id INT KEY, t INT REF t)",
                                       "INSERT t (1, 'a'), (2, 'b')",     "INSERT u (1, 1)",
                                       "INDEX i ON t (name) TREE",        "WATCH w SELECT t.id FROM t t"};
+  struct bytes watches = {NULL, 0, 0};
   for (size_t i = 0; i < sizeof lines / sizeof *lines; i++)
-    MUST(database_restore(database, (struct text){(const uint8_t *)lines[i], strlen(lines[i])}));
+    MUST(database_restore(database, (struct text){(const uint8_t *)lines[i], strlen(lines[i])}, &watches));
+  bytes_free(&watches);
 }
 
 static void check_scripts(struct database *database, struct text script) {
@@ -41,11 +43,11 @@ static void check_questions(struct database *database, struct text question) {
   struct text line;
   char columns[COLUMNS_BYTES];
   if (check_question(&database->db, question, &why) == VERDICT_GOOD && next_line(&question, &line)) {
-    MUST(database_sum(database, ALL_TABLES, &before));
+    MUST(snapshot_sum(database, &before));
     enum answer answer = database_ask(database, line, &(struct limits){1024 * 1024, 3}, columns);
     MUST(answer != ANSWER_MEMORY);
     if (answer == ANSWER_LONG) MUST(database_ask(database, line, &(struct limits){1024 * 1024, ANY_READS}, columns) < ANSWER_LONG);
-    MUST(database_sum(database, ALL_TABLES, &after) && is_same_digest(&before, &after));
+    MUST(snapshot_sum(database, &after) && is_same_digest(&before, &after));
   }
   bytes_free(&why);
 }
