@@ -1,5 +1,5 @@
 #!/usr/bin/env python3
-"""Measures mmdb and SQLite, and writes all tables and plots of README.md and docs/benchmarks. One run of one build fills them all.
+"""Measures mmdb and SQLite, and writes all tables and plots of README.md and docs/benchmarks. One run measures one build for all of them.
 
     bench/all [--quick] [--part NAME ..] [--rows NUMBER,..] [--runs NUMBER] [--prefix PREFIX] [--to FOLDER] [PROGRAM]
 
@@ -9,18 +9,18 @@ be otherwise idle. --quick uses fewer rows and runs. The parts:
     instructions  instructions and allocations of single lines, over 20,000 rows. Other work on the machine does not affect them.
     times         processor time of the workloads of bench/workloads.py, at 10^3 to 10^6 rows. Each figure is a median of some runs.
     memory        bytes of resident memory per row, per change of an open transaction, and per row of a standing query, at 10^4 to 10^6 rows
-    calls         processor time of calls in a program's own process (bench/embedded.py), at 10^4 to 10^6 rows
+    calls         processor time of calls within one process (bench/embedded.py), at 10^4 to 10^6 rows
     counts        instructions and allocations of the same calls, at 10^4 rows
     clients       processor time of a call from C, Rust and Python (bench/clients.py)
     structures    the index structures and plain Rust. Needs rustc, and crates/bench_structures/out/bench_structures, which `rt ci` builds;
                   skipped if one is missing, and with --quick
 
---part may be repeated, and `--part tables` measures nothing. FOLDER is docs/benchmarks, or bench/out with --quick. It receives
-figures.json, figures.md and *.svg, from this run and, for the other parts, from the figures.json that was there. If FOLDER is
-docs/benchmarks, the program also writes the table between the marks of README.md.
+--part may be repeated, and `--part tables` measures nothing. FOLDER is docs/benchmarks by default, or bench/out with --quick. The program
+writes figures.json, figures.md and *.svg there. Parts that this run does not measure keep the figures of the existing figures.json. If FOLDER
+is docs/benchmarks, the program also writes the table between the marks of README.md.
 
 The baseline is SQLite with its tables in memory (bench/sqlite_peer.c). Both programs read lines from a pipe, and write and flush a reply to
-each. Their replies must be equal except for the order of rows, and each join must use the plan that it is named after.
+each. Their replies must be equal except for the order of rows. Each join must use the plan that its name states.
 
 On Debian: apt-get install python3 python3-matplotlib python3-dev python3-pip python3-setuptools python3-wheel gcc cargo libsqlite3-dev
 valgrind
@@ -51,18 +51,18 @@ TOP = BENCH.parent
 PARTS = ["instructions", "times", "memory", "calls", "counts", "clients", "structures"]
 RUNS = {1_000: 9, 10_000: 7, 100_000: 5, 1_000_000: 3}
 F_SETPIPE_SZ = 1031
-# The last line of each phase, and its reply, which no other line gets.
+# The last line of each phase, and its reply, which differs from all other replies.
 MARKS = {"mmdb": ("SCAN nope", b"error 20 no such table\n"), "sqlite": ("SELECT * FROM nope", b"error no such table: nope\n")}
 
 
 class System:
-    """A program under test, and how to translate lines for it."""
+    """A program under test, with the translation of lines for the program."""
 
     def __init__(self, name, command, is_mmdb):
         self.name, self.command, self.is_mmdb = name, command, is_mmdb
 
     def scripts(self, parts):
-        """The parts of a script in the system's language."""
+        """Returns the parts of a script in the system's language."""
         columns = {}
         own = (workloads.in_mmdb(lines) if self.is_mmdb else workloads.in_sql(lines, columns) for lines in parts)
         return ["".join(line + "\n" for line in lines) for lines in own]
@@ -72,7 +72,7 @@ class System:
 
 
 class Running:
-    """A running system. It reads a pipe, and writes to a file in memory, over what was there before."""
+    """A running system. The process reads from a pipe, and overwrites a file in memory."""
 
     replies = os.memfd_create("replies")
 
@@ -90,7 +90,7 @@ class Running:
         self.process.wait()
 
     def clock(self):
-        """Processor time of the process, in nanoseconds."""
+        """Returns the processor time of the process in nanoseconds."""
         return time.clock_gettime_ns(~self.process.pid << 3 | 2)
 
     def given(self, script):
@@ -110,7 +110,7 @@ class Running:
         return end >= 0 and os.pread(self.replies, len(self.marked), end) == self.marked
 
     def answered(self):
-        """The replies to the lines sent last."""
+        """Returns the replies to the lines that were sent last. Ends the program if one of them is an error."""
         end = os.lseek(self.replies, 0, os.SEEK_CUR) - len(self.marked)
         parts, start = [], 0
         while start < end:
@@ -123,12 +123,12 @@ class Running:
         return replies
 
     def peak(self):
-        """The peak of resident memory, in bytes."""
+        """Returns the peak of resident memory in bytes."""
         return int(re.search(r"VmHWM:\s+(\d+)", Path(f"/proc/{self.process.pid}/status").read_text())[1]) * 1024
 
 
 def checksum(replies):
-    """A checksum of the lines that does not depend on their order."""
+    """Returns a checksum of the lines that does not depend on their order."""
     return sum(map(zlib.crc32, replies.split(b"\n")))
 
 
@@ -146,7 +146,7 @@ def with_input(script, folder):
 
 
 def instructions(command, script, folder):
-    """The instructions of a run in user space."""
+    """Returns the number of instructions of a run in user space."""
     counting = ["valgrind", "--tool=callgrind", f"--callgrind-out-file={folder / 'callgrind'}", *command]
     with with_input(script, folder) as given:
         written = subprocess.run(counting, stdin=given, stdout=subprocess.DEVNULL, stderr=subprocess.PIPE, text=True, check=True).stderr
@@ -154,7 +154,7 @@ def instructions(command, script, folder):
 
 
 def allocations(command, script, folder):
-    """The allocations of a run."""
+    """Returns the number of allocations of a run."""
     preloaded = dict(os.environ, LD_PRELOAD=str(folder / "count.so"))
     with with_input(script, folder) as given:
         written = subprocess.run(command, stdin=given, stdout=subprocess.DEVNULL, stderr=subprocess.PIPE, text=True, env=preloaded, check=True).stderr
@@ -162,7 +162,7 @@ def allocations(command, script, folder):
 
 
 def measure_instructions(systems, options, folder):
-    """For one line of each operation, the instructions and allocations of mmdb, and the instructions of SQLite."""
+    """Returns the instructions and allocations of mmdb and the instructions of SQLite, for one line of each operation."""
     if not shutil.which("valgrind"):
         sys.exit("valgrind is missing: apt-get install valgrind")
     rows, lines = (2_000, 500) if options.quick else (20_000, 2_000)
@@ -186,7 +186,7 @@ def measure_instructions(systems, options, folder):
 
 
 def check_plan(running, phase):
-    """Stops if mmdb does not use the plan that the phase is named after."""
+    """Ends the program if mmdb does not use the phase's plan."""
     running.given("EXPLAIN " + phase.lines[0] + "\n")
     plan = running.answered().decode()
     if phase.plan not in plan:
@@ -194,7 +194,7 @@ def check_plan(running, phase):
 
 
 def timed_run(system, workload, scripts, sums=None):
-    """The nanoseconds of each phase. Appends a checksum of the replies to each phase and to the last queries to `sums`, if it is a list."""
+    """Returns the nanoseconds of each phase. If `sums` is a list, appends checksums of the replies to each phase and to the last queries."""
     spent = []
     with Running(system) as running:
         for phase, script in zip(workload.phases, scripts):
@@ -212,7 +212,7 @@ def timed_run(system, workload, scripts, sums=None):
 
 
 def timed_workload(systems, workload, runs):
-    """For each measured phase, the median nanoseconds per unit in each system. In the first run all replies must be equal."""
+    """Returns the median nanoseconds per unit in each system, for each measured phase. All replies of the first run must be equal."""
     parts = [*(phase.lines for phase in workload.phases), workload.at_end]
     scripts = {name: system.scripts(parts) for name, system in systems.items()}
     sums = {name: [] for name in systems}
@@ -229,7 +229,8 @@ def timed_workload(systems, workload, runs):
 
 
 def measure_times(systems, options, folder):
-    """For each number of rows and each work, the nanoseconds per unit in each system. SQLite parses each line at one number of rows only."""
+    """Returns the nanoseconds per unit in each system, for each number of rows and each work. SQLite with parsed lines is measured at
+    one number of rows only."""
     sizes, found = options.rows, []
     middle = tables.middle_size(sizes)
     for rows in sizes:
@@ -257,7 +258,7 @@ def peak_of(system, lines):
 
 
 def measure_memory(systems, options, folder):
-    """Bytes of resident memory per unit of some works: the peak with the work, minus the peak without it."""
+    """Returns the bytes of resident memory per unit of some works: the peak with the work, minus the peak without it."""
     found = []
     for rows in (size for size in options.rows if size >= 10_000):
         for kind, unit, units, before, lines in workloads.kept(rows):
@@ -267,11 +268,11 @@ def measure_memory(systems, options, folder):
     return found
 
 
-# ---- calls in a program's own process
+# ---- calls within one process
 
 
 def installed(options, folder):
-    """A folder with the library: PREFIX, or a temporary folder in which tools/install installs it."""
+    """Returns a folder with the library: PREFIX, or a temporary folder in which tools/install installs it."""
     if options.prefix:
         return options.prefix.resolve()
     subprocess.run(["bash", TOP / "tools/install", folder / "prefix"], check=True, stdout=subprocess.DEVNULL)
@@ -279,7 +280,7 @@ def installed(options, folder):
 
 
 def measure_calls(systems, options, folder):
-    """The nanoseconds of calls, at each number of rows from 10,000 on."""
+    """Returns the nanoseconds of calls at each number of rows from 10,000 on."""
     embedded.compile_all(installed(options, folder), folder)
     found = []
     for rows in (size for size in options.rows if size >= 10_000):
@@ -290,13 +291,13 @@ def measure_calls(systems, options, folder):
 
 
 def measure_counts(systems, options, folder):
-    """The instructions and allocations of calls over 10,000 rows."""
+    """Returns the instructions and allocations of calls over 10,000 rows."""
     embedded.compile_all(installed(options, folder), folder)
     return embedded.counts(folder, 10_000, 500 if options.quick else 4_000)
 
 
 def measure_clients(systems, options, folder):
-    """The nanoseconds of calls from each client, over 10,000 rows."""
+    """Returns the nanoseconds of calls from each client over 10,000 rows."""
     prefix = installed(options, folder)
     embedded.compile_all(prefix, folder)
     return clients.figures(prefix, folder, 10_000, 10_000)
@@ -306,10 +307,10 @@ def measure_clients(systems, options, folder):
 
 
 def measure_structures(systems, options, folder):
-    """The structures and plain Rust, or nothing if a program is missing."""
+    """Returns the figures of the structures and of plain Rust, or None if a program is missing."""
     missing = beside_plain.missing()
     if missing:
-        note(f"structures: skipped, since {missing} is missing")
+        note(f"structures: skipped, because {missing} is missing")
         return None
     return beside_plain.figures(options.runs or 3)
 
@@ -325,11 +326,11 @@ MEASURES = {
 }
 
 
-# ---- the whole
+# ---- the program
 
 
 def machine():
-    """The machine on which the figures are measured."""
+    """Returns a description of this machine."""
     model = re.search(r"model name\s*: (.*)", Path("/proc/cpuinfo").read_text())
     memory = int(re.search(r"MemTotal:\s+(\d+)", Path("/proc/meminfo").read_text())[1]) / (1 << 20)
     return {
@@ -347,7 +348,7 @@ def write_plots(folder):
         if python and not subprocess.run([python, "-c", "import matplotlib"], stderr=subprocess.DEVNULL).returncode:
             subprocess.run([python, BENCH / "plots.py", folder], check=True)
             return
-    note("no plots, since matplotlib is missing: apt-get install python3-matplotlib")
+    note("no plots, because matplotlib is missing: apt-get install python3-matplotlib")
 
 
 def options_of(words):

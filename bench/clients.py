@@ -1,4 +1,4 @@
-"""The cost of a call from C, Rust and Python, and from Python's module sqlite3, for bench/all: processor time of a call.
+"""Measures the processor time of a call from C, Rust and Python, and from Python's module sqlite3, for bench/all.
 
 The calls are a look-up by key of a number and a text, and an INSERT of a row with two indexes inside one transaction. One run of the INSERT
 passes all rows in one call, and another makes one call per row. Each time is the minimum of three runs.
@@ -25,7 +25,7 @@ path = "{top}/bench/embedded/client.rs"
 
 
 def build(prefix, folder):
-    """Builds the clients with the library in PREFIX, and returns the environment in which they run. bench/embedded.py builds that in C."""
+    """Builds the clients with the library in PREFIX, and returns the environment for running them. bench/embedded.py builds the client in C."""
     environment = {
         **os.environ,
         "MMDB_LIB_DIR": f"{prefix}/lib",
@@ -44,13 +44,13 @@ def build(prefix, folder):
 
 
 def least(command, environment):
-    """The minimum of each number that three runs of a program print."""
+    """Returns the minimum of each number that three runs of a program print."""
     runs = [subprocess.run(command, capture_output=True, text=True, check=True, env=environment).stdout.split() for _ in range(3)]
     return [min(map(float, numbers)) for numbers in zip(*runs)]
 
 
 def figures(prefix, folder, rows, calls):
-    """For each client the nanoseconds of a look-up, of a row of one INSERT for all rows, and of one INSERT per row."""
+    """Returns, for each client, the nanoseconds of a look-up, of a row of one INSERT for all rows, and of one INSERT per row."""
     environment = build(prefix, folder)
     size = [str(rows), str(calls)]
     look_up = least([folder / "mmdb", "0", *size], environment)[0]

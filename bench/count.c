@@ -1,4 +1,4 @@
-/* A preloaded library that counts allocations: at the end it writes the number of calls of malloc, calloc and realloc to standard error. */
+/* A preloaded library that counts allocations. At its end, the process writes the number of calls of malloc, calloc and realloc to standard error. */
 #include <stddef.h>
 #include <stdio.h>
 

@@ -1,4 +1,4 @@
-"""Calls of mmdb and SQLite in a program's own process, for bench/all: processor time, instructions and allocations of a call.
+"""Measures calls of mmdb and SQLite within one process, for bench/all: processor time, instructions and allocations of a call.
 
 bench/embedded/mmdb.c uses libmmdb.a, and bench/embedded/sqlite.c the system's SQLite with its tables in memory. Each prepares its
 statements once. Each kind of call runs outside a transaction and in one.
@@ -10,7 +10,7 @@ import subprocess
 from pathlib import Path
 
 BENCH = Path(__file__).resolve().parent
-# The names of the works of work.h, in its order.
+# The names of the works of work.h, in the same order.
 WORKS = [
     "look-up by key",
     "look-up by HASH",
@@ -35,26 +35,26 @@ def compile_all(prefix, folder):
 
 
 def instructions(command):
-    """The instructions of a run in user space."""
+    """Returns the number of instructions of a run in user space."""
     counting = ["valgrind", "--tool=callgrind", "--callgrind-out-file=/dev/null", *command]
     written = subprocess.run(counting, capture_output=True, text=True, check=True).stderr
     return int(re.search(r"Collected : (\d+)", written)[1])
 
 
 def allocations(folder, command):
-    """The allocations of a run."""
+    """Returns the number of allocations of a run."""
     preloaded = {**os.environ, "LD_PRELOAD": str(folder / "count.so")}
     written = subprocess.run(command, capture_output=True, text=True, check=True, env=preloaded).stderr
     return int(re.search(r"asked (\d+)", written)[1])
 
 
 def nanoseconds(command):
-    """The processor time of a call in one run."""
+    """Returns the processor time of a call in one run, in nanoseconds."""
     return float(subprocess.run(command, capture_output=True, text=True, check=True).stdout.split()[0])
 
 
 def runs_of(folder, rows):
-    """Each system, work and kind of transaction, with the function that gives the command for a number of calls."""
+    """Yields each system, work and kind of transaction, with a function that returns the command for a number of calls."""
     for work, title in enumerate(WORKS):
         for transaction in (False, True):
             for name in SYSTEMS:
@@ -67,14 +67,14 @@ def runs_of(folder, rows):
 
 
 def times(folder, rows, calls, runs):
-    """For each kind of call the nanoseconds of a call: the minimum of some runs, which alternate between the systems."""
+    """Returns the nanoseconds of each kind of call: the minimum of some runs, which alternate between the systems."""
     commands = list(runs_of(folder, rows))
     taken = [[nanoseconds(command(calls)) for _, command in commands] for _ in range(runs)]
     return [{**head, "nanoseconds": min(run[place] for run in taken)} for place, (head, _) in enumerate(commands)]
 
 
 def counts(folder, rows, calls):
-    """For each kind of call its instructions and allocations: those of a run with the calls, minus those of a run without."""
+    """Returns the instructions and allocations of each kind of call: those of a run with the calls, minus those of a run without."""
     found = []
     for head, command in runs_of(folder, rows):
         executed = instructions(command(calls)) - instructions(command(0))

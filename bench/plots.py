@@ -1,8 +1,8 @@
 #!/usr/bin/env python3
-"""Draws what bench/all measured: plots.py FOLDER reads FOLDER/figures.json and writes FOLDER/*.svg. Needs matplotlib.
+"""Draws the figures of bench/all: plots.py FOLDER reads FOLDER/figures.json and writes FOLDER/*.svg. Needs matplotlib.
 
 The plots are instructions.svg, lines.svg and rows.svg (times per line and per row), growth.svg (times by the number of rows), memory.svg,
-and embedded.svg (instructions of calls). A plot whose part was not measured is not drawn.
+and embedded.svg (instructions of calls). Without the figures of its part, a plot is not drawn.
 """
 import json
 import sys
@@ -57,7 +57,7 @@ def plain(work):
 
 
 def bars(path, works, values, label):
-    """Horizontal bars: a group for each work, with a bar for each system. None is no bar."""
+    """Draws horizontal bars: a group for each work, with a bar for each system. A length of None has no bar."""
     systems = [name for name in COLOURS if any(each.get(name) is not None for each in values)]
     figure, axes = pyplot.subplots(figsize=(8, 0.5 + (0.16 + 0.18 * len(systems)) * len(works)))
     thick = 0.8 / len(systems)

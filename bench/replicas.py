@@ -3,15 +3,15 @@
 
     bench/replicas.py PROGRAMS MMDB
 
-PROGRAMS is the folder of mmdb-replica and mmdb-ask, which `replicas` beside this file builds. MMDB is the program.
+PROGRAMS is the folder of mmdb-replica and mmdb-ask, which the script `replicas` in this folder builds. MMDB is the program.
 
-    changes     changes a second, with one and with three servers, three replicas and 16 writers: with one change each, and with 100 changes in
-                a request; and how many changes share a message of the log
-    answers     look-ups by key a second, with one, two and three replicas, one server and 16 askers, over 10^5 rows
+    changes     changes per second and changes per message of the log, with three replicas and 16 writers: one change per request with one
+                and with three servers, and 100 changes per request with three servers
+    answers     look-ups by key per second, with one, two and three replicas, one server and 16 askers, over 10^5 rows
     start       seconds until a replica is ready, from a snapshot of 10^6 rows
-    a message   processor time of a replica for a change, beside that of the program for its line, and bytes of the log
+    a message   processor time of a replica for a change, processor time of the program for the same line, and bytes of the log
 
-All processes share the processors of the machine, also the servers, the writers and the askers.
+All processes, including the servers, the writers and the askers, share the processors of the machine.
 """
 
 import os
@@ -33,14 +33,14 @@ TABLE = "TABLE t (id INT KEY, k INT, s TEXT)\n"
 
 
 def processor_seconds(process: Process) -> float:
-    """What a process has taken so far, of user and system."""
+    """Returns the user and system time of a process so far."""
     assert process.running
     fields = Path(f"/proc/{process.running.pid}/stat").read_text().rpartition(")")[2].split()
     return (int(fields[11]) + int(fields[12])) / TICKS
 
 
 class Bench:
-    """A cluster with tables."""
+    """A cluster with replicas, for one measurement."""
 
     def __init__(self, programs: str, servers: int, replicas: int, *options: str):
         self.folder = tempfile.TemporaryDirectory()
@@ -61,7 +61,7 @@ class Bench:
         self.folder.cleanup()
 
     def add_replica(self, name: str, *options: str) -> float:
-        """Starts a replica, and gives the seconds until it was ready."""
+        """Starts a replica. Returns the seconds until the replica is ready."""
         began = time.monotonic()
         self.cluster.replica(name, *options).wait_until_it_says("is ready at number", self.until)
         return time.monotonic() - began
@@ -74,7 +74,7 @@ class Bench:
         subprocess.run(words, input=script.encode(), stdout=subprocess.DEVNULL, check=True)
 
     def seconds(self, scripts: list[str], *options: str) -> float:
-        """How long it takes to give scripts side by side."""
+        """Runs scripts in parallel. Returns the seconds until all are executed."""
         threads = [threading.Thread(target=self.give, args=(script, *options)) for script in scripts]
         began = time.monotonic()
         for thread in threads:
@@ -105,7 +105,7 @@ def look_ups(asker: int) -> str:
 
 
 def changes_a_second(programs: str, servers: int, *options: str) -> tuple[float, float]:
-    """Changes a second, and changes per message of the log."""
+    """Returns the changes per second, and the changes per message of the log."""
     with Bench(programs, servers, 3) as bench:
         bench.define()
         first = bench.state()["last_seq"]
@@ -121,7 +121,7 @@ def answers_a_second(programs: str, replicas: int) -> float:
 
 
 def start(programs: str) -> tuple[float, float]:
-    """The seconds until a replica is ready, and the bytes of the snapshot."""
+    """Returns the seconds until a replica is ready, and the bytes of the snapshot."""
     with Bench(programs, 1, 0) as bench:
         folder = ["--snapshots", str(bench.cluster.snapshots)]
         messages = 1 + MANY_ROWS // ROWS_IN_LINE // LINES_IN_SCRIPT
@@ -144,9 +144,9 @@ def processor_seconds_of_program(mmdb: str, lines: str) -> float:
 
 
 def message(programs: str, mmdb: str) -> tuple[float, float, float, float, float]:
-    """Of a change: processor seconds of a replica that publishes it, of one that catches up, and of the program; bytes.
+    """Returns the cost of a change: processor seconds of a replica that publishes the change, of a replica that catches up, and of the program.
 
-    The bytes are those in the log and those of its line.
+    The last two numbers are the bytes of the change in the log, and the bytes of its line.
     """
     with Bench(programs, 1, 1) as bench:
         bench.define()
@@ -164,11 +164,11 @@ def message(programs: str, mmdb: str) -> tuple[float, float, float, float, float
 
 def main() -> None:
     programs, mmdb = sys.argv[1:]
-    print("| Servers | Changes in a request | Changes a second | Changes per message |\n|--:|--:|--:|--:|")
+    print("| Servers | Changes in a request | Changes per second | Changes per message |\n|--:|--:|--:|--:|")
     for servers, together in ((1, 1), (3, 1), (3, 100)):
         rate, shared = changes_a_second(programs, servers, "--together", str(together))
         print(f"| {servers} | {together} | {rate:,.0f} | {shared:.1f} |", flush=True)
-    print("\n| Replicas | Answers a second |\n|--:|--:|")
+    print("\n| Replicas | Answers per second |\n|--:|--:|")
     for replicas in (1, 2, 3):
         print(f"| {replicas} | {answers_a_second(programs, replicas):,.0f} |", flush=True)
     seconds, size = start(programs)
@@ -176,7 +176,7 @@ def main() -> None:
     print(f"\nA replica is ready {seconds:.1f} s after its start from a snapshot of {rows}.")
     answering, following, alone, in_log, of_line = message(programs, mmdb)
     print("\n| Of one `INSERT` | |\n|---|--:|")
-    print(f"| processor time of a replica that publishes it, applies it and answers | {answering * 1e6:.0f} µs |")
+    print(f"| processor time of a replica that publishes and applies it, and answers | {answering * 1e6:.0f} µs |")
     print(f"| processor time of a replica that applies it while it catches up | {following * 1e6:.0f} µs |")
     print(f"| processor time of the program for its line | {alone * 1e6:.1f} µs |")
     print(f"| bytes in the log | {in_log:.0f} |")

@@ -1,11 +1,11 @@
-/* SQLite as bench/all measures it: it reads statements from standard input, one per line, and writes and flushes a reply to each.
+/* SQLite as bench/all measures it. Reads statements from standard input, one per line, and writes and flushes a reply to each.
 
      sqlite_peer prepared   keeps a prepared statement for each form of line, and binds the literals of the line to it
      sqlite_peer parsed     prepares each line again
      sqlite_peer version    writes the version of SQLite, and reads nothing
 
-   Tables are in memory, and foreign keys are enforced. Rows and counts have the format of mmdb. A line with more literals than
-   MOST_LITERALS, such as an INSERT of many rows, or with a doubled quote in a text is always prepared again. */
+   Tables are in memory, and foreign keys are enforced. Rows and counts have the format of mmdb. A line is always prepared again if it has more
+   literals than MOST_LITERALS, such as an INSERT of many rows, or a doubled quote in a text. */
 #define _GNU_SOURCE
 #include <ctype.h>
 #include <sqlite3.h>
@@ -72,7 +72,7 @@ static void put_counted(const char *word, sqlite3_int64 count) {
   putchar_unlocked('\n');
 }
 
-/* Finds the literals of a line and writes its form. Returns their number, or -1 if the line must be prepared again. */
+/* Finds the literals of a line and writes the form of the line. Returns their number, or -1 if the line must be prepared again. */
 static int find_literals(char *line, char *form, size_t *length, struct literal *literals) {
   int count = 0;
   char *to = form, before = ' ';
@@ -131,7 +131,7 @@ static void answer(const char *line, sqlite3_stmt *statement) {
   else put("ok\n", 3);
 }
 
-/* Whether a statement may be repeated with other literals: a change of rows or a query, not a definition. */
+/* Returns whether a statement may be repeated with other literals: a change of rows or a query, not a definition. */
 static bool is_kept(const char *line) { return strncmp(line, "CREATE", 6) && strncmp(line, "DROP", 4) && strncmp(line, "ANALYZE", 7); }
 
 int main(int arguments, char **words) {

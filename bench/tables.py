@@ -1,15 +1,15 @@
-"""The tables of docs/benchmarks/figures.md and README.md, from what bench/all measured."""
+"""Makes the tables of docs/benchmarks/figures.md and README.md from the figures of bench/all."""
 
 import re
 
 
 def middle_size(sizes):
-    """The number of rows in the plots of single works: the largest one up to 100,000."""
+    """Returns the number of rows for the plots of single works: the largest number up to 100,000."""
     return max((size for size in sizes if size <= 100_000), default=min(sizes))
 
 
 def time_of(nanoseconds):
-    """A time with its unit, to about three digits."""
+    """Returns a time with its unit, to about three digits."""
     for limit, unit in ((1_000, "ns"), (1_000_000, "µs"), (1_000_000_000, "ms")):
         if nanoseconds < limit:
             return f"{digits(nanoseconds / limit * 1_000)} {unit}"
@@ -17,7 +17,7 @@ def time_of(nanoseconds):
 
 
 def digits(number):
-    """A number to about three digits, or a dash."""
+    """Returns a number with about three digits, or a dash for None."""
     if number is None:
         return "-"
     return f"{number:,.0f}" if abs(number) >= 100 else f"{number:.1f}" if abs(number) >= 10 else f"{number:.2f}"
@@ -28,7 +28,7 @@ def ratio(one, other):
 
 
 def table(heads, rows):
-    """A table. The first column and those whose head ends with a space are aligned to the left."""
+    """Returns the lines of a table. The first column and columns whose head ends with a space are aligned to the left."""
     line = "|" + "|".join("---" if not place or head.endswith(" ") else "--:" for place, head in enumerate(heads)) + "|"
     return ["| " + " | ".join(head.strip() for head in heads) + " |", line, *("| " + " | ".join(row) + " |" for row in rows), ""]
 
@@ -104,7 +104,7 @@ def structures(found):
 
 
 def calls_by_work(found, in_transaction):
-    """For each work the figures of both systems, by the number of rows and the system."""
+    """Returns, for each work, the figures of both systems by the number of rows and the system."""
     works = {}
     for each in found:
         if each["transaction"] == in_transaction:
@@ -171,7 +171,7 @@ PARTS = [
 
 
 def where_made(made):
-    """The version and the machine of a part, as far as they are known, or nothing."""
+    """Returns a line with the version and the machine of a part, as far as they are known, or an empty text."""
     version = f" with version {made['version']}" if made.get("version") else ""
     on = made.get("machine")
     if not on:
@@ -232,7 +232,7 @@ MARK, END = "<!-- figures -->", "<!-- end -->"
 
 
 def readme(text, figures):
-    """README.md with its table of calls between the marks."""
+    """Returns README.md with the table of calls between its marks."""
     body = "\n".join(calls_in_short(figures)).rstrip()
     pattern = re.compile(re.escape(MARK) + r"\n.*?" + re.escape(END), re.DOTALL)
     return pattern.sub(lambda _: f"{MARK}\n{body}\n{END}", text)

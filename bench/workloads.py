@@ -1,6 +1,6 @@
 """The workloads that bench/all measures, in the command language and in SQL.
 
-One process of a system runs a Workload, phase after phase. Equal seeds give equal lines.
+One process of a system runs all phases of a Workload in order. Equal seeds generate equal lines.
 """
 import functools
 import random
@@ -34,7 +34,7 @@ class Workload:
 
 
 def long_lines(table, rows):
-    """INSERT lines of the maximum length."""
+    """Yields INSERT lines of the maximum length."""
     line = ""
     for row in rows:
         if line and len(line) + 2 + len(row) <= MAX_LINE_BYTES:
@@ -53,7 +53,7 @@ def text_of(values):
 
 @functools.cache
 def rows_of_t(rows):
-    """Ascending keys, numbers below the number of rows, and texts of ten letters."""
+    """Returns rows with ascending keys, numbers below the number of rows, and texts of ten letters."""
     rng = random.Random(SEED)
     return [f"({key}, {rng.randrange(rows)}, '{''.join(rng.choices(LETTERS, k=10))}')" for key in range(1, rows + 1)]
 
@@ -163,7 +163,7 @@ def changes(rows):
 
 
 class Keys:
-    """The keys of a table, from which changes draw."""
+    """The keys of a table, for drawing random changes."""
 
     def __init__(self, rows):
         self.there, self.next = list(range(1, rows + 1)), rows + 1
@@ -183,7 +183,7 @@ class Keys:
 
 
 def mixed_change(rng, keys, rows):
-    """A change: of ten changes, six are an UPDATE of the indexed column, two an INSERT and two a DELETE."""
+    """Returns a random change. Of ten changes, six are an UPDATE of the indexed column, two an INSERT and two a DELETE."""
     kind = rng.random()
     if kind < 0.6:
         return f"UPDATE t SET k = {rng.randrange(rows)} WHERE id = {keys.drawn(rng)}"
@@ -193,7 +193,7 @@ def mixed_change(rng, keys, rows):
 
 
 def with_savepoints(rng, keys, rows):
-    """A transaction of ten savepoints with ten changes after each. Every third group is rolled back, and the last four together."""
+    """Returns a transaction with ten savepoints and ten changes after each. Rolls back every third group, and the last four groups together."""
     lines, marks = ["BEGIN"], []
     for place in range(10):
         lines.append(f"SAVEPOINT s{place}")
@@ -230,7 +230,8 @@ def transactions(rows):
 
 
 def cascades(rows):
-    """A hundredth of the rows are in a. Ten rows of b refer to each of them, and ten rows of c to each row of b."""
+    """Returns workloads with cascading deletes. Table a has a hundredth of the rows. Ten rows of b refer to each row of a, and ten rows of c
+    to each row of b."""
     rng, most = random.Random(SEED + 5), rows // 100
     lines = ["TABLE a (id INT KEY)", "TABLE b (id INT KEY, r INT REF a CASCADE)", "TABLE c (id INT KEY, r INT REF b CASCADE)"]
     lines += long_lines("a", (f"({key})" for key in range(1, most + 1)))
@@ -253,7 +254,7 @@ JOINED = "a.d = b.id"
 
 
 def rows_of_lists(rows):
-    """The rows of d and e: d has a tenth of the rows, and e refers to it."""
+    """Returns the lines that create and fill d and e. Table d has a tenth of the rows, and e refers to d."""
     rng, few = random.Random(SEED + 6), rows // 10
     return [
         "TABLE d (id INT KEY, v INT)",
@@ -267,7 +268,8 @@ def rows_of_lists(rows):
 
 
 def changes_of_lists(rows, number):
-    """Changes: of 20, twelve are an UPDATE in e, three an INSERT, three a DELETE, and two an UPDATE in d. About 100 set a k below 100."""
+    """Returns random changes. Of 20, twelve are an UPDATE in e, three an INSERT, three a DELETE, and two an UPDATE in d. About 100 of
+    `number` changes draw a k below 100."""
     rng, few, keys = random.Random(SEED + 7), rows // 10, Keys(rows)
     near = min(0.2, 100 / number)
     lines = []
@@ -343,7 +345,8 @@ SHAPES = [
 
 
 def shaped(columns, indexes, rows):
-    """The lines that create a table of this shape, and its rows: ascending keys, numbers below the number of rows, texts of ten letters."""
+    """Returns the lines that create a table of this shape, and its rows: ascending keys, numbers below the number of rows, texts of ten
+    letters."""
     rng = random.Random(SEED + 10)
     types = columns.split(", ") if columns else []
     values = {"INT": lambda: str(rng.randrange(rows)), "TEXT": lambda: f"'{''.join(rng.choices(LETTERS, k=10))}'"}
@@ -353,15 +356,15 @@ def shaped(columns, indexes, rows):
 
 
 def shown(columns):
-    """The name of the columns with the key in figures.md."""
+    """Returns the name of the columns with the key for figures.md."""
     types = ["INT", *(columns.split(", ") if columns else [])]
     return f"({', '.join(types)})" if len(types) < 5 else f"{len(types)} columns of {types[0]}"
 
 
 def kept(rows):
-    """Works that keep memory: the work, its unit, its number of units, the lines before it, and its lines.
+    """Returns works that retain memory: the work, its unit, its number of units, the lines before the work, and its lines.
 
-    The lines before include some rows or a change, so that one-time costs, such as pages of code, do not count.
+    The lines before the work include some rows or a change, so that one-time costs, such as pages of code, do not count.
     """
     few = 300
     t, wide = [T, *T_INDEXES], rows_of_t(rows)
@@ -387,7 +390,7 @@ def kept(rows):
 
 
 def operations(rows, lines):
-    """The operations: a name, the lines that fill the tables, and the lines of the operation.
+    """Returns the operations: a name, the lines that fill the tables, and the lines of the operation.
 
     t has a TREE and a HASH index on k. e refers to d, which has a tenth of the rows.
     """
@@ -435,7 +438,7 @@ CREATE TRIGGER d_changes AFTER UPDATE ON d BEGIN {FORGOTTEN} d = OLD.id; {CHOSEN
 
 
 def in_sql(lines, columns):
-    """Lines as statements of SQLite. A standing query over e and d becomes a table that triggers maintain, and ANALYZE is unchanged.
+    """Yields lines as statements of SQLite. A standing query over e and d becomes a table that triggers maintain. ANALYZE is unchanged.
 
     `columns` maps each index to its table and column. These lines' indexes are added to it.
     """
@@ -484,5 +487,5 @@ IN_SQL = {
 
 
 def in_mmdb(lines):
-    """Lines without those for SQLite only."""
+    """Returns the lines without those for SQLite only."""
     return [line for line in lines if line != "ANALYZE"]

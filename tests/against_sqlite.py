@@ -3,14 +3,15 @@
 
     tests/against_sqlite.py [PROGRAM [FIRST_SEED [SEEDS]]]
 
-Each seed creates tables with integers, texts, foreign keys and cascading foreign keys, and indexes of both kinds. It changes rows and runs
-queries over one to four tables. Some queries become standing queries, and SHOW, after a change or later, is compared with SQLite's result
-of the query at that time. Transactions commit, roll back, or roll back to a savepoint, and several savepoints may have one name. After
-that, all tables and indexes are scanned and all standing queries shown.
+Each seed creates tables with integers, texts, foreign keys and cascading foreign keys, and indexes of both kinds. The seed changes rows and
+runs queries over one to four tables. Some queries become standing queries. SHOW, after a change or later, is compared with SQLite's result
+of the query at that time. Transactions commit, roll back, or roll back to a savepoint, and several savepoints may have the same name. After
+that, all tables and indexes are scanned, and all standing queries are shown.
 
-The compared commands mean the same in both languages: no sum exceeds 64 bits, and each result is sorted by all its columns. The script
-itself predicts the replies of TABLES and the refusals of definitions and transactions. It also tracks indexes, which transactions create
-and drop and no rollback restores: SQLite has none here, and sorts its rows. The exit status is 0 if every reply is as expected.
+The compared commands have the same meaning in both languages: no sum exceeds 64 bits, and each result is sorted by all its columns. The
+script itself predicts the replies to TABLES and the refusals of definitions and transactions. The script also tracks indexes, since
+transactions create and drop them and no rollback restores them. SQLite has no indexes here, and sorts its rows. The exit status is 0 if
+every reply is as expected.
 """
 
 import os
@@ -34,7 +35,7 @@ def quoted(value):
 
 
 def shown(rows):
-    """The reply with these rows."""
+    """Returns the reply with these rows."""
     lines = ["(" + ", ".join(quoted(value) for value in row) + ")\n" for row in rows]
     return "".join(lines) + f"rows {len(rows)}\n"
 
@@ -44,11 +45,11 @@ class Column:
         self.name, self.kind, self.target, self.cascades = name, kind, target, cascades
 
     def role(self):
-        """The foreign key in the program's language, if it is one."""
+        """Returns the foreign key of the column in the program's language, or nothing if there is none."""
         return f" REF {self.target.name}" + (" CASCADE" if self.cascades else "") if self.target else ""
 
     def constraint(self):
-        """The foreign key in SQL. Without CASCADE, SQLite checks it at the end of the statement."""
+        """Returns the foreign key of the column in SQL. Without CASCADE, SQLite checks the key at the end of the statement."""
         if not self.target:
             return ""
         key = self.target.columns[self.target.key].name
@@ -66,7 +67,7 @@ class Table:
         return any(column.target is other for column in self.columns)
 
     def told(self):
-        """The line that creates it."""
+        """Returns the line that creates the table."""
         roles = [" KEY" if place == self.key else column.role() for place, column in enumerate(self.columns)]
         return f"TABLE {self.name} (" + ", ".join(f"{c.name} {c.kind}{role}" for c, role in zip(self.columns, roles)) + ")"
 
@@ -82,7 +83,7 @@ class Index:
         self.name, self.table, self.column, self.kind = name, table, column, kind
 
     def told(self):
-        """The line that creates it."""
+        """Returns the line that creates the index."""
         return f"INDEX {self.name} ON {self.table.name} ({self.column.name}) {self.kind}"
 
 
@@ -164,13 +165,13 @@ class Script:
             self.say("DROP INDEX nope", "error 22 no such index\n")
 
     def define(self, line, refusal=None):
-        """Adds a definition other than of an index, and returns whether it succeeds. It fails in a transaction, or with the refusal."""
+        """Adds a definition, but not of an index. Returns whether the definition succeeds: it fails in a transaction, or with `refusal`."""
         refusal = "52 not in a transaction" if self.peer.in_transaction else refusal
         self.say(line, f"error {refusal}\n" if refusal else "ok\n")
         return not refusal
 
     def drop_table(self):
-        """Drops a table that no other table refers to and no standing query reads, and adds a new one."""
+        """Drops a table without references and standing queries, and adds a new one."""
         table = self.rng.choice(self.tables)
         is_read = any(table in query.tables for query in self.standing.values())
         in_use = is_read or any(other.refers_to(table) for other in self.tables)
@@ -205,7 +206,7 @@ class Script:
         self.show_some(table)
 
     def tests(self, table):
-        """A WHERE over one table with at most two tests."""
+        """Returns a WHERE over one table with at most two tests."""
         found = []
         for _ in range(self.rng.choice([0, 1, 1, 2])):
             left = table.column(self.rng)
@@ -233,7 +234,7 @@ class Script:
         self.show_some(table)
 
     def move(self):
-        """Gives an unreferenced row another key and other target rows."""
+        """Changes the key and the foreign keys of an unreferenced row."""
         rng, table = self.rng, self.rng.choice(self.tables)
         key = table.columns[table.key]
         others = [value for value in (rng.randrange(-2, 20) if key.kind == "INT" else text(rng) for _ in range(3)) if value not in table.keys]
@@ -265,7 +266,7 @@ class Script:
             self.show_some(changed)
 
     def control(self):
-        """BEGIN, COMMIT or ROLLBACK, mostly one that is valid now."""
+        """Adds BEGIN, COMMIT or ROLLBACK, mostly a command that is valid now."""
         is_open = self.peer.in_transaction
         word = self.rng.choice(["BEGIN", "COMMIT", "COMMIT", "ROLLBACK", "ROLLBACK"] if is_open else ["BEGIN"] * 6 + ["COMMIT", "ROLLBACK"])
         if (word == "BEGIN") == is_open:
@@ -278,7 +279,7 @@ class Script:
             self.look_at_all()
 
     def divide(self):
-        """SAVEPOINT or ROLLBACK TO; outside a transaction mostly BEGIN."""
+        """Adds SAVEPOINT or ROLLBACK TO; outside a transaction mostly BEGIN."""
         if not self.peer.in_transaction and self.rng.random() < 0.8:
             self.control()
         elif self.rng.random() < (0.4 if self.savepoints else 0.8):
@@ -287,7 +288,7 @@ class Script:
             self.roll_back_to()
 
     def savepoint(self):
-        """A savepoint, mostly with a new name. It is refused outside a transaction, and if there are 64."""
+        """Adds a savepoint, mostly with a new name. The command is refused outside a transaction, and if there are 64 savepoints."""
         name = self.rng.choice(self.savepoints) if self.savepoints and self.rng.random() < 0.3 else self.new_name("s")
         if not self.peer.in_transaction or len(self.savepoints) == 64:
             self.say(f"SAVEPOINT {name}", "error 48 too many\n" if self.peer.in_transaction else "error 51 no transaction\n")
@@ -297,7 +298,7 @@ class Script:
         self.savepoints.append(name)
 
     def roll_back_to(self):
-        """ROLLBACK TO the latest savepoint with a name, if there is one."""
+        """Adds ROLLBACK TO the latest savepoint with a name, which is refused if there is none."""
         name = self.rng.choice(self.savepoints) if self.savepoints and self.rng.random() < 0.9 else "nope"
         if name not in self.savepoints:
             self.say(f"ROLLBACK TO {name}", "error 53 no such savepoint\n" if self.peer.in_transaction else "error 51 no transaction\n")
@@ -309,7 +310,7 @@ class Script:
         self.look_at_all()
 
     def look_at_all(self):
-        """Reads all rows in all ways, after a transaction ended or was partly rolled back."""
+        """Reads all rows in all ways, after a transaction has ended or has been partly rolled back."""
         for table in self.tables:
             self.read_keys(table)
         self.scan_all()
@@ -319,7 +320,7 @@ class Script:
         table.keys = [row[0] for row in self.peer.execute(f"SELECT {table.columns[table.key].name} FROM {table.name}")]
 
     def scan(self):
-        """The rows of a table in key order, or in the order of an index."""
+        """Scans a table in key order, or in the order of an index."""
         if self.indexes and self.rng.random() < 0.7:
             self.scan_index(self.rng.choice(self.indexes))
         else:
@@ -357,7 +358,7 @@ class Script:
         return f"{alias}.{left.name} {rng.choice(OPERATORS)} " + self.operand(right, left.kind, other + ".")
 
     def query(self):
-        """A query over one to four tables; a table may occur several times."""
+        """Returns a query over one to four tables. A table may occur several times."""
         rng = self.rng
         items = [(f"a{place}", rng.choice(self.tables)) for place in range(rng.choice([1, 1, 2, 2, 2, 3, 4]))]
         if rng.random() < 0.2:
@@ -422,7 +423,7 @@ class Script:
         self.say(f"SHOW {name}", shown(self.rows_of(self.standing[name])))
 
     def tell(self):
-        """TABLES and its reply."""
+        """Adds TABLES and its reply."""
         told = ""
         for table in self.tables:
             told += f"{table.told()} rows {len(table.keys)}\n"
@@ -433,7 +434,7 @@ class Script:
 
 
 def differs(program, seed):
-    """Whether a reply to the script of a seed differs from the expected one. Prints the first such line."""
+    """Returns whether a reply to the script of a seed differs from the expected one. Prints the first such line."""
     script = Script(seed)
     ran = subprocess.run([program], input="".join(line + "\n" for line in script.lines).encode(), stdout=subprocess.PIPE, check=False)
     rest = ran.stdout

@@ -3,22 +3,23 @@
 
     tests/definitions.py [--list] [--std]
 
-The count starts at the contract of `run` in crates/mmdb_core/src/run_script.rt: its signature and all its clauses. It follows citations
-to definitions of crates/*/specs, from these to others, and to the types and constants of crates/*/src.
+The count starts at the contract of `run` in crates/mmdb_core/src/run_script.rt: its signature and all its clauses. The count follows
+citations to definitions of crates/*/specs, from these to others, and to the types and constants of crates/*/src.
 
-- A definition extends from its name to the next one: its signature and cases, a record with its fields, a data type with its
+- A definition extends from its name to the next one: its signature and cases, a record with its fields, or a data type with its
   constructors. The comments directly above it are part of it. Blank lines and `use` lines do not count.
-- A type is its declaration, with the comments and attributes directly above it, and its `impl Model` block, which gives its meaning in
+- A type is its declaration, with the comments and attributes directly above it, and its `impl Model` block, which defines its meaning in
   clauses. A constant counts as a type.
-- A word of a definition cites the definition of that name in its file, or the one that a `use` line imports. It may do so by `as`, or
-  with a module's name and a dot. A constructor or a variant cites its type. An operator is cited if all its parts occur; a `do` block cites the
-  operators that it stands for. A variable or field with the name of a definition counts as a citation, so the count may be too high
-  but never too low. A type in a declaration is searched by the `use` lines of its file, then in its crate, then in all crates below.
+- A word of a definition cites the definition of that name in its file, or the definition that a `use` line imports, also by `as`. A word
+  may have a module's name and a dot before it. A constructor or a variant cites its type. An operator is cited if all its parts occur, and
+  a `do` block cites the operators that it abbreviates. A variable or field with the name of a definition counts as a citation, so the count
+  may be too high but never too low. A type in a declaration is searched by the `use` lines of its file, then in its crate, then in all
+  crates below.
 - Imports from the toolchain do not count. A name that is imported from a crate of the repository must be found.
 
 Prints a line for each crate and the sum. --list first prints each definition and type, from the lowest crate up, with its number of lines
-and its place, and marks definitions that docs/MODEL.md does not name. --std prints the names of the toolchain that are cited. The exit
-status is 0 if all names were found and neither sum exceeds its limit.
+and its place, and marks definitions that docs/MODEL.md does not name. --std prints the cited names of the toolchain. The exit status is 0
+if all names were found and neither sum exceeds its limit.
 """
 
 import collections
@@ -41,7 +42,7 @@ NAME_INSIDE = re.compile(r"^\s+(?:(?:abbrev|pub|unfoldable) )*([^\s(){}:]+) :(?:
 TOKEN = re.compile(r"[^\s(){}\[\],;λ\"]+")
 TYPE = r"^(?:pub(?:\([a-z]+\))? )?(?:struct|enum|const|static|trait|type) (?!fn )"
 
-# Something that can be cited: `kind` is "definition" or "type", `text` is the counted text, and `names` are the names that cite it.
+# A definition or a type: `kind` is "definition" or "type", `text` is the counted text, and `names` are the names that cite it.
 Thing = collections.namedtuple("Thing", "kind crate file line name names text")
 
 
@@ -57,7 +58,7 @@ def is_file(path):
 
 @functools.cache
 def crates():
-    """The crates from the lowest up, each with the crates that it uses."""
+    """Returns the crates from the lowest up, and for each the crates that it uses."""
     lines = [line.partition(":") for line in read("crates.txt").splitlines() if not line.startswith("#")]
     left = {head.split()[0]: line.split() for head, _, line in lines if head}
     placed = {}
@@ -69,7 +70,7 @@ def crates():
 
 @functools.cache
 def below(crate):
-    """A crate and all crates below it."""
+    """Returns a crate and all crates below it."""
     return [crate] + sorted({found for other in crates()[crate] for found in below(other)})
 
 
@@ -82,7 +83,7 @@ def crate_of(path):
 
 @functools.cache
 def definitions_of(path):
-    """The definitions of a file of specs/, by the names that cite them."""
+    """Returns the definitions of a file of specs/, by the names that cite them."""
     found, lines, above, is_import = [], None, [], False
     for number, line in enumerate(read(path).splitlines(), 1):
         if not line.strip():
@@ -115,7 +116,7 @@ def definitions_of(path):
 
 @functools.cache
 def types_of(path):
-    """The types and constants that a file of src/ declares, by name."""
+    """Returns the types and constants that a file of src/ declares, by name."""
     lines = read(path).splitlines()
     things = {}
     for at, line in enumerate(lines):
@@ -136,7 +137,7 @@ def types_of(path):
 
 
 def end_of(lines, at):
-    """The line after a declaration that begins at a line: after its closing brace, or its semicolon if that comes first."""
+    """Returns the index of the line after the declaration that begins at line `at`: after its semicolon or its closing brace."""
     while not re.match(r".*;$|[)}\]]+;?$|.*\}$", lines[at]) or lines[at][0].isspace():
         at += 1
     return at + 1
@@ -144,7 +145,7 @@ def end_of(lines, at):
 
 @functools.cache
 def types_in(crate):
-    """The types and constants of a crate by name; a name may have several."""
+    """Returns the types and constants of a crate by name. A name may have several."""
     found = collections.defaultdict(list)
     for folder, _, names in os.walk(os.path.join(TOP, "crates", crate, "src")):
         for name in sorted(names):
@@ -155,16 +156,16 @@ def types_in(crate):
 
 
 def types_below(crate, name):
-    """The types with a name in a crate, or in the crates below if it has none."""
+    """Returns the types with a name in a crate, or in the crates below if it has none."""
     return types_in(crate).get(name) or [thing for other in below(crate) for thing in types_in(other).get(name, [])]
 
 
-# ---- what names mean
+# ---- citations
 
 
 class Scope:
-    """The citations that the words of a file or block can make: `names` maps a word to what it cites, or to its full name in the
-    toolchain, and `modules` maps a local module name to the module."""
+    """The meaning of the words of a file or block. `names` maps a word to the definitions or types that it cites, or to its full name in
+    the toolchain. `modules` maps a local module name to the module."""
 
     def __init__(self, crate):
         self.crate, self.names, self.modules, self.faults = crate, {}, {}, []
@@ -203,7 +204,7 @@ class Scope:
                 self.names[alias or name] = things
 
     def meaning(self, module, name):
-        """What a name of a module cites, or its full name if the module is the toolchain's."""
+        """Returns the definitions or types that a name of a module cites, or the full name if the module belongs to the toolchain."""
         parts = module.split(".")
         if parts[0] != "Rattle" or parts[1] not in crates():
             return f"{module}.{name}"
@@ -213,7 +214,8 @@ class Scope:
         return found
 
     def own(self, crate, parts, name):
-        """What a name of one of the repository's modules cites: a type, its variants, a constant, or a definition of specs/."""
+        """Returns the definitions or types that a name of one of the repository's modules cites. The name is that of a type, of its variants,
+        of a constant, or of a definition of specs/."""
         if parts[:2] == ["specs", "declared"]:
             *path, last = parts[2:]
             if last == "TheVariants":
@@ -230,7 +232,7 @@ class Scope:
         return []
 
     def cited(self, text):
-        """What the words of a text cite: definitions and types, and full names of the toolchain."""
+        """Yields the citations of a text: definitions and types, and full names of the toolchain."""
         text = re.sub(r"\"[^\"]*\"|(--|//).*", " ", text)
         words = set(TOKEN.findall(text))
         parts = words | {part for word in words for part in word.split(".") + re.findall(r"\w+", word)}
@@ -249,7 +251,7 @@ class Scope:
 
 @functools.cache
 def scope_of(path):
-    """The scope of a file of specs/ or src/."""
+    """Returns the scope of a file of specs/ or src/."""
     scope = Scope(crate_of(path))
     if path.endswith(".antt"):
         scope.add_imports(read(path), is_ghost=True)
@@ -261,7 +263,7 @@ def scope_of(path):
 
 
 def citations(thing, faults):
-    """What a definition or type cites."""
+    """Returns the citations of a definition or type."""
     scope = scope_of(thing.file)
     found = set(scope.cited(thing.text))
     if thing.kind == "type":
@@ -277,14 +279,15 @@ def citations(thing, faults):
 
 
 def start():
-    """The contract, which does not count itself."""
+    """Returns the contract, which does not count itself."""
     path, name = START
     header = re.search(rf"^pub fn {name}\b.*?^\{{$", read(path), re.M | re.S)
     return Thing("contract", crate_of(path), path, 0, name, (), header[0].replace("->", " "))
 
 
 def followed():
-    """Everything that the contract cites, directly or not; the toolchain's names; and the names that were not found."""
+    """Returns the definitions and types that the contract cites, directly or not, the cited names of the toolchain, and the names that
+    were not found."""
     first, faults, names = start(), [], set()
     seen, left = set(), [first]
     while left:
@@ -297,7 +300,7 @@ def followed():
     return seen, names, sorted(set(faults))
 
 
-# ---- what is printed
+# ---- output
 
 
 def lines_in(thing):
@@ -305,7 +308,7 @@ def lines_in(thing):
 
 
 def words_of_the_model():
-    """The words between backticks in docs/MODEL.md."""
+    """Returns the words between backticks in docs/MODEL.md."""
     return {word for span in re.findall(r"`([^`]+)`", read("docs/MODEL.md")) for word in re.findall(r"[^\s(){}\[\],.;:]+", span)}
 
 

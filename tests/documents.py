@@ -13,23 +13,23 @@ A code word is the text between backticks on a line, outside fenced blocks. The 
 
 - Only signs and numbers, such as `<=` or `-5`, or an absolute path, such as `/dev/null`: not checked.
 - A shell command, by its first word (SHELL): its words that begin with a folder of the repository must be paths.
-- A line of the command language or a part of one: it begins with a keyword of mm_lang in capitals, or consists of keywords, names,
-  numbers, texts and symbols of the language and contains a keyword or a comparison. Not checked, except that a single word must occur
-  in the code.
+- A line of the command language or a part of one. Such a text begins with a keyword of mm_lang in capitals. Or it consists of keywords,
+  names, numbers, texts and symbols of the language, and contains a keyword or a comparison. Not checked, except that a single word must
+  occur in the code.
 - `error` and a number: mm_value must have this refusal, and any words after the number must be its text.
 - A path, if it contains a slash or has a known file ending: the path of a file or folder of the repository must end with it. `*` and a
-  word in capitals, as in `crates/NAME/edits`, stand for any name. A folder out/ contains build products, so only the folder that
-  contains it is checked. Arguments may follow the path.
+  word in capitals, as in `crates/NAME/edits`, match any name. A folder out/ contains build products, so only the folder that contains it
+  is checked. Arguments may follow the path.
 - `Type::name`: one file of the code must contain both words, and `fn name` if the type is the repository's and the name is in lower
   case. A crate may take the type's place.
-- Anything else: each identifier must be a whole word of the code, or of a line of the command language in the same document, such as
-  the name of an example's table. The placeholders NUMBER, NAME, CRATE and FILE are allowed.
+- Any other text: each identifier must be a whole word of the code, or of a line of the command language in the same document. An example
+  is the name of a table in a document. The placeholders NUMBER, NAME, CRATE and FILE are allowed.
 
-The code consists of src/, specs/, proofs/, edits/ and must-fail/ of the crates, without comments; bench/, clients/, include/, replica/,
-tests/ and tools/; the programs of examples/; and the names of these files and folders. It excludes documents and the programs that check
-the repository itself (NO_CODE).
+The code consists of src/, specs/, proofs/, edits/ and must-fail/ of the crates, without comments. The folders bench/, clients/, include/,
+replica/, tests/ and tools/, the programs of examples/, and the names of all these files and folders are also code. Documents and the
+programs that check the repository itself (NO_CODE) are not.
 
-Code words beside a path, as in "`Order.antt`: `value_cmp`, `row_cmp`" or "`value_cmp` in `Order.antt`", must occur in a file with that
+Code words next to a path, as in "`Order.antt`: `value_cmp`, `row_cmp`" or "`value_cmp` in `Order.antt`", must occur in a file with that
 path. If the heading above names a crate and the path does not, the file must be in a crate of the heading or the line.
 
 A line of a fenced block that begins with a shell command or a folder of the repository is checked like a shell command.
@@ -52,10 +52,10 @@ FOLDERS = ("bench/", "clients/", "crates/", "docs/", "examples/", "include/", "r
 SHELL = {"apt-get", "bash", "cargo", "cat", "cc", "cd", "curl", "git", "make", "python3", "rt", "rustc", "sh", "ulimit", "valgrind"}
 ENDINGS = (".antt", ".c", ".edit", ".in", ".md", ".mmdb", ".out", ".py", ".rs", ".rt", ".toml", ".txt", ".yml")
 PLACEHOLDERS = {"NUMBER", "NAME", "CRATE", "FILE"}
-# Exceptions to all rules, each with its reason.
+# Exceptions to all rules, with their reasons.
 ALLOWED = {
     r"rattle-kit-\w+( logic \w+)?": "the name of a toolchain",
-    r"shrink_to_fit": "a method of the standard library that the program does not use, as a document says",
+    r"shrink_to_fit": "a method of the standard library that a document names because the program does not use it",
     r"MALLOC_TRIM_THRESHOLD_": "a variable of the C library, set for a measurement",
 }
 
@@ -75,7 +75,7 @@ def read(path):
 
 @functools.cache
 def files():
-    """The files of the repository, without build products."""
+    """Returns the files of the repository, without build products."""
     found = []
     for folder, folders, names in os.walk(TOP):
         folders[:] = sorted(name for name in folders if name not in (".git", "out", "__pycache__"))
@@ -85,7 +85,7 @@ def files():
 
 @functools.cache
 def files_by_end():
-    """For each suffix of a file's or folder's path, the files with this suffix or in such a folder."""
+    """Returns, for each suffix of a file's or folder's path, the files with this suffix or in such a folder."""
     found = collections.defaultdict(set)
     for file in files():
         parts = file.split("/")
@@ -97,7 +97,7 @@ def files_by_end():
 
 @functools.cache
 def words_by_file():
-    """The words of each file of the code and of its path, and `fn NAME` or `struct NAME` for each declaration."""
+    """Returns the words of each file of the code and of its path, and `fn NAME` or `struct NAME` for each declaration."""
     found = {}
     for path in files():
         if CODE.match(path) and path not in NO_CODE and not path.endswith(".md"):
@@ -113,13 +113,13 @@ def all_words():
 
 @functools.cache
 def keywords():
-    """The keywords of the command language."""
+    """Returns the keywords of the command language."""
     return frozenset(re.findall(r'=> b"([A-Z]+)"', read("crates/mm_lang/src/read/keyword.rt")))
 
 
 @functools.cache
 def refusals():
-    """The text of each refusal, by its number."""
+    """Returns the text of each refusal, by its number."""
     text = read("crates/mm_value/specs/Refusals.antt")
     numbers = dict(re.findall(r"^refusal_number (\w+) = (\d+)$", text, re.M))
     return {numbers[name]: said for name, said in re.findall(r'^refusal_text (\w+) = codes "([^"]+)"$', text, re.M)}
@@ -127,7 +127,7 @@ def refusals():
 
 @functools.cache
 def files_of(path):
-    """The files with a path or in the folder with that path."""
+    """Returns the files with a path or in the folder with that path."""
     made = re.match(r"(?:(.*?)/)?out(/|$)", path)
     path = (made[1] if made and made[1] else path).rstrip("/").removeprefix("./")
     pattern = re.sub(r"\b[A-Z][A-Z_]*\b(?!\.md)", "*", path)
@@ -142,19 +142,19 @@ def is_path(word):
 
 
 def path_fault(path):
-    """The fault of a path, or None."""
+    """Returns the fault of a path, or None."""
     is_made = path.rstrip("/") == "out"
     return None if path.startswith("/") or is_made or path in files() or files_of(path) else f"{path} does not exist"
 
 
 def shell_fault(words):
-    """The first fault of a shell command's words that begin with a folder of the repository, or None."""
+    """Returns the first fault of a shell command's words that begin with a folder of the repository, or None."""
     faults = (path_fault(word) for word in words if word.startswith(FOLDERS))
     return next((fault for fault in faults if fault), None)
 
 
 def is_of_language(span):
-    """Whether it begins with a keyword in capitals, or consists of tokens and contains a keyword or a comparison."""
+    """Returns whether a code word begins with a keyword in capitals, or consists of tokens and contains a keyword or a comparison."""
     if span in keywords():
         return False
     tokens = TOKEN.findall(span)
@@ -165,13 +165,13 @@ def is_of_language(span):
 
 @functools.cache
 def names_of_examples(document):
-    """The words of a document's lines of the command language."""
+    """Returns the words of a document's lines of the command language."""
     spans = [span[2].strip() for _, line in lines_of(document, fenced=False) for span in SPAN.finditer(line)]
     return frozenset(word for span in spans if is_of_language(span) for word in WORD.findall(span))
 
 
 def fault_of(document, span):
-    """The fault of a code word, or None."""
+    """Returns the fault of a code word, or None."""
     if not WORD.search(span) or any(re.fullmatch(allowed, span) for allowed in ALLOWED):
         return None
     words = span.split()
@@ -196,12 +196,12 @@ def fault_of(document, span):
 
 
 def crates_in(line):
-    """The crates that a line of a document names."""
+    """Returns the crates that a line of a document names."""
     return [span for _, span in SPAN.findall(line) if os.path.isdir(os.path.join(TOP, "crates", span))]
 
 
 def fault_beside(path, crates, word):
-    """The fault of a code word beside a path, or None."""
+    """Returns the fault of a code word next to a path, or None."""
     if is_path(word) or is_of_language(word):
         return None
     files = files_of(path)
@@ -212,7 +212,7 @@ def fault_beside(path, crates, word):
 
 
 def anchors_of(path):
-    """The anchors of a document's headings."""
+    """Returns the anchors of a document's headings."""
     seen, anchors = {}, set()
     for _, line in lines_of(path, fenced=False):
         heading = re.match(r"#{1,6}\s+(.*?)\s*#*$", line)
@@ -225,7 +225,7 @@ def anchors_of(path):
 
 
 def link_fault(document, link):
-    """The fault of a link, or None."""
+    """Returns the fault of a link, or None."""
     if re.match(r"[a-z]+:", link):
         return None
     path, _, anchor = link.partition("#")
@@ -236,7 +236,7 @@ def link_fault(document, link):
 
 
 def lines_of(path, fenced):
-    """The lines of a document inside or outside its fenced blocks, with their numbers."""
+    """Yields the lines of a document inside or outside its fenced blocks, with their numbers."""
     fence = None
     for number, line in enumerate(read(path).splitlines(), 1):
         mark = re.match(r"\s*(```+|~~~+)", line)
@@ -247,7 +247,7 @@ def lines_of(path, fenced):
 
 
 def checks_of(document):
-    """All checks of a document: line number, text, and the fault or None."""
+    """Yields all checks of a document: line number, text, and the fault or None."""
     above = []
     for number, line in lines_of(document, fenced=False):
         if line.startswith("#"):

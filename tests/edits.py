@@ -1,33 +1,34 @@
 #!/usr/bin/env python3
-"""Tries the wrong bodies that crates keep in must-fail/ and edits/: the prover must refuse each by a clause.
+"""Tries the mutants in must-fail/ and edits/ of the crates: a clause must refuse each wrong function body.
 
     tests/edits.py [--all] [--jobs N] [--folder FOLDER] [CRATE | CRATE/EDIT ..]
     tests/edits.py --check
     tests/edits.py --gate < OUTPUT
 
-An edit is a file CRATE/edits/NAME.edit or CRATE/must-fail/NAME.edit below crates/: a line 'file: src/lib.rt' (or a file of specs/ or
-proofs/), followed by pairs of lines 'old: TEXT' and 'new: TEXT'. 'rt ci' tries the edits of must-fail/, and this script those of edits/;
-with --all it tries both. An edit that is named, as mm_txn/rollback_keeps_rows, is tried in either folder.
+An edit is a file CRATE/edits/NAME.edit or CRATE/must-fail/NAME.edit below crates/. Its first line is 'file: src/lib.rt', or names a file
+of specs/ or proofs/. Pairs of lines 'old: TEXT' and 'new: TEXT' follow. 'rt ci' tries the edits of must-fail/, and this script those of
+edits/. With --all, the script tries both. An edit that is named, such as mm_txn/rollback_keeps_rows, is tried in either folder.
 
-An edit passes only if a goal stays open. A hand-written answer can fail although the contract accepts the edit, for example where the
-edit turns a goal into Unit. So if only answers fail, the script removes these answers and checks again. Then the goal stays open either
-because it is false, or because it needs another answer, so the result has the words 'without its answer'. For each edit it prints one of:
+An edit passes only if a goal stays open. A hand-written answer can fail although the contract accepts the edit, for example if the edit
+turns a goal into Unit. So if only answers fail, the script removes these answers and checks again. Then the goal stays open either
+because it is false, or because it needs another answer, so the result has the words 'without its answer'. The script prints one of these
+results for each edit:
 
     refused              with the goal that stays open, or the lemma that fails
     refused by answers   failure: the crate is proved without the answers that no longer fit
-    refused by names     failure: a proof names what the edit removes, which says nothing about a clause
+    refused by names     failure: a proof uses a name that the edit removes, so no clause was tested
     proved               failure: the crate is proved with the edit
     bad                  failure: the edited text does not compile, or the prover cannot read it
     no verdict           failure: the check reached a limit, or stopped for another reason
 
 The script copies crates/, crates.txt and HANDLES to a temporary folder, or to FOLDER, once for each of the N jobs, and changes nothing
-else. A FOLDER keeps what the checks proved, and the results in FOLDER/results.jsonl, so that a later run continues there: it tries only
-edits that failed, or whose crate, or a crate below it, has changed. The crates themselves must be proved ('rt ci'): the script checks
-only the functions that an edit changes, and then the whole crate if they are still proved.
+else. FOLDER keeps the proofs of the checks, and the results in FOLDER/results.jsonl. A later run with FOLDER tries only edits that failed,
+and edits of crates that have changed or use a changed crate. The crates themselves must be proved ('rt ci'): the script checks only the
+functions that an edit changes, and then the whole crate if these functions are still proved.
 
---check only tests that each edit can be applied: it has only lines that rt reads, each 'old:' TEXT occurs in its file exactly once, the
-texts change something, and no name is in both folders. It takes a second. --gate reads the output of 'rt ci', which passes edits that
-it could not try, and fails if there are any. The status is 0 only if all edits pass.
+--check only tests that each edit can be applied, in a second. An edit must have only lines that rt reads. Each 'old:' TEXT must occur in
+its file exactly once, the texts must change something, and no name may be in both folders. --gate reads the output of 'rt ci', which passes
+edits that it could not try, and fails if there are any. The status is 0 only if all edits pass.
 """
 
 import argparse
@@ -49,7 +50,7 @@ NAME = re.compile(r"[A-Za-z0-9_-][A-Za-z0-9_.-]*\.edit")
 FILE_OF_A_CRATE = re.compile(r"(src|specs|proofs)(/[\w-][\w.-]*)+")
 COMMENTS = ("#", "--", "//")
 
-# What a check prints, by line.
+# The lines of a check's output.
 NOT_PROVED = re.compile(r"fn \w+::(\S+): (?:not proved|no proof|could not tell)")
 GOAL = re.compile(r"note: `([^`]+)` of (?:\./)?proofs/(\S+)/\w+\.antt must prove: (.*)")
 UNPROVED_STEP = re.compile(r"note: ((?:\./)?src/\S+?:\d+):\d+: it is not proved (?:here )?that (.*)")
@@ -60,13 +61,13 @@ LIMIT = re.compile(r"antt ran out of (?:stack|the (?:steps|memory))|(?:outgrew t
 VERDICT = re.compile(r"^(?:only|logic)=", re.M)
 NOT_TRIED = re.compile(r"^.*\b(?:BAD EDIT|NOT TRIED)\b.*", re.M)
 
-# What Rust code looks like in rustfmt's layout, as far as names of functions need it.
+# Lines of Rust code in rustfmt's layout that determine the names of functions.
 FUNCTION = re.compile(r"\s*(?:pub(?:\([^)]*\))? )?(?:const )?(?:unsafe )?(?:extern \"C\" )?fn (\w+)")
 INHERENT_IMPL = re.compile(r"impl(?:<.*?>)? (\w+)(?:<.*>)?(?: where .*)?(?: \{)?$")
 
 
 class Unfit(Exception):
-    """Why an edit cannot be applied."""
+    """An edit cannot be applied."""
 
 
 # ---- edits and the texts that they change
@@ -77,7 +78,7 @@ def folder_of(crate):
 
 
 def files_in(crate, place):
-    """The names in a crate's edits/ or must-fail/, except notes."""
+    """Returns the names of the files in a crate's edits/ or must-fail/, except notes."""
     folder = f"{folder_of(crate)}/{place}"
     return sorted(name for name in os.listdir(folder) if not name.endswith(".md")) if os.path.isdir(folder) else []
 
@@ -91,7 +92,7 @@ def text_of(path):
 
 
 def replacements(text):
-    """The replacements of an edit: a file's path in the crate, the old text and the new one."""
+    """Returns the replacements of an edit: a file's path in the crate, the old text and the new one. Raises Unfit."""
     path, old, found = None, None, []
     for line in text.split("\n"):
         if line.startswith("file: "):
@@ -115,13 +116,14 @@ def replacements(text):
 
 
 def module_of(path):
-    """The module of a file of src/, as 'rt check --only' takes it, or None for the crate's root."""
+    """Returns the module of a file of src/ as an argument of 'rt check --only', or None for the crate's root."""
     inner = path.removeprefix("src/").removesuffix(".rt").removesuffix("/mod")
     return None if inner in ("lib", "main") else inner.replace("/", "::")
 
 
 def function_at(path, text, at):
-    """The function that includes a place of a file of src/, else the file's module, as 'rt check --only' takes it, or None for the root."""
+    """Returns the function that contains the offset `at` of a file of src/, or else the file's module, as an argument of 'rt check --only'.
+    Returns None for the crate's root."""
     module, kind, name = module_of(path), None, None
     for line in text[: text.find("\n", at)].split("\n"):
         if line.startswith("impl") and (found := INHERENT_IMPL.match(line)):
@@ -140,7 +142,8 @@ def function_at(path, text, at):
 
 
 def apply(crate, edit):
-    """The files that an edit changes, with their new texts, and the functions that it changes. It is empty if one is not in src/."""
+    """Returns the new texts of the files that an edit changes, and the functions that it changes. The list of functions is empty if the
+    edit changes a file outside src/ or the crate's root. Raises Unfit."""
     before, after, functions = {}, {}, []
     for path, old, new in replacements(text_of(edit)):
         if path not in after:
@@ -156,12 +159,12 @@ def apply(crate, edit):
 
 
 def fault(crate, place, name):
-    """What is wrong with an edit, or None."""
+    """Returns the reason why an edit cannot be applied, or None."""
     path = f"{folder_of(crate)}/{place}/{name}"
     if not NAME.fullmatch(name) or not os.path.isfile(path):
         return "an edit is a file whose name is of letters, digits, _, - and ., and ends in .edit"
     if place == "edits" and name in files_in(crate, "must-fail"):
-        return "must-fail/ has an edit of this name, too"
+        return "must-fail/ also has an edit of this name"
     try:
         apply(crate, path)
     except Unfit as why:
@@ -170,7 +173,7 @@ def fault(crate, place, name):
 
 
 def can_be_applied(edits):
-    """Whether some edits can be applied. Prints what is wrong, and their number."""
+    """Returns whether all these edits can be applied. Prints the faults, and the number of edits."""
     faults = [(edit, why) for edit in edits if (why := fault(*edit))]
     for edit, why in faults:
         print(f"crates/{'/'.join(edit)}: {why}")
@@ -178,11 +181,11 @@ def can_be_applied(edits):
     return not faults
 
 
-# ---- one check, and what it says
+# ---- one check and its output
 
 
 def without_answers(text, names):
-    """The text of an Answers.antt without these answers, or None if one of the names is no answer of the file."""
+    """Returns the text of an Answers.antt without these answers, or None if one of the names is not an answer of the file."""
     kept, found, taken = [], set(), False
     for line in text.split("\n"):
         word = re.match(r"(?:pub )?([^\s:]+)", line)
@@ -197,7 +200,7 @@ def without_answers(text, names):
 
 
 class Outcome:
-    """What a check of an edited crate printed, by kind."""
+    """The output of a check of an edited crate, by kind of line."""
 
     def __init__(self, status, said):
         self.status, self.said, lines = status, said, said.split("\n")
@@ -208,14 +211,14 @@ class Outcome:
         self.limit = next((line for line in lines if LIMIT.search(line)), None)
 
     def is_bad(self):
-        """Why no contract was tried, or None: the front end or the prover cannot read the edited text."""
+        """Returns why no contract was tried, or None. The reason is that the front end or the prover cannot read the edited text."""
         if self.status == 1 and not VERDICT.search(self.said) and "did not build" not in self.said:
             return next((line for line in self.said.split("\n") if "error" in line), "it does not compile")
         unread = (f"{path}: {words}" for path, name, words in self.faults if path[0] == "s" and (name is None or UNREADABLE.search(words)))
         return next(unread, None)
 
     def failed_answers(self):
-        """The names of the answers that failed, by file."""
+        """Returns the names of the failed answers, by file."""
         found = {}
         for path, name, _ in self.faults:
             if path.endswith("/Answers.antt"):
@@ -223,11 +226,11 @@ class Outcome:
         return found
 
     def other_faults(self):
-        """The errors that are not in an answer: the place and the words of each."""
+        """Returns the place and the text of each error outside answers."""
         return [(f"{path}: {name or ''}", words) for path, name, words in self.faults if not path.endswith("/Answers.antt")]
 
     def result(self, has_removed):
-        """What it comes to, and why. has_removed tells whether answers were removed."""
+        """Returns the result and the reason. `has_removed` is whether answers were removed."""
         if why := self.is_bad():
             return "bad", why
         if self.status == 0:
@@ -256,7 +259,7 @@ class Copy:
             shutil.copyfile(f"{TOP}/{name}", f"{folder}/{name}")
 
     def check(self, crate, functions, texts):
-        """Checks functions of a crate, or all if none is named, with these texts in place of its own. None means that a file is removed."""
+        """Checks functions of a crate, or all functions without `functions`, with `texts` in place of the crate's files. None removes a file."""
         place = f"{self.folder}/crates/{crate}"
         try:
             for path, text in texts.items():
@@ -273,7 +276,7 @@ class Copy:
         return Outcome(done.returncode, done.stdout)
 
     def attempt(self, crate, functions, texts, removed):
-        """Checks edited functions. If only answers fail, adds their files to removed, without these answers, and checks again."""
+        """Checks edited functions. If only answers fail, adds their files without these answers to `removed`, and checks again."""
         while True:
             outcome = self.check(crate, functions, {**texts, **removed})
             failed = {path: names for path, names in outcome.failed_answers().items() if removed.get(path, "") is not None}
@@ -285,11 +288,11 @@ class Copy:
                 removed[path] = without_answers(text, names)
 
     def result(self, crate, place, name):
-        """What a try of an edit comes to, and why."""
+        """Tries an edit. Returns the result and the reason."""
         texts, functions = apply(crate, f"{folder_of(crate)}/{place}/{name}")
         removed = {}
         outcome = self.attempt(crate, functions, texts, removed)
-        # The change may show only in callers, and status 2 means that the checker does not know one of the names.
+        # The effect of the edit may be visible only in callers. Status 2 means that the checker does not find one of the names.
         if functions and outcome.status in (0, 2):
             outcome = self.attempt(crate, [], texts, removed)
         return outcome.result(bool(removed))
@@ -299,13 +302,13 @@ class Copy:
 
 
 def crates_below():
-    """Each crate of crates.txt with those that it names."""
+    """Returns the crates that each crate of crates.txt uses."""
     lines = [line.partition(":") for line in text_of(f"{TOP}/crates.txt").split("\n") if line and not line.startswith("#")]
     return {head.split()[0]: names.split() for head, _, names in lines}
 
 
 class Results:
-    """The results of earlier runs, in a file: a line for each edit, with a sum of all that its result depends on."""
+    """The results of earlier runs, in a file with a line for each edit. A hash covers everything that the result depends on."""
 
     def __init__(self, path):
         self.path, self.known, self.sums, self.below = path, {}, {}, crates_below()
@@ -315,7 +318,7 @@ class Results:
                 self.known = {line["edit"]: line for line in map(json.loads, file)}
 
     def sum_of(self, crate):
-        """A sum of the files of a crate and of those below it, and of the kit's version."""
+        """Returns a hash of the files of a crate and of the crates below it, and of the kit's version."""
         if crate not in self.sums:
             total = hashlib.sha256(self.kit)
             for part in PARTS:
@@ -343,7 +346,7 @@ class Results:
 
 
 def try_edits(edits, jobs, folder):
-    """Tries edits in a number of copies, prints what each comes to, and returns the status."""
+    """Tries edits in `jobs` copies, prints the result of each, and returns the status."""
     results, copies, counts = Results(f"{folder}/results.jsonl"), queue.Queue(), {}
     for job in range(jobs):
         copies.put(Copy(f"{folder}/{job}"))
@@ -375,7 +378,7 @@ def gate(said):
 
 
 def chosen(names, places):
-    """The edits of the crates that are named, or of all, in these places, and each edit that is named."""
+    """Returns the named edits, and the edits in `places` of the named crates, or of all crates if `names` is empty."""
     every = [(crate, place, name) for crate in sorted(os.listdir(f"{TOP}/crates")) for place in PLACES for name in files_in(crate, place)]
     found = []
     for name in names:
@@ -383,19 +386,19 @@ def chosen(names, places):
         edit = os.path.basename(edit).removesuffix(".edit") + ".edit" if edit else None
         of_name = [it for it in every if it[0] == crate and (it[2] == edit if edit else it[1] in places)]
         if not of_name:
-            sys.exit(f"{name} is no edit, and no crate that has edits{'' if len(places) > 1 else ' in edits/'}.")
+            sys.exit(f"{name} is neither an edit nor a crate that has edits{'' if len(places) > 1 else ' in edits/'}.")
         found += of_name
     return list(dict.fromkeys(found)) if names else [edit for edit in every if edit[1] in places]
 
 
 def arguments():
-    words = argparse.ArgumentParser(description="Tries the wrong bodies that crates keep: the prover must refuse each by a clause.")
+    words = argparse.ArgumentParser(description="Tries the mutants of the crates: a clause must refuse each wrong function body.")
     words.add_argument("names", nargs="*", metavar="CRATE", help="a crate, or CRATE/EDIT; without one, each crate that has edits")
-    words.add_argument("--all", action="store_true", help="try the edits of must-fail/, too")
+    words.add_argument("--all", action="store_true", help="also try the edits of must-fail/")
     words.add_argument("--jobs", type=int, default=1, metavar="N", help="check N edits at a time")
     words.add_argument("--folder", metavar="FOLDER", help="work in this folder and keep it, so that a later run continues there")
     words.add_argument("--check", action="store_true", help="only test that each edit, in both folders, can be applied")
-    words.add_argument("--gate", action="store_true", help="read what 'rt ci' printed, and fail if it could not try an edit")
+    words.add_argument("--gate", action="store_true", help="read the output of 'rt ci', and fail if it could not try an edit")
     return words.parse_args()
 
 
@@ -409,7 +412,7 @@ def main():
     if asked.check:
         return 0
     if not shutil.which("rt"):
-        sys.exit("There is no command rt: the Rattle kit has it.")
+        sys.exit("The command rt is missing. It is part of the Rattle kit.")
     if asked.folder:
         return try_edits(edits, asked.jobs, os.path.abspath(asked.folder))
     with tempfile.TemporaryDirectory(prefix="mmdb-edits-") as folder:

@@ -5,12 +5,12 @@
     tests/form.py --graph
     tests/form.py --long
 
-- A line of a .rt, .antt, .edit or .py file has at most 160 characters. MOST_LONG_LINES gives the number of older lines that are longer,
-  by kind of file; a number there may fall but not rise. If a kind has more, the program prints each of its long lines.
-- The graph of crates between the two marks of docs/ARCHITECTURE.md is the one that crates.txt gives: for each floor its crates, each
-  with the crates that it uses and does not also reach through another one.
+- A line of a .rt, .antt, .edit or .py file has at most 160 characters. MOST_LONG_LINES has the number of older lines that are longer, by
+  kind of file. These numbers may only fall. If a kind of file exceeds its number, the program prints all its long lines.
+- The graph of crates between the two marks of docs/ARCHITECTURE.md agrees with crates.txt. For each floor, it lists the crates. For each
+  crate, it lists the crates that it uses and does not also reach through another one.
 - Each crate of crates.txt has a README.md.
-- docs/benchmarks/figures.md, and the table between marks in README.md, are those that bench/tables.py makes of figures.json.
+- docs/benchmarks/figures.md, and the table between marks in README.md, equal the output of bench/tables.py for figures.json.
 
 --graph prints the graph, and --long prints each line that is too long. The exit status is 0 if all checks pass. Takes a second.
 """
@@ -26,7 +26,7 @@ sys.path.append(os.path.join(TOP, "bench"))
 import tables  # noqa: E402
 
 LONGEST_LINE = 160
-MOST_LONG_LINES = {".antt": 0, ".edit": 9, ".py": 0, ".rt": 36}
+MOST_LONG_LINES = {".antt": 0, ".edit": 3, ".py": 0, ".rt": 35}
 DOCUMENT, BEGINS, ENDS = "docs/ARCHITECTURE.md", "<!-- crates.txt -->", "<!-- end -->"
 FLOOR = re.compile(r"# ([A-Z][a-z]+(?: [a-z]+)*): ")
 
@@ -40,14 +40,14 @@ def read(path):
 
 
 def files():
-    """The files of the repository, without build products."""
+    """Yields the paths of the repository's files, without build products."""
     for folder, folders, names in os.walk(TOP):
         folders[:] = sorted(name for name in folders if name not in (".git", "out", "__pycache__"))
         yield from (os.path.relpath(os.path.join(folder, name), TOP) for name in sorted(names))
 
 
 def long_lines():
-    """The lines that are too long, by kind of file, each as file, line number and length."""
+    """Returns the lines that are too long, by kind of file, each as file, line number and length."""
     found = {kind: [] for kind in MOST_LONG_LINES}
     for path in files():
         lines = found.get(os.path.splitext(path)[1])
@@ -58,7 +58,7 @@ def long_lines():
 
 
 def faults_of_lines():
-    """The long lines of each kind of file that has more than allowed. Prints a note if a limit can be lowered."""
+    """Yields the long lines of each kind of file that has more than allowed. Prints a note if a limit can be lowered."""
     for kind, lines in long_lines().items():
         most = MOST_LONG_LINES[kind]
         if len(lines) > most:
@@ -72,7 +72,7 @@ def faults_of_lines():
 
 
 def floors():
-    """The floors of crates.txt from the lowest up, each with its crates in order. A floor is a comment followed by a blank line."""
+    """Returns the crates of each floor of crates.txt, from the lowest floor up. A floor is a comment followed by a blank line."""
     lines = read("crates.txt").splitlines()
     found = {}
     for line, following in zip(lines, [*lines[1:], ""]):
@@ -85,19 +85,19 @@ def floors():
 
 
 def named():
-    """The crates of the repository that each crate uses directly."""
+    """Returns the crates of the repository that each crate uses directly."""
     lines = [line.partition(":") for line in read("crates.txt").splitlines() if line and not line.startswith("#")]
     below = {head.split()[0]: others.split() for head, _, others in lines}
     return {name: [other for other in others if other in below] for name, others in below.items()}
 
 
 def reached(crate, below):
-    """All crates that a crate uses, directly or not."""
+    """Returns all crates that a crate uses, directly or not."""
     return set(below[crate]).union(*(reached(other, below) for other in below[crate]))
 
 
 def graph():
-    """The lines of the graph: for each crate of a floor, the crates that it uses directly and not also through another one."""
+    """Returns the lines of the graph: for each crate of a floor, the crates that it uses directly and not also through another one."""
     below = named()
     width = max(map(len, below))
     lines = []

@@ -1,11 +1,11 @@
 #!/usr/bin/env python3
-"""Runs hostile input over the whole language through the program, and compares each reply.
+"""Runs hostile input for the whole language through the program, and compares each reply.
 
     tests/hostile.py [PROGRAM]
 
-- Each form of each command is changed at each byte: the line is cut there, the byte is removed, and some other bytes are inserted before
-  it and replace it. Each token is removed, repeated and exchanged with the next one, and each keyword, each symbol and some other tokens
-  are inserted before it and replace it.
+- Each form of each command is changed at each byte. The line is cut there, the byte is removed, and other bytes are inserted before it and
+  replace it. The form is also changed at each token. The token is removed, repeated and exchanged with the next one, and each keyword, each
+  symbol and some other tokens are inserted before it and replace it.
 - Each form is also cut at each byte by the end of the input, without a line feed.
 - Numbers of 4,000 digits, and names and texts that are too long or contain odd bytes, occur wherever the language allows one. Lines have
   the maximum length and more. Each limit is reached and exceeded by one.
@@ -13,11 +13,11 @@
 - Each byte occurs alone on a line, in a text and between two words, and lines consist of random tokens and of random bytes.
 - Commands and refused lines are sent one at a time, each after the reply to the one before.
 
-tests/language.py gives the expected replies. It is written from docs/LANGUAGE.md and shares nothing with the program. If a line is made
-for a particular refusal, tests/language.py must give that one. After each line that changes something, and after some others, the script
-reads the whole database. The exit status is 0 if all replies are right and each run ends with status 0.
+The expected replies are those of tests/language.py, which is written from docs/LANGUAGE.md and shares no code with the program. If a line is
+meant for a particular refusal, tests/language.py must return that refusal. After each line that changes something, and after some others, the
+script reads the whole database. The exit status is 0 if all replies are right and each run ends with status 0.
 
-A run has 1 GiB of memory. A query over four tables of 1,025 rows with a test on the last table may need more, and may then fail with
+A run has 1 GiB of memory. A query over four tables of 1,025 rows with a test on the last table may need more. Such a query may fail with
 `error 90` instead of the refusal for its size. No other line may.
 """
 
@@ -208,7 +208,7 @@ def reply_of(number):
 
 
 def shown(value):
-    """The start of a line or a reply, for messages."""
+    """Returns the start of a line or a reply, for messages."""
     return f"{str(value)[1:120]}.. ({len(value)} bytes)" if len(value) > 120 else str(value)[1:]
 
 
@@ -232,12 +232,12 @@ class Script:
         reply = b"".join(map(self.database.answer, text.split(b"\n")))
         wanted = reply_of(wanted) if isinstance(wanted, int) else wanted
         if wanted is not None and wanted != reply:
-            self.faults.append(f"{shown(text)} must get {shown(wanted)}, but tests/language.py says {shown(reply)}")
+            self.faults.append(f"{shown(text)} must get {shown(wanted)}, but tests/language.py returns {shown(reply)}")
         self.lines.append(text)
         self.replies.append(reply)
 
     def may_want_memory(self):
-        """Allows the last line to fail with `error 90`, since it may need more memory than a run has."""
+        """Allows the last line to fail with `error 90`, since the line may need more memory than a run has."""
         self.wanting.add(len(self.lines) - 1)
 
     def probe(self):
@@ -251,7 +251,7 @@ class Script:
             self.say(b"SHOW " + name)
 
     def fault(self, program):
-        """What is wrong with the program's run, or None."""
+        """Returns the fault of the program's run, or None."""
         if self.faults:
             return self.faults[0]
         given = b"\n".join(self.lines) + self.end
@@ -262,7 +262,7 @@ class Script:
         return self.difference(ran.stdout) or (f"the run ended with status {ran.returncode}" if ran.returncode else None)
 
     def difference(self, written):
-        """The first line with a wrong reply, or None."""
+        """Returns the first line with a wrong reply, or None."""
         at = 0
         for place, (line, reply) in enumerate(zip(self.lines, self.replies)):
             if place in self.wanting and written.startswith(MEMORY, at):
@@ -293,7 +293,7 @@ class Dialogue(Script):
 
 
 class Changed:
-    """Scripts of changed lines. Lines that change nothing share one script, and each other line has its own."""
+    """Scripts of changed lines. Lines that change nothing share one script, and each other line has a script of its own."""
 
     def __init__(self, start):
         self.start, self.quiet, self.others = start, start.copy(), []
@@ -306,7 +306,7 @@ class Changed:
             self.quiet.probe()
 
     def take_back(self, text):
-        """Moves the last line from the shared script to its own, which rolls back a transaction that the line leaves open."""
+        """Moves the last line from the shared script to a script of its own. That script rolls back a transaction that the line leaves open."""
         self.quiet.lines.pop()
         self.quiet.replies.pop()
         self.quiet.database = self.start.database.copy()
@@ -324,7 +324,7 @@ class Changed:
 
 
 def with_changed_bytes(line):
-    """A line, changed at each of its bytes."""
+    """Yields a line with a change at each of its bytes."""
     for place in range(len(line) + 1):
         yield line[:place]
         yield line[:place] + line[place + 1 :]
@@ -334,7 +334,7 @@ def with_changed_bytes(line):
 
 
 def with_changed_tokens(line):
-    """A line, changed at each of its tokens and after the last."""
+    """Yields a line with a change at each of its tokens and after the last."""
     tokens = [] if language.read(line) is None else language.tokens_of(line)[:-1]
     for token, following in zip(tokens, [*tokens[1:], None]):
         before, behind = line[: token.start], line[token.end :]
@@ -349,7 +349,7 @@ def with_changed_tokens(line):
 
 
 def form_scripts(line, opening):
-    """A form, changed at each byte and token, with other line ends, and cut by the end of the input."""
+    """Yields scripts with a form that is changed at each byte and token, has other line ends, or is cut by the end of the input."""
     start = Script("", lines_of(TABLES + opening))
     changed = Changed(start)
     for text in [line, line + b"\r", line + b"\r\r", *with_changed_bytes(line), *with_changed_tokens(line)]:
@@ -367,7 +367,7 @@ def quoted(text):
 
 
 def number_scripts():
-    """Numbers that are too large, and numbers with thousands of leading zeros, wherever the language allows a number."""
+    """Returns scripts with too large numbers and numbers with thousands of leading zeros, wherever the language allows a number."""
     changed = Changed(Script("", lines_of(TABLES)))
     nines, just, past, far_past = b"9" * 4000, b"9223372036854775807", b"9223372036854775808", b"9223372036854775809"
     for place in lines_of(PLACES_OF_NUMBERS):
@@ -389,7 +389,7 @@ def number_scripts():
 
 
 def text_scripts():
-    """Texts of the maximum length and longer ones, wherever the language allows a text."""
+    """Returns scripts with texts of the maximum length and longer ones, wherever the language allows a text."""
     changed = Changed(Script("", lines_of(TABLES)))
     for place in lines_of(PLACES_OF_TEXTS):
         for byte in (b"a", b"'", b"\0", b"\xff", b" ", b"-"):
@@ -403,7 +403,7 @@ def text_scripts():
 
 
 def name_scripts():
-    """Names of the maximum length, longer ones, and words that are not names, wherever the language allows a name."""
+    """Returns scripts with names of the maximum length, longer ones, and words that are not names, wherever the language allows a name."""
     changed = Changed(Script("", lines_of(TABLES)))
     for place in lines_of(PLACES_OF_NAMES):
         for name in (b"n" * 32, b"z_9" + b"0" * 29, b"x"):
@@ -414,7 +414,7 @@ def name_scripts():
 
 
 def line_scripts():
-    """Forms in lines of the maximum length, and in longer ones."""
+    """Returns scripts with forms in lines of the maximum length, and in longer ones."""
     changed = Changed(Script("", lines_of(TABLES)))
     for line in lines_of(FORMS):
         reply = changed.start.database.copy().answer(line)
@@ -432,7 +432,7 @@ def line_scripts():
 
 
 def byte_scripts():
-    """Each byte alone on a line, before, after and between words, and in texts."""
+    """Returns scripts with each byte alone on a line, before, after and between words, and in texts."""
     changed = Changed(Script("", lines_of(TABLES)))
     texts = Script("", [b"TABLE b (x TEXT KEY)"])
     for byte in (bytes([number]) for number in range(256)):
@@ -446,7 +446,7 @@ def byte_scripts():
 
 
 def random_scripts(seed):
-    """Lines of random tokens and of random bytes, and the start of one form with the end of another."""
+    """Returns scripts with lines of random tokens and of random bytes, and with the start of one form before the end of another."""
     rng = random.Random(seed)
     changed = Changed(Script("", lines_of(TABLES)))
     forms = lines_of(FORMS)
@@ -459,12 +459,12 @@ def random_scripts(seed):
 
 
 def many(text, count, between=b", "):
-    """`count` copies of a text, with the numbers from 1 in place of each #."""
+    """Returns `count` copies of a text. The number of the copy, from 1, replaces each #."""
     return between.join(text.replace(b"#", b"%d" % number) for number in range(1, count + 1))
 
 
 def table_scripts():
-    """The maximum number of tables and columns, and one more."""
+    """Returns scripts with the maximum number of tables and columns, and one more."""
     tables, columns = Script(""), Script("")
     for number in range(64):
         tables.say(b"TABLE n%d (id INT KEY)" % number, b"ok\n")
@@ -489,7 +489,7 @@ def table_scripts():
 
 
 def index_scripts():
-    """The maximum number of indexes of a table, and one more."""
+    """Returns scripts with the maximum number of indexes of a table, and one more."""
     script = Script("", lines_of(TABLES))
     for number in range(15):
         script.say(b"INDEX n%d ON t (%s) %s" % (number, (b"id", b"k", b"s")[number % 3], (b"TREE", b"HASH")[number % 2]), b"ok\n")
@@ -507,7 +507,7 @@ def index_scripts():
 
 
 def standing_scripts():
-    """The maximum number of standing queries, and one more."""
+    """Returns scripts with the maximum number of standing queries, and one more."""
     script = Script("", lines_of(TABLES))
     for number in range(30):
         script.say(b"WATCH n%d SELECT a.k, b.id FROM t a, t b WHERE a.k = b.k - %d" % (number, number), b"ok\n")
@@ -523,7 +523,7 @@ def standing_scripts():
 
 
 def savepoint_scripts():
-    """The maximum number of savepoints, and one more. Some of the 64 have names of earlier ones."""
+    """Returns scripts with the maximum number of savepoints, and one more. Some of the 64 have names of earlier ones."""
     script = Script("", lines_of(TABLES))
     for end in (b"ROLLBACK", b"COMMIT"):
         script.say(b"SAVEPOINT n0", 51)
@@ -533,7 +533,7 @@ def savepoint_scripts():
         for number in range(64):
             script.say(b"UPDATE t SET k = %d WHERE id < 3" % number, b"ok 2\n")
             script.say(b"SAVEPOINT n%d" % (number % 50), b"ok\n")
-        # The 64th is the second n13, the 63rd the second n12, and the 50th the n49.
+        # The 64th savepoint is the second n13, the 63rd is the second n12, and the 50th is n49.
         for name, room in ((b"n13", 0), (b"n12", 1), (b"n49", 14)):
             script.say(b"DELETE u", b"ok 2\n")
             script.say(b"ROLLBACK TO " + name, b"ok\n")
@@ -556,7 +556,7 @@ def savepoint_scripts():
 
 
 def rolled_back_index_scripts():
-    """Indexes created and dropped in a transaction, between changes of rows that are rolled back or committed."""
+    """Returns scripts that create and drop indexes in a transaction, between changes of rows that are rolled back or committed."""
     scripts = []
     for ends in ((b"COMMIT",), (b"ROLLBACK",), (b"ROLLBACK TO p", b"COMMIT"), (b"ROLLBACK TO q", b"ROLLBACK TO p", b"ROLLBACK")):
         script = Script("", lines_of(TABLES + OPENED))
@@ -588,7 +588,7 @@ def rolled_back_index_scripts():
 
 
 def query_scripts():
-    """Queries and changes with the maximum number of tables, fields, tests and positions, and with more."""
+    """Returns scripts with the maximum numbers of tables, fields, tests and positions in queries and changes, and with more."""
     changed = Changed(Script("", lines_of(TABLES)))
 
     def say(wanted, fields, items, tests, order):
@@ -619,8 +619,8 @@ def query_scripts():
 
 
 def combination_scripts():
-    """Self-joins with the maximum number of combinations, and one row more. The first three of four tables have 1,025 cubed combinations. If a
-    test names the fourth table, the program stores them as far as memory allows, since it does not know yet how many pass the test."""
+    """Returns scripts with self-joins of the maximum number of combinations, and of one row more. The first three of four tables have 1,025
+    cubed combinations. If a test names the fourth table, the program stores them as far as memory allows, since only some may pass the test."""
     script = Script("", [b"TABLE n (id INT KEY)", b"TABLE none (id INT KEY)", *(b"INSERT n (%d)" % number for number in range(1, 1026))])
     four = b"n a, n b, n c, n d"
     products = [(b"a.id", b"n a, n b"), (b"DISTINCT b.id", b"n a, n b"), (b"c.id", b"n a, n b, n c"), (b"a.id", four)]
@@ -651,7 +651,7 @@ def combination_scripts():
 
 
 def dialogue_scripts():
-    """Forms and refused lines, sent one at a time."""
+    """Returns scripts with forms and refused lines that are sent one at a time."""
     dialogue = Dialogue("", lines_of(TABLES))
     for line in lines_of(FORMS):
         for text in (line, line[:-1], line + b"'", b"\0" + line, b"x" * 5000, b"-- " + line, line + b"\r"):
@@ -661,7 +661,7 @@ def dialogue_scripts():
 
 
 def cases():
-    """The test cases: a name, the function that creates the scripts, and its arguments."""
+    """Yields the test cases: a name, the function that creates the scripts, and its arguments."""
     for line in lines_of(FORMS):
         yield f"{shown(line)} changed", form_scripts, (line, b"")
     for line in lines_of(FORMS_IN_A_TRANSACTION):
@@ -707,7 +707,7 @@ def main():
     path = os.path.abspath(sys.argv[1]) if len(sys.argv) > 1 else f"{TOP}/crates/mmdb/out/mmdb"
     if not os.access(path, os.X_OK):
         sys.exit(f"No program at {path}. 'tools/build' builds it.")
-    # The program inherits the limit, so it cannot use all memory of the machine.
+    # The program inherits the limit, so it cannot exhaust the memory of the machine.
     resource.setrlimit(resource.RLIMIT_AS, (MOST_MEMORY, MOST_MEMORY))
     found = []
     with multiprocessing.Pool(os.cpu_count()) as pool:

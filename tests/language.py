@@ -1,7 +1,7 @@
 """A second implementation of the command language, written from docs/LANGUAGE.md alone and as simple as possible.
 
-`read` returns the command of a line, and `Database.answer` its whole reply, also a refusal. Nothing here comes from the program: an index
-is only a declaration, a query tests all combinations of its tables' rows, and SHOW evaluates its query again.
+`read` returns the command of a line, and `Database.answer` returns its whole reply, also a refusal. Nothing is copied from the program. An
+index is only a declaration, a query tests all combinations of its tables' rows, and SHOW evaluates its query again.
 """
 
 import itertools
@@ -51,7 +51,7 @@ class Refused(Exception):
 
 
 def refuse(number, holds):
-    """Raises a refusal if its condition holds. The calls for a command are in the order of its refusals."""
+    """Raises a refusal if its condition holds. The calls for a command follow the order of its refusals."""
     if holds:
         raise Refused(number)
 
@@ -66,7 +66,7 @@ class Column(NamedTuple):
     cascades: bool
 
     def role(self):
-        """The words after its type in the TABLE command."""
+        """Returns the words after the column's type in the TABLE command."""
         if self.is_key:
             return b" KEY"
         return b" REF " + self.target + b" CASCADE" * self.cascades if self.target else b""
@@ -124,7 +124,7 @@ def kind_of_word(word):
 
 
 def tokens_of(line):
-    """The tokens of a line, and a last token for its end."""
+    """Returns the tokens of a line, and a last token for its end."""
     tokens, place, end = [], 0, len(line.rstrip(b" \t"))
     while place < end:
         found = TOKEN.match(line, place)
@@ -167,14 +167,14 @@ class Reader:
         return self.take_kind("name")
 
     def listed(self, read, between=b","):
-        """One or more phrases, separated by a symbol or a keyword."""
+        """Reads one or more phrases, separated by a symbol or a keyword."""
         found = [read()]
         while self.takes(between):
             found.append(read())
         return found
 
     def number(self, sign):
-        """The next digits as a number with this sign. The whole line is read before a number past its limit is refused."""
+        """Reads the next digits as a number with this sign. A number beyond its limit is refused only after the whole line is read."""
         number = int(sign + self.take_kind("digits"))
         if not LEAST <= number <= GREATEST:
             self.faults.append(12)
@@ -259,7 +259,7 @@ class Reader:
         return table, self.listed(self.assign), self.where(self.own_field)
 
     def command(self):
-        """The command: its keywords, and its arguments."""
+        """Reads the command, and returns its keywords and its arguments."""
         word = self.take_kind("fixed")
         if word in (b"DROP", b"SCAN") and self.takes(b"INDEX"):
             return word + b" INDEX", self.name()
@@ -291,7 +291,7 @@ class Reader:
 
 
 def read(line):
-    """The command of a line, or None for a comment or an empty line. Raises the refusal 10, 11, 12 or 13."""
+    """Returns the command of a line, or None for a comment or an empty line. Raises the refusal 10, 11, 12 or 13."""
     line = line.removesuffix(b"\r")
     refuse(10, len(line) > LONGEST_LINE)
     if line.startswith(b"--") or not line.strip(b" \t"):
@@ -317,14 +317,14 @@ def shown_rows(rows):
 
 
 class Table(NamedTuple):
-    """A table: its columns, its rows by key, and its indexes. It is immutable; a change creates a new one."""
+    """An immutable table: its columns, its rows by key, and its indexes. A change creates a new table."""
 
     columns: tuple
     rows: dict
     indexes: tuple
 
     def place(self, name):
-        """The position of a column, or None."""
+        """Returns the position of a column, or None."""
         return next((place for place, column in enumerate(self.columns) if column.name == name), None)
 
     def column(self, name):
@@ -337,7 +337,7 @@ class Table(NamedTuple):
         return [self.rows[key] for key in sorted(self.rows)]
 
     def index_on(self, name, kind):
-        """The name of the oldest index of a kind on a column, or None."""
+        """Returns the name of the oldest index of a kind on a column, or None."""
         indexes = ((b"#key", self.columns[self.key()].name, b"TREE"), *self.indexes)
         return next((index for index, column, its_kind in indexes if (column, its_kind) == (name, kind)), None)
 
@@ -347,7 +347,7 @@ def aliases_of(test):
 
 
 def joins_of(query, place):
-    """The tests that join a table of FROM: its own field, the field of an earlier table, and whether the test has no shift."""
+    """Returns the tests that join a table of FROM: its own field, the field of an earlier table, and whether the test has no shift."""
     alias, earlier = query.items[place][1], [alias for _, alias in query.items[:place]]
     joins = []
     for left, operator, right in query.tests:
@@ -358,7 +358,7 @@ def joins_of(query, place):
 
 
 class Database:
-    """The tables, the standing queries, and in a transaction the rows at its BEGIN and at each savepoint."""
+    """The tables, the standing queries, and in a transaction the rows at BEGIN and at each savepoint."""
 
     def __init__(self):
         self.tables, self.standing = {}, {}
@@ -416,7 +416,7 @@ class Database:
         return b"ok\n"
 
     def rows(self):
-        """The rows of each table. Later changes do not alter them."""
+        """Returns the rows of each table. Later changes do not alter them."""
         return {name: table.rows for name, table in self.tables.items()}
 
     def go_back(self, rows):
@@ -424,7 +424,7 @@ class Database:
         self.tables = {name: table._replace(rows=rows[name]) for name, table in self.tables.items()}
 
     def is_mismatch(self, tables, test):
-        """Whether the sides of a test or an assignment differ in type, or a text has a shift."""
+        """Returns whether the sides of a test or an assignment differ in type, or a text has a shift."""
         left = tables[test.left.alias].column(test.left.column).type
         named = test.right.field
         right = tables[named.alias].column(named.column).type if named else type_of(test.right.literal)
@@ -450,7 +450,7 @@ class Database:
         return b"ok\n"
 
     def owner(self, index):
-        """The name of the table that has an index, or None."""
+        """Returns the name of the table that has an index, or None."""
         return next((name for name, table in self.tables.items() if index in [named for named, _, _ in table.indexes]), None)
 
     def do_index(self, index, name, column, kind):
@@ -497,7 +497,7 @@ class Database:
         return b"ok %d\n" % len(met)
 
     def checked_table(self, name, assigns, tests):
-        """The table of an UPDATE or a DELETE. Raises the refusals for its names and types."""
+        """Returns the table of an UPDATE or a DELETE. Raises the refusals for its names and types."""
         refuse(20, name not in self.tables)
         table, every = self.tables[name], [*assigns, *tests]
         fields = [test.left for test in every] + [test.right.field for test in every if test.right.field]
@@ -512,7 +512,7 @@ class Database:
         return [combination[b""] for combination in self.combinations(query)]
 
     def change(self, name, pairs):
-        """Replaces old rows by new ones. An old row of None makes it an insert."""
+        """Replaces old rows with new ones. If an old row is None, inserts the new one."""
         table = self.tables[name]
         key, old_keys = table.key(), {old[table.key()] for old, _ in pairs if old}
         new = [row for _, row in pairs]
@@ -536,11 +536,11 @@ class Database:
             raise Refused(47)
 
     def rows_without(self, name, keys):
-        """The rows of a table by key, without some keys."""
+        """Returns the rows of a table by key, without some keys."""
         return {key: row for key, row in self.tables[name].rows.items() if key not in keys}
 
     def referred_keys(self, name, gone):
-        """The keys of a table that rows of other tables refer to, without the rows with the keys in `gone`."""
+        """Returns the keys of a table that rows of other tables refer to, ignoring the rows with the keys in `gone`."""
         keys = set()
         for other, table in self.tables.items():
             places = [place for place, column in enumerate(table.columns) if column.target == name]
@@ -548,7 +548,7 @@ class Database:
         return keys
 
     def with_referring(self, name, keys):
-        """For each table, the keys of the rows deleted with those of one table: the rows whose CASCADE columns refer to a deleted row."""
+        """Returns, for each table, the keys of the rows deleted with those of one table: rows whose CASCADE columns refer to a deleted row."""
         gone = {other: set(keys if other == name else ()) for other in self.tables}
         while more := [(other, key) for other in self.tables for key in self.referring_keys(other, gone) - gone[other]]:
             for other, key in more:
@@ -556,7 +556,7 @@ class Database:
         return gone
 
     def referring_keys(self, name, gone):
-        """The keys of a table's rows that refer to a row in `gone` by a CASCADE column."""
+        """Returns the keys of a table's rows that refer to a row in `gone` by a CASCADE column."""
         table = self.tables[name]
         targets = [(place, gone[column.target]) for place, column in enumerate(table.columns) if column.cascades]
         return {key for key, row in table.rows.items() if any(row[place] in keys for place, keys in targets)}
@@ -587,7 +587,7 @@ class Database:
         refuse(48, len(query.tests) > MOST_TESTS or len(query.order) > MOST_PLACES)
 
     def value(self, value, tables, rows):
-        """The value of the right side of a test or an assignment, given a row for each alias."""
+        """Returns the value of the right side of a test or an assignment, with a row for each alias."""
         if value.field is None:
             return value.literal
         found = rows[value.field.alias][tables[value.field.alias].place(value.field.column)]
@@ -598,7 +598,7 @@ class Database:
         return OPERATORS[test.operator](left, self.value(test.right, tables, rows))
 
     def combinations(self, query):
-        """The combinations of rows that satisfy the tests of a query, each with a row for each alias."""
+        """Returns the combinations of rows that satisfy the tests of a query. A combination has a row for each alias."""
         tables = {alias: self.tables[name] for name, alias in query.items}
         found = iter([{}])
         for place, (name, alias) in enumerate(query.items):
@@ -608,7 +608,7 @@ class Database:
         return found
 
     def extended(self, combinations, alias, tables, tests):
-        """The combinations extended by each row of one more table that satisfies these tests."""
+        """Yields the combinations extended by each row of one more table that satisfies these tests."""
         for combination in combinations:
             for row in tables[alias].in_order():
                 rows = {**combination, alias: row}
@@ -663,7 +663,7 @@ class Database:
         return b"".join(alias + b" " + step + b"\n" for (_, alias), step in zip(query.items, steps)) + b"steps %d\n" % len(steps)
 
     def first_access(self, query):
-        """The access path of the first table of a query."""
+        """Returns the access path of the first table of a query."""
         name, alias = query.items[0]
         constants = [(test.operator == b"=", test.left.column) for test in query.tests if test.left.alias == alias and not test.right.field]
         for is_equality, kind, step in ((True, b"HASH", b"hash %s"), (True, b"TREE", b"tree %s ="), (False, b"TREE", b"tree %s range")):
@@ -674,7 +674,7 @@ class Database:
         return b"scan"
 
     def next_access(self, query, place, is_first_scanned):
-        """The join method of a further table of a query."""
+        """Returns the join method of a further table of a query."""
         names = {alias: name for name, alias in query.items}
         first, name = query.items[0][0], query.items[place][0]
         table, joins = self.tables[name], joins_of(query, place)

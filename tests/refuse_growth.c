@@ -1,25 +1,26 @@
-/* A preloaded library that makes one growth of memory of a single-threaded program fail, as if memory had run out:
+/* A preloaded library that fails one allocation of a single-threaded program, as if memory had run out:
 
      cc -shared -fPIC -o refuse_growth.so refuse_growth.c
      LD_PRELOAD=./refuse_growth.so REFUSE_GROWTH=7 REFUSE_GROWTH_REPORT=3 PROGRAM < INPUT > OUTPUT 3> REPORT
 
-   A growth is a call of malloc or calloc, or of realloc to a larger size than the block was requested with. Growths are
-   counted from 1. The growth with the number REFUSE_GROWTH returns NULL with ENOMEM. With 7+ instead of 7, all growths
-   from the seventh fail until the program has written to standard output. With 0 or without the variable, none fails. At
-   its end the program writes a line to the descriptor REFUSE_GROWTH_REPORT:
+   An allocation, here also called a growth, is a call of malloc or calloc, or of realloc to a larger size than the block
+   was requested with. Allocations are counted from 1. The allocation with the number REFUSE_GROWTH returns NULL with
+   ENOMEM. With 7+ instead of 7, all allocations from the seventh fail until the program has written to standard output.
+   With 0 or without the variable, none fails. At its end, the program writes a line to the descriptor
+   REFUSE_GROWTH_REPORT:
 
      GROWTHS READ WRITTEN
 
-   These are the number of growths, and the bytes of standard input and standard output up to the first growth that
-   failed, or -1 if none failed. Input and output must be files for this.
+   These are the number of allocations, and the bytes of standard input and standard output up to the first allocation
+   that failed, or -1 if none failed. Input and output must be files for this.
 
-   Only growths of the program itself count. The dynamic linker may allocate by these functions, but not after it has run
-   the constructor of this library, which is before the program's own code. The C library allocates nothing for a program
-   that only reads and writes descriptors, as mmdb and the test programs do. So the first growth of mmdb is the buffer of
-   its output, and the second comes after the first read; the first growth of a test program is one of its test.
+   Only allocations of the program itself count. The dynamic linker may call these functions, but not after it has run the
+   constructor of this library, which precedes the program's own code. The C library allocates nothing for a program that
+   only reads and writes descriptors, as mmdb and the test programs do. So the first allocation of mmdb is the buffer of
+   its output, and the second follows the first read. The first allocation of a test program belongs to its test.
 
-   The programs allocate only with malloc and realloc. The library does not support posix_memalign and the like: a block
-   from them must not be passed to realloc. */
+   The programs allocate only with malloc and realloc. The library does not support posix_memalign and similar functions:
+   a block from them must not be passed to realloc. */
 #include <errno.h>
 #include <malloc.h>
 #include <stdint.h>
@@ -40,7 +41,7 @@ static unsigned long growths = 0;
 static long bytes_read = -1;
 static long bytes_written = -1;
 
-/* Counts a growth, and returns whether it fails. */
+/* Counts an allocation, and returns whether it fails. */
 static int is_refused(void) {
   if (!counts || ++growths < refused || refused == 0) return 0;
   long written = lseek(STDOUT_FILENO, 0, SEEK_CUR);
@@ -54,8 +55,8 @@ static int is_refused(void) {
   return 1;
 }
 
-/* The last bytes of each block, which is larger by that much, store the requested size. The C library knows only the
-   rounded size, by which a small growth would not be one. */
+/* Each block is larger by the size of a size_t, and stores the requested size in its last bytes. The C library knows only
+   the rounded size, which hides a small growth of a block. */
 static size_t with_room(size_t size) { return size > SIZE_MAX - sizeof size ? SIZE_MAX : size + sizeof size; }
 
 static char *place_of_size(void *block) { return (char *)block + malloc_usable_size(block) - sizeof(size_t); }

@@ -1,36 +1,37 @@
 #!/usr/bin/env python3
-"""Runs scripts and typed tests with failing allocations: in each run, one growth of memory fails.
+"""Runs scripts and typed tests with failing allocations: in each run, one allocation fails.
 
     tests/refused_growths.py [PROGRAM]
     tests/refused_growths.py --scripts PROGRAM
     tests/refused_growths.py --tests CRATE..
 
-The second form runs only the scripts, and the third only the typed tests of some crates. A growth is an allocation, or a reallocation to
-a larger block (refuse_growth.c).
+The second form runs only the scripts, and the third only the typed tests of some crates. A reallocation to a larger block counts as an
+allocation (refuse_growth.c). In names, a growth is such an allocation.
 
-Scripts. They are those of tests/rows and examples, and some with transactions and standing queries that are generated here. Each script
-runs once for each growth of its run, and the nth growth fails in the nth run. The replies must be those of the run without failures,
-except that the line whose growth failed may get 'error 90 memory' if it is a line that allocates. Then
+Scripts. The scripts are those of tests/rows and examples, and generated ones with transactions and standing queries. Each script runs once
+for each allocation of its run, and the nth allocation fails in the nth run. The replies must be those of the run without failures. Only the
+line whose allocation failed may get 'error 90 memory', and only if its command may allocate. Then
 
 - the later lines must get the replies that they get without the failed line, since a failed line changes nothing;
-- in another run the failed line occurs twice, and all replies but the 90 must be right, since the line can be repeated.
+- in another run, the failed line occurs twice, and all replies except the 90 must be correct, since the line can be repeated.
 
-If no reply shows the failure, because the program retries or does without the memory, another run fails all growths from the nth up to
-the reply, and the same must hold. If the buffer of the output cannot be allocated, the run must end with status 2 and write nothing.
+If no reply shows the failure, because the program retries or does not need the allocation, another run fails all allocations from the nth
+up to the reply, and the same must hold. If the buffer of the output cannot be allocated, the run must end with status 2 and write nothing.
 
-Transactions. Each transaction is also cut after each of its lines, and the shorter script is tested in the same way, with the growths
-from BEGIN on; the runs of the whole script cover the earlier ones. If the cut transaction ends with ROLLBACK, scans, queries and standing
-queries must then return what they returned before BEGIN, except by indexes that the transaction created or dropped. If it ends with
-COMMIT, another transaction must be able to begin. The generated scripts also set a savepoint in the middle of the shorter transaction
-and end with ROLLBACK TO: they must then return what they returned at the savepoint. A program without transactions fails.
+Transactions. Each transaction is also cut after each of its lines. The shorter script is tested in the same way, with the allocations from
+BEGIN on, since the runs of the whole script cover the earlier ones. If the cut transaction ends with ROLLBACK, scans, queries and standing
+queries must then return the rows from before BEGIN, except by indexes that the transaction created or dropped. If it ends with COMMIT,
+another transaction must be able to begin. The generated scripts also set a savepoint in the middle of the shorter transaction and end with
+ROLLBACK TO. Then the same queries must return the rows from the savepoint. A program without transactions fails.
 
-Typed tests. They are the #[test] functions whose names end in _growths. The test program that 'rt ci' leaves in a crate's out/,
-CRATE_tests, runs each test alone, once for each growth of its run, and the nth growth fails in the nth run; the program itself allocates
+Typed tests. These are the #[test] functions whose names end in _growths. 'rt ci' leaves the test program CRATE_tests in a crate's out/. The
+program runs each test alone, once for each allocation of its run, and the nth allocation fails in the nth run. The program itself allocates
 nothing. Each run must pass. If the call under test fails, the test prints the line 'refused', checks that nothing has changed, and repeats
-the call. If it prints no such line, because a list retries or the call does without the memory, another run fails all growths from the
-nth up to that line. A test that prints it in no run proves nothing, and fails. So does a test that its crate's program does not have.
+the call. If no such line is printed, because a list retries or the call does not need the allocation, another run fails all allocations
+from the nth up to that line. A test that prints the line in no run proves nothing, and fails. A test that is missing in its crate's program
+also fails.
 
-The C compiler, cc, builds the library that fails growths, refuse_growth.c, in a temporary folder. The exit status is 0 if there were
+The C compiler, cc, builds the library that fails allocations, refuse_growth.c, in a temporary folder. The exit status is 0 if there were
 scripts and tests to run, and all passed.
 """
 
@@ -57,20 +58,20 @@ INDEX_COMMAND = re.compile(rb"[ \t]*(?:DROP[ \t]+)?INDEX[ \t]+([a-z][a-z0-9_]*)"
 QUESTION = {b"TABLE": b"SCAN ", b"INDEX": b"SCAN INDEX ", b"WATCH": b"SHOW "}
 SECONDS = 60
 
-# A typed test in a source file and in the list of a test program, and what it prints after a failed call and at its end.
+# A typed test in a source file and in the list of a test program, and its output after a failed call and at its end.
 TYPED_TEST = re.compile(r"#\[test\]\s+(?:#\[[^{}]*?\]\s+)*fn (\w+_growths)\(")
 LISTED_TEST = re.compile(r"^(\S+_growths): test$", re.MULTILINE)
 WAS_REFUSED = b"refused\n"
 TEST_PASSED = b"\ntest result: ok\n"
 
-# A run with very many growths fails each of the first ones, and then one in THEN_ONE_IN.
+# If a run has very many allocations, each of the first ones fails, and then one in THEN_ONE_IN.
 EACH_OF_THE_FIRST = 2000
 THEN_ONE_IN = 37
 GROWTHS_OF_A_TASK = 25
 
 
 def rows(first, last):
-    """Rows with the keys from first to last, whose numbers and texts repeat."""
+    """Returns rows with the keys from first to last, whose numbers and texts repeat."""
     return ", ".join(f"({key}, {key * 7 % 23}, 'text {key % 9}')" for key in range(first, last + 1))
 
 
@@ -97,8 +98,8 @@ SELECT x.id FROM t x WHERE x.k >= 5 AND x.k < 9
 SELECT x.k FROM t x WHERE x.id = 17
 """
 
-# Two tables, one of which refers to the other. The queries follow the references. The lines after them are refused before BEGIN because of
-# references, so they must be refused after ROLLBACK.
+# Two tables, one of which refers to the other. The queries follow the references. Because of references, the lines after them are refused
+# before BEGIN, so they must also be refused after ROLLBACK.
 REFERRING = f"""
 TABLE a (id INT KEY, k INT, name TEXT)
 TABLE b (id INT KEY, r INT REF a)
@@ -200,12 +201,12 @@ def lines_of(text):
 
 
 def words(line):
-    """A line without a final carriage return and without the blanks around it."""
+    """Returns a line without a final carriage return and without the blanks around it."""
     return line.removesuffix(b"\r").strip(b" \t")
 
 
 def takes_no_memory(line):
-    """Whether the line begins or ends a transaction, or rolls back to a savepoint."""
+    """Returns whether the line never allocates: it begins or ends a transaction, or rolls back to a savepoint."""
     return words(line) in BEGINS_OR_ENDS or GOES_BACK.fullmatch(words(line)) is not None
 
 
@@ -218,7 +219,7 @@ def has_reply(line):
 
 
 def replies_in(written):
-    """The complete replies in the output, and the rest after them."""
+    """Returns the complete replies in the output, and the rest after them."""
     replies, reply = [], b""
     for line in io.BytesIO(written):
         reply += line
@@ -229,12 +230,12 @@ def replies_in(written):
 
 
 def shown(value):
-    """The start of a line or a reply, for messages."""
+    """Returns the start of a line or a reply, for messages."""
     return str(value)[1:160]
 
 
 def difference(lines, wanted, replies):
-    """The first line of a script with a wrong reply, or None."""
+    """Returns the first line of a script with a wrong reply, or None."""
     answered = [line for line in lines if has_reply(line)]
     for line, one, other in itertools.zip_longest(answered, wanted, replies, fillvalue=b"(nothing)"):
         if one != other:
@@ -243,7 +244,7 @@ def difference(lines, wanted, replies):
 
 
 class Run:
-    """The output of a run, and how far it was when the growth failed."""
+    """The output of a run, and its progress when the allocation failed."""
 
     def __init__(self, written, ended, report):
         self.growths, self.bytes_read, bytes_written = map(int, report.split() or [0, -1, -1])
@@ -255,8 +256,8 @@ class Run:
 
 
 def ran(command, library, refused="0", given=b"", **files):
-    """The output of a command, how it ended, and the library's report. `refused` is the number of the growth that fails; with a final '+', all
-    growths from it to the next output fail."""
+    """Runs a command. Returns its output, how it ended, and the library's report. `refused` is the number of the allocation that fails; with
+    a final '+', all allocations from there to the next output fail."""
     with tempfile.TemporaryFile() as script, tempfile.TemporaryFile() as written, tempfile.TemporaryFile() as report:
         script.write(given)
         script.seek(0)
@@ -278,13 +279,13 @@ class Program:
         self.knows_transactions = self.run([b"BEGIN", b"ROLLBACK"]).replies != [b"error 11 syntax\n"] * 2
 
     def run(self, lines, refused="0"):
-        """The run of some lines in which a growth fails; with a final '+', all growths from it to the reply."""
+        """Returns the run of some lines in which an allocation fails; with a final '+', all allocations from there to the reply fail."""
         return Run(*ran([self.path], self.library, refused, b"\n".join(lines)))
 
 
 class Script:
-    """A script and its replies. `granted` are the lines that must get `ok`, and `same` pairs of lines that must get the same reply, by their
-    numbers. Growths fail from the line `start` on."""
+    """A script and its replies. `granted` are the numbers of the lines that must get `ok`. `same` are pairs of numbers of lines that must get
+    the same reply. Allocations fail from the line `start` on."""
 
     def __init__(self, program, name, lines, granted=(), same=(), start=0):
         self.program, self.name, self.lines = program, name, lines
@@ -301,7 +302,7 @@ class Script:
         return [*range(self.growths_before + 1, min(self.growths, each) + 1), *behind]
 
     def fault(self):
-        """What is wrong with the run without failures, or None."""
+        """Returns the fault of the run without failures, or None."""
         if not self.growths:
             return "the run ended early, or the library was not loaded"
         if len(self.replies) != len(self.answered):
@@ -309,12 +310,12 @@ class Script:
         return self.broken_promise(self.replies)
 
     def fault_where_refused(self, refused):
-        """What is wrong with the run in which a growth fails, or None."""
+        """Returns the fault of the run in which an allocation fails, or None."""
         run = self.program.run(self.lines, refused)
         if run.bytes_read == 0:
             return None if run.replies == [b"status 2"] else f"the output has no buffer, but the run wrote {run.replies}"
         if run.bytes_read < 0:
-            return difference(self.lines, self.replies, run.replies) or "the run has no such growth"
+            return difference(self.lines, self.replies, run.replies) or "the run has no such allocation"
         if run.replies == self.replies:
             return None if refused.endswith("+") else self.fault_where_refused(refused + "+")
         at = run.lines_answered
@@ -333,7 +334,7 @@ class Script:
         return not takes_none and not is_too_long(line)
 
     def fault_behind(self, replies, at):
-        """What is wrong with the replies after a 90, whose line must have changed nothing."""
+        """Returns the fault in the replies after a 90, whose line must have changed nothing, or None."""
         if at not in self.replies_without:
             place = self.answered[at]
             self.replies_without[at] = self.program.run(self.lines[:place] + self.lines[place + 1 :]).replies
@@ -341,14 +342,14 @@ class Script:
         return difference(self.lines, others[:at] + [MEMORY] + others[at:], replies)
 
     def fault_given_twice(self, refused, at):
-        """What is wrong with the run in which the failed line occurs twice."""
+        """Returns the fault of the run in which the failed line occurs twice, or None."""
         place = self.answered[at]
         lines = self.lines[: place + 1] + self.lines[place:]
         wrong = difference(lines, self.replies[:at] + [MEMORY] + self.replies[at:], self.program.run(lines, refused).replies)
         return wrong and f"with the line repeated: {wrong}"
 
     def broken_promise(self, replies):
-        """The first line that did not get the `ok` or the repeated reply that it must get, or None."""
+        """Returns the first line that did not get the required `ok` or the required repeated reply, or None."""
         reply_to = dict(zip(self.answered, replies))
         for place in self.granted:
             # If SAVEPOINT failed, there is no savepoint to roll back to.
@@ -365,7 +366,7 @@ class Script:
 
 
 def transactions(script):
-    """The places of each successful BEGIN and of the end of its transaction or of the script."""
+    """Yields the places of each successful BEGIN and of the end of its transaction or of the script."""
     begin = None
     for place, reply in zip(script.answered, script.replies):
         if reply == b"ok\n" and words(script.lines[place]) in BEGINS_OR_ENDS:
@@ -377,21 +378,21 @@ def transactions(script):
 
 
 def questions(before, queries=()):
-    """Lines that read everything that the lines before them have defined."""
+    """Returns lines that read all tables, indexes and standing queries that the lines before them have defined."""
     defined = dict.fromkeys(found.groups() for found in map(DEFINITION.match, before) if found)
     return [*(QUESTION[kind] + name for kind, name in defined), b"TABLES", *queries]
 
 
 def compared(asked, first, then, inside):
-    """The pairs of places of queries that run twice, with some lines in between, and must get the same reply: all except those about an index
-    that such a line creates or drops."""
+    """Returns the pairs of places of queries that run twice, before and after some lines, and must get the same reply. Excludes queries about
+    an index that these lines create or drop."""
     indexes = [found.group(1) for found in map(INDEX_COMMAND.match, inside) if found]
     left_out = [QUESTION[b"INDEX"] + name for name in indexes] + ([b"TABLES"] if indexes else [])
     return [(first + number, then + number) for number, line in enumerate(asked) if line not in left_out]
 
 
 def cuts(script, queries=()):
-    """Two scripts for each line of a script's transactions, which end the transaction after that line."""
+    """Yields two scripts for each line of a script's transactions, which end the transaction after that line."""
     for begin, end in transactions(script):
         before = script.lines[:begin]
         asked = questions(before, queries)
@@ -409,8 +410,8 @@ def cuts(script, queries=()):
 
 
 def divisions(script, queries):
-    """A script for each line of a script's transactions: it sets a savepoint in the middle of the lines up to there, and rolls back to it after
-    them. Skips lines that roll back in between, since they may remove the savepoint."""
+    """Yields a script for each line of a script's transactions. The script sets a savepoint in the middle of the lines up to that line, and
+    rolls back to it after them. Skips lines that roll back in between, since they may remove the savepoint."""
     for begin, end in transactions(script):
         asked = questions(script.lines[:begin], queries)
         for behind in range(begin + 1, end):
@@ -427,14 +428,14 @@ def divisions(script, queries):
 
 
 def kept_scripts(program):
-    """The scripts of tests/rows and examples."""
+    """Yields the scripts of tests/rows and examples."""
     for path in sorted(glob.glob(f"{TOP}/tests/rows/**/*.in", recursive=True)) + sorted(glob.glob(f"{TOP}/examples/*.mmdb")):
         with open(path, "rb") as file:
             yield Script(program, os.path.relpath(path, TOP), file.read().split(b"\n"))
 
 
 def made_scripts(program):
-    """The generated scripts with transactions, whole and cut."""
+    """Yields the generated scripts with transactions, whole and cut."""
     made = [
         ("indexed", INDEXED, INDEXED_QUERIES),
         ("referring", REFERRING, REFERRING_QUERIES),
@@ -450,7 +451,7 @@ def made_scripts(program):
 
 
 def all_scripts(program):
-    """All scripts. Transactions are generated and cut only if the program knows them."""
+    """Returns all scripts. Transactions are generated and cut only if the program supports them."""
     scripts = list(kept_scripts(program))
     if program.knows_transactions:
         scripts += [cut for script in scripts for cut in cuts(script)]
@@ -459,23 +460,23 @@ def all_scripts(program):
 
 
 def tasks_of(script):
-    """The growths of a script's run that fail, in batches."""
+    """Returns the allocations of a script's run that fail, in batches."""
     growths, all_growths = script.chosen_growths(), script.growths - script.growths_before
     if len(growths) < all_growths:
         chosen = f"the first {EACH_OF_THE_FIRST} and then one in {THEN_ONE_IN}"
-        print(f"{script.name}: of {all_growths} growths, {chosen} fail")
+        print(f"{script.name}: of {all_growths} allocations, {chosen} fail")
     return [(script, growths[start : start + GROWTHS_OF_A_TASK]) for start in range(0, len(growths), GROWTHS_OF_A_TASK)]
 
 
 def faults_of(task):
-    """The name of a script, and what is wrong when these growths fail."""
+    """Returns the name of a script, and the faults of the runs in which these allocations fail."""
     script, growths = task
     faults = [(growth, script.fault_where_refused(str(growth))) for growth in growths]
-    return script.name, [f"growth {growth}, {fault}" for growth, fault in faults if fault]
+    return script.name, [f"allocation {growth}, {fault}" for growth, fault in faults if fault]
 
 
 def failures(scripts):
-    """The number of scripts that fail. Prints the first fault of each, and the number of further faults."""
+    """Returns the number of scripts that fail. Prints the first fault of each, and the number of further faults."""
     faults = {script.name: [fault] if (fault := script.fault()) else [] for script in scripts}
     tasks = [task for script in scripts for task in tasks_of(script)]
     with multiprocessing.Pool(os.cpu_count()) as pool:
@@ -484,34 +485,34 @@ def failures(scripts):
     for name, found in faults.items():
         if found:
             print(f"failed: {name}: {found[0]}" + (f" (and {len(found) - 1} more)" if found[1:] else ""))
-    print(f"{sum(len(growths) for _, growths in tasks)} growths failed, in runs of {len(scripts)} scripts")
+    print(f"{sum(len(growths) for _, growths in tasks)} allocations failed, in runs of {len(scripts)} scripts")
     return sum(1 for found in faults.values() if found)
 
 
 def lacks_transactions(program):
-    """Whether the program has no transactions, which is a failure. Prints it."""
+    """Returns whether the program has no transactions, which is a failure. Prints a message if so."""
     if not program.knows_transactions:
-        print("failed: the program does not know BEGIN, so no transaction is tested")
+        print("failed: the program does not support BEGIN, so no transaction is tested")
     return not program.knows_transactions
 
 
 class TypedTest:
-    """A test of a crate, which its test program runs alone."""
+    """A typed test of a crate. The crate's test program runs it alone."""
 
     def __init__(self, crate, name, library):
         self.name, self.library = f"{crate} {name}", library
         self.command = [test_program(crate), name]
 
     def run(self, refused):
-        """Whether a growth failed, whether a call under test failed, and what is wrong, or None."""
+        """Runs the test. Returns whether an allocation failed, whether a call under test failed, and the fault, or None."""
         written, ended, report = ran(self.command, self.library, refused, stderr=subprocess.STDOUT)
         was_refused = int((report.split() or [0, -1])[1]) >= 0
         if ended != b"status 0" or not written.endswith(TEST_PASSED):
-            return was_refused, False, f"growth {refused}: the test ended with {ended.decode()} and wrote {shown(written)}"
+            return was_refused, False, f"allocation {refused}: the test ended with {ended.decode()} and wrote {shown(written)}"
         return was_refused, WAS_REFUSED in written, None
 
     def refusals(self):
-        """The number of growths that failed in runs of the test, up to the first fault, and the fault, or None."""
+        """Returns the number of allocations that failed in runs of the test, up to the first fault, and the fault, or None."""
         calls_refused = 0
         for growth in itertools.count(1):
             was_refused, call_refused, fault = self.run(str(growth))
@@ -523,7 +524,7 @@ class TypedTest:
                 break
             calls_refused += call_refused
         if not fault and call_refused:
-            fault = "a call under test failed although no growth did"
+            fault = "a call under test failed although no allocation did"
         if not fault and not calls_refused:
             fault = f"no call under test failed in {growth - 1} runs"
         return growth - 1, fault
@@ -534,7 +535,7 @@ def test_program(crate):
 
 
 def tests_in_sources(crate):
-    """The names of the typed tests in a crate's sources, with their modules, as its test program names them."""
+    """Yields the names of the typed tests in a crate's sources, with their modules, as its test program names them."""
     sources = f"{TOP}/crates/{crate}/src"
     for path in glob.glob(f"{sources}/**/*.rt", recursive=True):
         module = os.path.relpath(path, sources).removesuffix(".rt").replace("/", "::")
@@ -543,7 +544,7 @@ def tests_in_sources(crate):
 
 
 def tests_in_program(crate):
-    """The names of the typed tests in a crate's test program: none if there is no such program."""
+    """Returns the names of the typed tests in a crate's test program, or an empty list if the program cannot run."""
     try:
         listed = subprocess.run([test_program(crate), "--list"], check=True, capture_output=True, text=True).stdout
     except (OSError, subprocess.CalledProcessError):
@@ -552,7 +553,7 @@ def tests_in_program(crate):
 
 
 def typed_tests(crates, library):
-    """The typed tests in the programs of some crates, and the number of tests that these lack. Prints the missing ones."""
+    """Returns the typed tests in the programs of some crates, and the number of tests that are missing there. Prints the missing tests."""
     tests, missing = [], 0
     for crate in crates:
         wanted, found = set(tests_in_sources(crate)), set(tests_in_program(crate))
@@ -568,7 +569,7 @@ def refusals_of(test):
 
 
 def failed_tests(tests):
-    """The number of typed tests that fail. Prints what is wrong with each."""
+    """Returns the number of typed tests that fail. Prints the fault of each."""
     growths, failed = 0, 0
     with multiprocessing.Pool(os.cpu_count()) as pool:
         for name, refused, fault in pool.imap(refusals_of, tests):
@@ -576,24 +577,24 @@ def failed_tests(tests):
             if fault:
                 print(f"failed: {name}: {fault}")
                 failed += 1
-    print(f"{growths} growths failed, in runs of {len(tests)} typed tests")
+    print(f"{growths} allocations failed, in runs of {len(tests)} typed tests")
     return failed
 
 
 def library_in(folder):
-    """Builds the library that fails growths in a folder, and returns its path."""
+    """Builds the library that fails allocations in a folder, and returns its path."""
     library = f"{folder}/refuse_growth.so"
     try:
         subprocess.run(["cc", "-O2", "-shared", "-fPIC", "-o", library, f"{TOP}/tests/refuse_growth.c"], check=True)
     except FileNotFoundError:
-        sys.exit("No C compiler cc, so no allocation can be made to fail.")
+        sys.exit("The C compiler cc is missing. The library that fails allocations needs it.")
     except subprocess.CalledProcessError:
-        sys.exit("The C compiler cannot build tests/refuse_growth.c, so no allocation can be made to fail.")
+        sys.exit("The C compiler cannot build tests/refuse_growth.c, the library that fails allocations.")
     return library
 
 
 def run_scripts(path, library):
-    """The number of checks of scripts, with that of transactions, and the number that fail."""
+    """Returns the number of checks of scripts, including the check for transactions, and the number that fail."""
     if not os.access(path, os.X_OK):
         sys.exit(f"No program at {path}. 'tools/build' builds it.")
     program = Program(path, library)
@@ -604,7 +605,7 @@ def run_scripts(path, library):
 
 
 def run_tests(crates, library):
-    """The number of typed tests of some crates, and the number that fail."""
+    """Returns the number of typed tests of some crates, and the number that fail."""
     tests, missing = typed_tests(crates, library)
     if not tests and not missing:
         sys.exit("There are no typed tests.")
@@ -612,7 +613,7 @@ def run_tests(crates, library):
 
 
 def main():
-    # A failing test aborts, and would leave a core file.
+    # A failing test aborts, which would otherwise leave a core file.
     resource.setrlimit(resource.RLIMIT_CORE, (0, 0))
     arguments = sys.argv[1:]
     with tempfile.TemporaryDirectory() as folder:

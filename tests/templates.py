@@ -3,16 +3,17 @@
 
     tests/templates.py [PROGRAM [FIRST_SEED [SEEDS]]]
 
-The program keeps the template of a SELECT, an INSERT, an UPDATE or a DELETE that comes more than once with other literals, and runs its
+The program keeps the template of a SELECT, an INSERT, an UPDATE or a DELETE that occurs more than once with other literals, and runs its
 bound form.
-Each seed writes a script that repeats some forms with other literals: small, negative and very large numbers, numbers with leading zeros,
-numbers beyond the limit, texts with quotes, question marks and minus signs, texts of the maximum length and longer ones, and values of the
-wrong type. In between the script creates and drops indexes, standing queries and a table whose columns change, and transactions commit,
-roll back, and roll back to savepoints. Some seeds have many more forms than the program keeps.
 
-Three runs get each script: one as it is; one with other blanks at the end of each line, so that no template comes twice; and one with so
-many blanks that each line is longer than those whose templates are kept. All replies must be those of tests/language.py. The exit status
-is 0 if they are.
+Each seed produces a script that repeats some forms with other literals. Numbers are small, negative or very large, have leading zeros, or
+exceed the limit. Texts contain quotes, question marks and minus signs, have the maximum length, or are longer. Some values have the wrong
+type. In between, the script creates and drops indexes, standing queries and a table whose columns change. Transactions commit, roll back,
+and roll back to savepoints. Some seeds have many more forms than the program keeps.
+
+Each script runs three times: unchanged, with different blanks at the end of each line, and with many blanks at the end of each line. With
+different blanks, no template occurs twice. With many blanks, each line is too long for a kept template. All replies must be those of
+tests/language.py. The exit status is 0 if they are.
 """
 
 import multiprocessing
@@ -43,7 +44,7 @@ INSERT c (1, 1), (2, 1), (3, 4)
 INSERT w ('a', 1), ('it''s', 2), ('?', -3)
 """
 
-# The forms of SELECT, UPDATE and DELETE. A # becomes a number, and a $ a text.
+# The forms of lines. A literal number replaces each #, and a literal text each $.
 QUERIES = b"""
 SELECT a.k FROM t a WHERE a.id = #
 SELECT a.k, a.s FROM t a WHERE a.id = # AND a.s >= $
@@ -164,7 +165,7 @@ FORMS = {name: hostile.lines_of(text) for name, text in [("query", QUERIES), ("c
 
 
 def number(rng):
-    """A number, mostly one that some rows have."""
+    """Returns a number, mostly a number that some rows contain."""
     kind = rng.random()
     if kind < 0.8:
         return b"%d" % rng.randrange(10)
@@ -176,7 +177,7 @@ def text(rng):
 
 
 def filled(rng, form):
-    """The form with literals, few of which have the wrong type."""
+    """Returns the form with literals, few of which have the wrong type."""
     of_type = {b"#": number, b"$": text}
 
     def literal(place):
@@ -187,12 +188,12 @@ def filled(rng, form):
 
 
 def renamed(rng, form):
-    """The form with another alias, so that it is another template."""
+    """Returns the form with another alias, so that its template differs."""
     return re.sub(rb"\ba\b(?!')", b"a%d" % rng.randrange(9), form)
 
 
 def burst(rng, has_many_forms):
-    """Lines of one kind: mostly one form, several times, with other literals."""
+    """Returns lines of one kind: mostly one form, several times, with different literals."""
     kind = rng.choices(["query", "change", "insert", "other", "definition", "transaction"], [36, 20, 18, 8, 12, 6])[0]
     if kind == "transaction":
         return [rng.choice(TRANSACTIONS)]
@@ -204,13 +205,13 @@ def burst(rng, has_many_forms):
 
 
 def script_of(seed):
-    """The script of a seed, with the replies of tests/language.py."""
+    """Returns the script of a seed, with the replies of tests/language.py."""
     rng = random.Random(seed)
     script = hostile.Script("", hostile.lines_of(TABLES))
     recent = []
     for _ in range(BURSTS):
         lines = burst(rng, seed % 3 == 0)
-        # Some lines come again later, in between others.
+        # Some lines occur again later, between others.
         for line in [*lines, *rng.sample(recent, min(len(recent), rng.randrange(3)))]:
             script.say(line)
         recent = [*recent, *lines][-20:]
@@ -219,13 +220,13 @@ def script_of(seed):
 
 
 def with_other_blanks(place, line):
-    """The line with blanks at its end that spell its place, so that no other line has the same."""
+    """Returns the line with blanks at its end that encode its place, so that no two lines are equal."""
     spelled = bin(place)[2:].rjust(BLANKS_THAT_DIFFER, "0")
     return line + spelled.replace("0", " ").replace("1", "\t").encode()
 
 
 def with_many_blanks(_, line):
-    """The line with so many blanks at its end that its template is not kept."""
+    """Returns the line with blanks at its end, so long that its template is not kept."""
     return line.ljust(LENGTH_BEYOND_TEMPLATES)
 
 
@@ -234,7 +235,7 @@ def as_it_is(_, line):
 
 
 def fault_of(task):
-    """What is wrong with one of the three runs of a seed's script, or None; and how many lines it has."""
+    """Returns the first fault in the three runs of a seed's script, or None, and the number of lines of the script."""
     program, seed = task
     script = script_of(seed)
     lines = script.lines

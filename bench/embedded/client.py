@@ -1,7 +1,7 @@
 #!/usr/bin/env python3
 """The look-up by key and the INSERT of work.h in Python, with the package mmdb or the module sqlite3: client.py MODULE ROWS CALLS.
 
-Prints the processor time per call in nanoseconds: of execute and fetchone, per row of one executemany, and of one execute per row.
+Prints three processor times in nanoseconds: of execute with fetchone, per row of one executemany, and of one execute per row.
 """
 
 import importlib
@@ -29,7 +29,7 @@ def opened(name):
 
 
 def look_up(connection, name, rows, calls):
-    """The time of a look-up that reads and compares its row."""
+    """Returns the processor time of a look-up, in nanoseconds. A look-up reads and compares its row."""
     line = LOOK_UP[name]
     before = time.process_time_ns()
     for i in range(calls):

@@ -1,5 +1,5 @@
-//! The look-up by key and the INSERT of work.h in Rust: client ROWS CALLS. Prints the processor time per call in nanoseconds: of a look-up,
-//! per row of one `execute_many`, and of one `execute` per row. The inserts of each kind are in one transaction.
+//! The look-up by key and the INSERT of work.h in Rust: client ROWS CALLS. Prints three processor times in nanoseconds: of a look-up, per row
+//! of one `execute_many`, and of one `execute` per row. The inserts of each kind are in one transaction.
 
 use mmdb::{Connection, Result};
 
@@ -13,7 +13,7 @@ extern "C" {
     fn clock_gettime(clock: i32, time: *mut Time) -> i32;
 }
 
-/// The processor time of the process in nanoseconds.
+/// Returns the processor time of the process in nanoseconds.
 fn processor_time() -> i64 {
     const CLOCK_PROCESS_CPUTIME_ID: i32 = 2;
     let mut time = Time { seconds: 0, nanoseconds: 0 };

@@ -1,4 +1,4 @@
-/* The workload of the benchmark of databases in a program's own process, the same for each database.
+/* The workload of the benchmark of databases within one process, the same for each database.
 
    The table t has rows (k, h, r, v, w): k is the key, h has a HASH index (in SQLite a B-tree), and r a TREE index. The table c has rows (id, p), and p refers
    to t. */
@@ -19,7 +19,7 @@ static const size_t work_parameters[WORKS] = {1, 1, 2, 1, 4, 2, 2, 1, 2};
 /* A permutation of the numbers below `rows`, if `rows` is not a multiple of 7919. */
 static int64_t mixed(int64_t i, int64_t rows) { return (i * 7919 + 12345) % rows; }
 
-/* The parameters of call number i. */
+/* Writes the parameters of call number i to `out`. */
 static void parameters(enum work work, int64_t i, int64_t rows, int64_t *out) {
   int64_t k = mixed(i, rows);
   switch (work) {

@@ -1,8 +1,8 @@
 """Compares the structures of references with plain Rust, for bench/all.
 
 The program `bench_structures` and bench/structures/plain.rs use the same keys, orders and counts, and their runs alternate. Figures are
-medians of the runs: nanoseconds per entry of each pass, and bytes of heap per entry after the ascending and the other inserts, from one
-more run with bench/structures/live.c. It stops if a pass finds other entries than that of the plain structure.
+medians of the runs, in nanoseconds per entry of each pass. One more run with bench/structures/live.c measures the bytes of heap per entry
+after the ascending and the other inserts. The program stops if two structures with the same algorithm find different entries in a pass.
 """
 import os
 import shutil
@@ -16,7 +16,7 @@ HERE = Path(__file__).resolve().parent
 OURS = HERE.parent.parent / "crates" / "bench_structures" / "out" / "bench_structures"
 PASSES = ["ascending", "insert", "look-up", "walk", "remove"]
 # The bytes per entry of other tables (keys, shuffled entries, references) that are allocated when the line of a pass is
-# written; for Partitions that is at the end.
+# written. For Partitions, the line is written at the end.
 BESIDE = {"ascending": 8, "insert": 32}
 BESIDE_BY_HASH = {name: 24 for name in ["HashRefs", "HashRefs_of_25", "LinearHash", "LinearHash_of_25", "HashMap"]}
 BESIDE_UNORDERED = {**BESIDE_BY_HASH, "Partitions": 0, "slots": 16}
@@ -30,7 +30,7 @@ PLAIN = {
 
 
 def build(folder):
-    """Builds the two programs, and returns them with their arguments, and the library that counts their memory."""
+    """Builds the two programs. Returns their commands, and the library that counts their memory."""
     plain = folder / "plain"
     options = ["--edition", "2021", "-C", "opt-level=3"]
     subprocess.run(["rustc", *options, "-o", plain, HERE / "plain.rs"], check=True)
@@ -40,7 +40,7 @@ def build(folder):
 
 
 def times(program):
-    """The time and the sum of a run, by structure, count and pass."""
+    """Returns the time and the sum of a run, by structure, count and pass."""
     lines = subprocess.run(program, check=True, capture_output=True, text=True).stdout.splitlines()
     taken = {}
     for structure, name, count, nanoseconds, found in map(str.split, lines):
@@ -49,7 +49,7 @@ def times(program):
 
 
 def memory(program, live):
-    """Bytes of heap per entry, by structure, count and pass."""
+    """Returns the bytes of heap per entry, by structure, count and pass."""
     preloaded = dict(os.environ, LD_PRELOAD=str(live))
     run = subprocess.run(program, check=True, capture_output=True, text=True, env=preloaded)
     held = {}
@@ -62,7 +62,7 @@ def memory(program, live):
 
 
 def compare(ours, plain):
-    """Stops if two structures with one algorithm found different sums."""
+    """Ends the program if two structures with the same algorithm have different sums."""
     for (structure, count, name), (_, found) in ours.items():
         other = plain[PLAIN[structure], count, name][1]
         if found != other:
@@ -70,18 +70,18 @@ def compare(ours, plain):
 
 
 def missing():
-    """The first missing program or file, or None."""
+    """Returns the first missing program or file, or None."""
     return next((name for name in ("rustc", "cc") if not shutil.which(name)), None if OURS.is_file() else OURS)
 
 
 def irrelevance(runs):
-    """Nanoseconds of one search that shows a row to be irrelevant, by query and row."""
+    """Returns the nanoseconds of one search that shows a row to be irrelevant, by query and row."""
     taken = [times([OURS, "irrelevance"]) for _ in range(runs)]
     return [{"query": key[0], "row": key[2], "ns": statistics.median(found[key][0] for found in taken)} for key in taken[0]]
 
 
 def figures(runs):
-    """Nanoseconds of each pass and bytes, by structure and number of entries, and the searches for irrelevant rows."""
+    """Returns the nanoseconds of each pass and the bytes, by structure and number of entries, and the searches for irrelevant rows."""
     with tempfile.TemporaryDirectory() as folder:
         programs, live = build(Path(folder))
         taken = [[times(program) for program in programs] for _ in range(runs)]

@@ -1,5 +1,5 @@
-/* A preloaded library that writes the number of bytes of heap in use to standard error, after each write to standard
-   output. It counts each block and the 8 bytes that glibc stores before it. For single-threaded programs. */
+/* A preloaded library that writes the number of bytes of heap in use to standard error after each write to standard
+   output. The number includes the 8 bytes that glibc stores before each block. For single-threaded programs. */
 #define _GNU_SOURCE
 #include <malloc.h>
 #include <stdio.h>

@@ -17,7 +17,7 @@ struct Entry {
     reference: RowRef,
 }
 
-/// The key of a number (the finalizer of SplitMix64).
+/// Returns the key of a number (the finalizer of SplitMix64).
 fn key_of(n: usize) -> u64 {
     let a = (n as u64).wrapping_add(0x9E37_79B9_7F4A_7C15);
     let b = (a ^ (a >> 30)).wrapping_mul(0xBF58_476D_1CE4_E5B9);
@@ -29,17 +29,17 @@ fn reference_of(n: usize) -> RowRef {
     RowRef { slot: n as u32 }
 }
 
-/// The entry of a number.
+/// Returns the entry of a number.
 fn entry_of(n: usize) -> Entry {
     Entry { key: key_of(n), reference: reference_of(n) }
 }
 
-/// The entry of a number, with one of 25 equally frequent hashes.
+/// Returns the entry of a number, with one of 25 equally frequent hashes.
 fn by_few_hashes(n: usize) -> Entry {
     Entry { key: key_of(n % 25), ..entry_of(n) }
 }
 
-/// The next number below `n` of the shuffle, which visits each number once if `n` is a power of 10 or 2.
+/// Returns the next number below `n` of the shuffle, which visits each number once if `n` is a power of 10 or 2.
 fn after(number: usize, n: usize) -> usize {
     (number * 1_664_521 + 1_013_904_223) % n
 }
@@ -72,9 +72,9 @@ impl Node {
     }
 }
 
-/// Linear hashing with a chain of single entries per bucket. It splits above two entries per bucket
-/// and merges below half an entry. The directory maps the slot of a reference to the node that last
-/// stored its entry.
+/// Linear hashing with a chain of single entries per bucket. The table splits above two entries per
+/// bucket and merges below half an entry. The directory maps the slot of a reference to the node that
+/// last stored its entry.
 struct LinearHash {
     heads: Vec<u32>,
     nodes: Vec<Node>,
@@ -157,7 +157,7 @@ impl LinearHash {
         }
     }
 
-    /// The node of an entry, by the directory or else by a walk along the chain.
+    /// Returns the node of an entry, by the directory or else by a walk along the chain.
     fn find(&self, head: u32, hash: u64, reference: RowRef) -> u32 {
         let hint = self.hint(reference);
         if self.nodes.get(hint as usize).is_some_and(|node| node.live && node.has(hash, reference)) {
@@ -170,7 +170,7 @@ impl LinearHash {
         at
     }
 
-    /// The entry of the chain's first node replaces the removed one.
+    /// Replaces the removed entry with that of the chain's first node.
     fn remove(&mut self, hash: u64, reference: RowRef) -> bool {
         let bucket = self.bucket_of(hash);
         let head = self.heads[bucket];
@@ -554,9 +554,9 @@ fn timed(structure: &str, name: &str, n: usize, pass: impl FnOnce() -> usize) {
 /// A structure under test.
 trait Structure: Default {
     fn insert(&mut self, entry: Entry);
-    /// The slot of the reference found.
+    /// Returns the slot of the reference that was found.
     fn find(&self, entry: Entry, found: &mut Vec<RowRef>) -> usize;
-    /// The sum of the slots of all references in order.
+    /// Returns the sum of the slots of all references in order.
     fn walk(&self) -> usize;
     fn remove(&mut self, entry: Entry) -> bool;
 }

@@ -54,6 +54,12 @@ static uint8_t columns_of(mmdb *db, const char *line, mmdb_column *columns, size
 
 static uint8_t release(mmdb *db, const char *name) { return mmdb_release(db, (const uint8_t *)name, strlen(name)); }
 
+static uint8_t load(mmdb *db, const char *script, size_t *lines) { return mmdb_load(db, (const uint8_t *)script, strlen(script), lines); }
+
+static uint8_t definition(mmdb *db, uint8_t kind, const char *name, uint8_t *line, size_t room, size_t *needed) {
+  return mmdb_definition(db, kind, (const uint8_t *)name, strlen(name), line, room, needed);
+}
+
 static size_t place_in(mmdb *db, const char *line, uint8_t status) { return mmdb_place(db, (const uint8_t *)line, strlen(line), status); }
 
 /* Prepares a line, which must succeed, and returns the statement's number. */
@@ -166,6 +172,9 @@ static void a_closed_handle(void) {
   MUST(mmdb_explain(&db, 0, no_values, 0) == MMDB_MISUSE);
   MUST(mmdb_total_changes(&db) == 0);
   MUST(release(&db, "s") == MMDB_MISUSE);
+  MUST(load(&db, "BEGIN", &written) == MMDB_MISUSE && written == 0);
+  written = 77;
+  MUST(definition(&db, MMDB_KIND_TABLE, "t", text, 3, &written) == MMDB_MISUSE && written == 77 && !memcmp(text, "abc", 4));
   mmdb_close(&db);
   MUST(!db.is_open);
 }
@@ -895,6 +904,9 @@ static void arrays_that_are_null(void) {
   MUST(mmdb_text(&db, NULL, 0, &count) == MMDB_DONE && count == strlen("a scan\nsteps 1\n"));
   MUST(mmdb_words(MMDB_SYNTAX, NULL, 0) == strlen("syntax"));
   MUST(mmdb_release(&db, NULL, 0) == MMDB_SYNTAX);
+  MUST(mmdb_definition(&db, MMDB_KIND_TABLE, NULL, 0, NULL, 0, &count) == MMDB_SYNTAX);
+  MUST(definition(&db, MMDB_KIND_TABLE, "t", NULL, 0, &count) == MMDB_DONE && count == strlen("TABLE t (id INT KEY, k INT, s TEXT)"));
+  MUST(mmdb_load(&db, NULL, 0, &done) == MMDB_DONE && done == 0);
   size_t insert = prepared(&db, "INSERT t (?, 1, 'x')");
   MUST(mmdb_run(&db, insert, NULL, 0) == MMDB_MISUSE && mmdb_explain(&db, insert, NULL, 0) == MMDB_MISUSE);
   mmdb_close(&db);
@@ -1197,6 +1209,301 @@ static void names_of_savepoints(void) {
   mmdb_close(&db);
 }
 
+/* Dumps: each piece consists of whole lines, and the pieces rebuild the database. */
+
+enum { LONG_TABLE = 3000 };
+
+/* A database with a long table, lines of many lengths, an index and a standing query. */
+static mmdb opened_to_dump(void) {
+  mmdb db = opened_with_rows();
+  MUST(is_done(&db, "TABLE u (name TEXT KEY, t INT REF t)") && is_done(&db, "TABLE v (id INT KEY)"));
+  size_t insert = prepared(&db, "INSERT u (?, 2)");
+  static const char tail[] = "abcdefghijklmnopqrstuvwxyz'ABCDEFGHIJKLMNOPQRSTUVWXYZ'0123456789";
+  for (int i = 0; i < LONG_TABLE; i++) {
+    char name[65];
+    int length = snprintf(name, sizeof name, "%05d%.*s", i * 7919 % LONG_TABLE, i % 60, tail);
+    mmdb_cell value = bytes(name, (size_t)length);
+    MUST(mmdb_run(&db, insert, &value, 1) == MMDB_COUNT);
+  }
+  MUST(is_done(&db, "INDEX by_k ON t (k) HASH") && is_done(&db, "INDEX by_t ON u (t) TREE"));
+  MUST(is_done(&db, "WATCH w SELECT a.name FROM u a, t b WHERE a.t = b.id AND a.name < 'x' ORDER 1"));
+  return db;
+}
+
+/* Executes the lines of a piece. */
+static bool executes_lines(mmdb *db, const uint8_t *piece, size_t length) {
+  for (size_t i = 0, begin = 0; i < length; i++) {
+    if (piece[i] != '\n') continue;
+    if (i - begin > LONGEST_LINE || mmdb_execute(db, piece + begin, i - begin) >= MMDB_LINE_TOO_LONG) return false;
+    begin = i + 1;
+  }
+  return length == 0 || piece[length - 1] == '\n';
+}
+
+/* Dumps a database in pieces of at most room bytes into another one. Returns the number of pieces. */
+static size_t dumped(mmdb *from, mmdb *into, size_t room) {
+  static uint8_t piece[1 << 20];
+  mmdb_dump_place place = MMDB_DUMP_START;
+  size_t pieces = 0, length = 1;
+  while (!has_failed && length) {
+    MUST(mmdb_dump(from, &place, piece, room, &length) == MMDB_DONE && length <= room && executes_lines(into, piece, length));
+    pieces += length > 0;
+  }
+  return pieces;
+}
+
+static bool have_one_reply(mmdb *one, mmdb *other, const char *line) {
+  static uint8_t texts[2][1 << 20];
+  size_t lengths[2];
+  uint8_t status = execute(one, line);
+  if (status >= MMDB_LINE_TOO_LONG || execute(other, line) != status) return false;
+  if (mmdb_text(one, texts[0], sizeof texts[0], &lengths[0]) != MMDB_DONE) return false;
+  if (mmdb_text(other, texts[1], sizeof texts[1], &lengths[1]) != MMDB_DONE) return false;
+  return lengths[0] == lengths[1] && lengths[0] <= sizeof texts[0] && !memcmp(texts[0], texts[1], lengths[0]);
+}
+
+static void dumps(void) {
+  static const size_t rooms[] = {MMDB_DUMP_ROOM, 5000, 8194, 65536, 1 << 20};
+  static const char *const lines[] = {"TABLES", "SCAN t", "SCAN u", "SCAN v", "SCAN INDEX by_k", "SCAN INDEX by_t", "SHOW w"};
+  mmdb db = opened_to_dump();
+  for (size_t i = 0; i < sizeof rooms / sizeof *rooms; i++) {
+    mmdb copy = opened();
+    size_t pieces = dumped(&db, &copy, rooms[i]);
+    MUST(i ? pieces >= 1 : pieces > 20);
+    for (size_t k = 0; k < sizeof lines / sizeof *lines; k++) check(have_one_reply(&db, &copy, lines[k]), lines[k], __LINE__);
+    mmdb_close(&copy);
+  }
+  mmdb empty = opened(), copy = opened();
+  MUST(dumped(&empty, &copy, MMDB_DUMP_ROOM) == 0 && have_one_reply(&empty, &copy, "TABLES"));
+  mmdb_close(&empty), mmdb_close(&copy), mmdb_close(&db);
+}
+
+static void dumps_in_a_transaction(void) {
+  mmdb db = opened_with_rows(), copy = opened();
+  MUST(is_done(&db, "BEGIN") && answers(&db, "DELETE t WHERE id = 1", MMDB_COUNT, "ok 1\n"));
+  MUST(dumped(&db, &copy, MMDB_DUMP_ROOM) == 1 && have_one_reply(&db, &copy, "SCAN t") && !mmdb_in_transaction(&copy));
+  mmdb_close(&copy), mmdb_close(&db);
+}
+
+/* A command that may change the database ends a dump. Questions and refused commands do not. */
+static void interrupted_dumps(void) {
+  static const char *const ending[] = {"INSERT t (9, 9, '')", "TABLE x (id INT KEY)", "BEGIN", "SAVEPOINT s", "COMMIT", "DELETE t WHERE id = 77"};
+  static const char *const asking[] = {"SCAN t", "TABLES", "SELECT a.id FROM t a WHERE a.k > 0", "SHOW w", "", "DELETE nothing", "nonsense"};
+  static uint8_t piece[MMDB_DUMP_ROOM];
+  mmdb db = opened_to_dump();
+  for (size_t i = 0; i < sizeof ending / sizeof *ending; i++) {
+    mmdb_dump_place place = MMDB_DUMP_START, first = MMDB_DUMP_START;
+    size_t length = 0;
+    MUST(mmdb_dump(&db, &place, piece, sizeof piece, &length) == MMDB_DONE && length > 0);
+    for (size_t k = 0; k < sizeof asking / sizeof *asking; k++) execute(&db, asking[k]);
+    MUST(mmdb_dump(&db, &place, piece, sizeof piece, &length) == MMDB_DONE && length > 0);
+    check(execute(&db, ending[i]) < MMDB_LINE_TOO_LONG, ending[i], __LINE__);
+    mmdb_dump_place kept = place;
+    length = 77;
+    MUST(mmdb_dump(&db, &place, piece, sizeof piece, &length) == MMDB_MISUSE && length == 77 && !memcmp(&place, &kept, sizeof kept));
+    MUST(mmdb_dump(&db, &first, piece, sizeof piece, &length) == MMDB_DONE && length > 0 && length != 77);
+  }
+  mmdb_close(&db);
+}
+
+static void misused_dumps(void) {
+  static uint8_t piece[MMDB_DUMP_ROOM];
+  mmdb db = opened_with_rows(), closed = MMDB_CLOSED;
+  mmdb_dump_place place = MMDB_DUMP_START, far = {(size_t)-1, (size_t)-1, 0}, past = {1, 1000, 0};
+  size_t length = 77;
+  MUST(mmdb_dump(&closed, &place, piece, sizeof piece, &length) == MMDB_MISUSE && length == 77);
+  MUST(mmdb_dump(&db, &place, piece, MMDB_DUMP_ROOM - 1, &length) == MMDB_MISUSE && length == 77);
+  MUST(mmdb_dump(&db, &place, NULL, 0, &length) == MMDB_MISUSE && length == 77);
+  MUST(mmdb_dump(&db, &place, piece, sizeof piece, &length) == MMDB_DONE && length > 0 && length != 77);
+  far.version = past.version = place.version;
+  MUST(mmdb_dump(&db, &far, piece, sizeof piece, &length) == MMDB_DONE && length == 0);
+  MUST(mmdb_dump(&db, &past, piece, sizeof piece, &length) == MMDB_DONE && length == 0);
+  mmdb_close(&db);
+}
+
+/* Definitions: the lines of a dump, one at a time. */
+
+/* Whether a definition is this line, whatever the room is, and the reply stays. */
+static bool is_defined_by(mmdb *db, uint8_t kind, const char *name, const char *line) {
+  size_t length = strlen(line), rooms[] = {0, 1, length - 1, length, length + 1, ROOM};
+  struct picture before = picture_of(db);
+  for (size_t i = 0; i < sizeof rooms / sizeof *rooms; i++) {
+    uint8_t found[ROOM];
+    size_t needed = 77, copied = rooms[i] < length ? rooms[i] : length;
+    memset(found, '#', ROOM);
+    if (definition(db, kind, name, rooms[i] ? found : NULL, rooms[i], &needed) != MMDB_DONE || needed != length) return false;
+    if (memcmp(found, line, copied) || (copied < ROOM && found[copied] != '#')) return false;
+  }
+  return last_reply_is_scan(db, &before);
+}
+
+static void definitions(void) {
+  static const char index[] = "INDEX w ON u (t) HASH", query[] = "WATCH w SELECT a.name,b.k FROM u a,t b WHERE a.t=b.id AND a.name<'it''s'ORDER 2,1";
+  static const char wide[] = "TABLE w (w INT, name TEXT KEY, t INT REF t, u TEXT REF u CASCADE)";
+  mmdb db = opened_with_rows(), copy = opened();
+  MUST(is_done(&db, "TABLE u (name TEXT KEY, t INT REF t)") && is_done(&db, wide) && is_done(&db, index));
+  MUST(is_done(&db, "WATCH  w SELECT a.name, b.k FROM u a, t b WHERE a.t = b.id AND a.name < 'it''s' ORDER 2, 1"));
+  MUST(is_defined_by(&db, MMDB_KIND_TABLE, "t", "TABLE t (id INT KEY, k INT, s TEXT)"));
+  MUST(is_defined_by(&db, MMDB_KIND_TABLE, "u", "TABLE u (name TEXT KEY, t INT REF t)"));
+  /* One name in three name spaces. */
+  MUST(is_defined_by(&db, MMDB_KIND_TABLE, "w", wide) && is_defined_by(&db, MMDB_KIND_INDEX, "w", index));
+  MUST(is_defined_by(&db, MMDB_KIND_WATCH, "w", query));
+  /* Each line creates what it defines, and is a line of the dump. */
+  static const struct { uint8_t kind; const char *name; } defined[] = {
+      {MMDB_KIND_TABLE, "t"}, {MMDB_KIND_TABLE, "u"}, {MMDB_KIND_TABLE, "w"}, {MMDB_KIND_INDEX, "w"}, {MMDB_KIND_WATCH, "w"}};
+  for (size_t i = 0; i < sizeof defined / sizeof *defined; i++) {
+    uint8_t line[LONGEST_LINE];
+    size_t length = 0;
+    MUST(definition(&db, defined[i].kind, defined[i].name, line, sizeof line, &length) == MMDB_DONE && length <= sizeof line);
+    MUST(mmdb_execute(&copy, line, length) == MMDB_DONE);
+  }
+  mmdb restored = opened();
+  MUST(answers(&db, "DELETE t", MMDB_COUNT, "ok 2\n") && dumped(&db, &restored, MMDB_DUMP_ROOM) == 1);
+  MUST(have_one_reply(&db, &copy, "TABLES") && have_one_reply(&restored, &copy, "TABLES"));
+  mmdb_close(&db), mmdb_close(&copy), mmdb_close(&restored);
+}
+
+/* What has no definition, and misuses: nothing is written, and the reply and the database stay. */
+static void refused_definitions(void) {
+  static const struct { uint8_t kind; const char *name; uint8_t status; } refused[] = {
+      {MMDB_KIND_TABLE, "u", MMDB_NO_SUCH_TABLE}, {MMDB_KIND_TABLE, "w", MMDB_NO_SUCH_TABLE}, {MMDB_KIND_TABLE, "by_k", MMDB_NO_SUCH_TABLE},
+      {MMDB_KIND_INDEX, "t", MMDB_NO_SUCH_INDEX}, {MMDB_KIND_INDEX, "k", MMDB_NO_SUCH_INDEX}, {MMDB_KIND_WATCH, "t", MMDB_NO_SUCH_STANDING_QUERY},
+      {MMDB_KIND_WATCH, "by_k", MMDB_NO_SUCH_STANDING_QUERY}, {MMDB_KIND_TABLE, "", MMDB_SYNTAX}, {MMDB_KIND_TABLE, "T", MMDB_SYNTAX},
+      {MMDB_KIND_INDEX, "by k", MMDB_SYNTAX}, {MMDB_KIND_WATCH, "w;", MMDB_SYNTAX}, {MMDB_KIND_WATCH, "TABLE", MMDB_SYNTAX},
+      {MMDB_KIND_TABLE, "a234567890123456789012345678_0123", MMDB_SYNTAX}, {MMDB_KIND_TABLE, "a234567890123456789012345678_012", MMDB_NO_SUCH_TABLE},
+      {MMDB_KIND_NOTHING, "t", MMDB_MISUSE}, {MMDB_KIND_DROP_TABLE, "t", MMDB_MISUSE}, {MMDB_KIND_INSERT, "t", MMDB_MISUSE},
+      {MMDB_KIND_UNWATCH, "w", MMDB_MISUSE}, {255, "t", MMDB_MISUSE}};
+  mmdb db = opened_with_rows(), closed = MMDB_CLOSED;
+  MUST(is_done(&db, "INDEX by_k ON t (k) TREE") && is_done(&db, "WATCH w SELECT a.id FROM t a"));
+  struct picture before = picture_of(&db);
+  for (size_t i = 0; i < sizeof refused / sizeof *refused; i++) {
+    uint8_t line[64];
+    size_t needed = 77;
+    memset(line, '#', sizeof line);
+    check(definition(&db, refused[i].kind, refused[i].name, line, sizeof line, &needed) == refused[i].status, refused[i].name, __LINE__);
+    MUST(needed == 77 && line[0] == '#' && stays(&db, &before));
+    check(definition(&closed, refused[i].kind, refused[i].name, line, sizeof line, &needed) == MMDB_MISUSE, refused[i].name, __LINE__);
+    MUST(needed == 77 && line[0] == '#' && !closed.is_open);
+  }
+  mmdb_close(&db);
+}
+
+/* A definition goes on with a dump, and definitions are those of the catalog in a transaction too. */
+static void definitions_between_calls(void) {
+  static uint8_t piece[MMDB_DUMP_ROOM];
+  mmdb db = opened_to_dump();
+  mmdb_dump_place place = MMDB_DUMP_START;
+  size_t length = 0, needed = 0;
+  MUST(mmdb_dump(&db, &place, piece, sizeof piece, &length) == MMDB_DONE && length > 0);
+  MUST(definition(&db, MMDB_KIND_INDEX, "by_t", NULL, 0, &needed) == MMDB_DONE && needed == strlen("INDEX by_t ON u (t) TREE"));
+  MUST(mmdb_dump(&db, &place, piece, sizeof piece, &length) == MMDB_DONE && length > 0);
+  MUST(is_done(&db, "BEGIN") && is_done(&db, "DROP INDEX by_t"));
+  MUST(definition(&db, MMDB_KIND_INDEX, "by_t", NULL, 0, &needed) == MMDB_NO_SUCH_INDEX && mmdb_in_transaction(&db));
+  mmdb_close(&db);
+}
+
+/* Scripts: the lines of a script are executed up to the first that is refused. */
+
+static void loads(void) {
+  mmdb db = opened();
+  size_t lines = 77;
+  MUST(load(&db, "TABLE t (id INT KEY, s TEXT)\n\r\n-- a comment\r\nINSERT t (1, 'a'), (2, 'b')\r\nINSERT t (3, 'c')", &lines) == MMDB_DONE);
+  MUST(lines == 5 && last_reply_is(&db, "ok 1\n") && mmdb_total_changes(&db) == 3);
+  MUST(answers(&db, "SCAN t", MMDB_ROWS, "(1, 'a')\n(2, 'b')\n(3, 'c')\nrows 3\n"));
+  /* The last line may end with a line feed or without one, and an empty line is a line. */
+  MUST(load(&db, "DELETE t WHERE id = 3\n", &lines) == MMDB_DONE && lines == 1 && last_reply_is(&db, "ok 1\n"));
+  MUST(load(&db, "SCAN t\n\n", &lines) == MMDB_DONE && lines == 2 && mmdb_count(&db) == 0 && last_reply_is(&db, ""));
+  MUST(load(&db, "\n\nSCAN t\r", &lines) == MMDB_DONE && lines == 3 && mmdb_count(&db) == 2);
+  /* Without a line, nothing happens. */
+  MUST(load(&db, "", &lines) == MMDB_DONE && lines == 0 && mmdb_count(&db) == 2);
+  MUST(mmdb_load(&db, NULL, 0, &lines) == MMDB_DONE && lines == 0 && mmdb_count(&db) == 2);
+  MUST(mmdb_total_changes(&db) == 4);
+  mmdb_close(&db);
+}
+
+/* A script that stops at a line: the lines before it stay done. */
+struct stopping {
+  const char *script;
+  size_t lines;
+  uint8_t status;
+  const char *reply, *rows;
+};
+
+static void refused_loads(void) {
+  static const struct stopping scripts[] = {
+      {"INSERT t (1)\nINSERT t (1)\nINSERT t (2)", 1, MMDB_DUPLICATE_KEY, "error 40 duplicate key\n", "(1)\nrows 1\n"},
+      {"INSERT u (1)\nINSERT t (1)", 0, MMDB_NO_SUCH_TABLE, "error 20 no such table\n", "rows 0\n"},
+      {"INSERT t (1)\n\n--\nINSERT t\n(2)\n", 3, MMDB_SYNTAX, "error 11 syntax\n", "(1)\nrows 1\n"},
+      {"INSERT t (1)\r\r\n", 0, MMDB_SYNTAX, "error 11 syntax\n", "rows 0\n"},
+      {"INSERT t (1)\rINSERT t (2)\n", 0, MMDB_SYNTAX, "error 11 syntax\n", "rows 0\n"},
+      {"INSERT t (?)", 0, MMDB_SYNTAX, "error 11 syntax\n", "rows 0\n"},
+      {"BEGIN\nINSERT t (1)\nCOMMIT\nBEGIN\nINSERT t (2)\nROLLBACK\nROLLBACK\nDELETE t", 6, MMDB_NO_TRANSACTION, "error 51 no transaction\n",
+       "(1)\nrows 1\n"},
+      {"INSERT t (1)\nSCAN t\nINSERT t (1, 2)", 2, MMDB_WRONG_NUMBER_OF_VALUES, "error 31 wrong number of values\n", "(1)\nrows 1\n"}};
+  for (size_t i = 0; i < sizeof scripts / sizeof *scripts; i++) {
+    mmdb db = opened();
+    size_t lines = 77;
+    MUST(is_done(&db, "TABLE t (id INT KEY)"));
+    check(load(&db, scripts[i].script, &lines) == scripts[i].status, scripts[i].script, __LINE__);
+    check(lines == scripts[i].lines && last_reply_is(&db, scripts[i].reply), scripts[i].script, __LINE__);
+    check(!mmdb_in_transaction(&db) && answers(&db, "SCAN t", MMDB_ROWS, scripts[i].rows), scripts[i].script, __LINE__);
+    mmdb_close(&db);
+  }
+}
+
+/* A line of 4,096 bytes is executed, with a carriage return behind it too, and a longer one is refused. */
+static void loads_of_long_lines(void) {
+  static const struct { size_t length; const char *end; uint8_t status; size_t lines; } long_lines[] = {
+      {LONGEST_LINE, "\nBEGIN", MMDB_DONE, 3},       {LONGEST_LINE, "\r\nBEGIN", MMDB_DONE, 3}, {LONGEST_LINE, "", MMDB_DONE, 2},
+      {LONGEST_LINE, "\r", MMDB_DONE, 2},            {LONGEST_LINE + 1, "\nBEGIN", MMDB_LINE_TOO_LONG, 1},
+      {LONGEST_LINE + 1, "", MMDB_LINE_TOO_LONG, 1}, {LONGEST_LINE, "\r\r\nBEGIN", MMDB_LINE_TOO_LONG, 1},
+      {3 * LONGEST_LINE, "\nBEGIN", MMDB_LINE_TOO_LONG, 1}};
+  for (size_t i = 0; i < sizeof long_lines / sizeof *long_lines; i++) {
+    static char script[4 * LONGEST_LINE];
+    static const char first[] = "TABLE t (id INT KEY)\n", insert[] = "INSERT t (1)";
+    char *at = script + sprintf(script, "%s%s", first, insert), *end = script + strlen(first) + long_lines[i].length;
+    while (at < end) *at++ = ' ';
+    strcpy(at, long_lines[i].end);
+    mmdb db = opened();
+    size_t lines = 77;
+    MUST(load(&db, script, &lines) == long_lines[i].status && lines == long_lines[i].lines);
+    MUST(mmdb_in_transaction(&db) == (lines == 3) && answers(&db, "SCAN t", MMDB_ROWS, lines > 1 ? "(1)\nrows 1\n" : "rows 0\n"));
+    mmdb_close(&db);
+  }
+}
+
+/* A load is what its lines are one at a time, with prepared statements beside it, and all or none in a transaction. */
+static void loads_between_calls(void) {
+  static const char script[] = "INSERT t (7, 7, 'x')\nUPDATE t SET k = 1\nINSERT t (7, 7, 'y')\nDELETE t";
+  static uint8_t piece[1 << 20];
+  mmdb db = opened_with_rows();
+  size_t find = prepared(&db, "SELECT a.s FROM t a WHERE a.k = ?"), lines, length = 0;
+  mmdb_cell value = number(1);
+  struct picture before = picture_of(&db);
+  MUST(is_done(&db, "BEGIN") && load(&db, script, &lines) == MMDB_DUPLICATE_KEY && lines == 2);
+  MUST(runs(&db, find, &value, 1, MMDB_ROWS, "('a')\n('it''s')\n('x')\nrows 3\n") && is_done(&db, "ROLLBACK"));
+  MUST(is_as_before(&db, &before) && runs(&db, find, &value, 1, MMDB_ROWS, "rows 0\n"));
+  /* Statements follow a catalog that a load changed. */
+  MUST(load(&db, "DROP TABLE t\nTABLE t (s TEXT, k TEXT KEY)\nINSERT t ('new', 'k')", &lines) == MMDB_DONE && lines == 3);
+  value = words("k");
+  MUST(runs(&db, find, &value, 1, MMDB_ROWS, "('new')\nrows 1\n"));
+  mmdb_close(&db);
+  /* All pieces of a dump are one script. */
+  mmdb whole = opened_to_dump(), copy = opened();
+  mmdb_dump_place place = MMDB_DUMP_START;
+  MUST(mmdb_dump(&whole, &place, piece, sizeof piece, &length) == MMDB_DONE && length > 0 && length < sizeof piece);
+  MUST(mmdb_load(&copy, piece, length, &lines) == MMDB_DONE && lines > 20);
+  static const char *const questions[] = {"TABLES", "SCAN t", "SCAN u", "SCAN v", "SCAN INDEX by_k", "SCAN INDEX by_t", "SHOW w"};
+  for (size_t k = 0; k < sizeof questions / sizeof *questions; k++) check(have_one_reply(&whole, &copy, questions[k]), questions[k], __LINE__);
+  /* A load that executes a line ends a dump, and one that executes none does not. */
+  mmdb_dump_place start = MMDB_DUMP_START;
+  MUST(mmdb_dump(&whole, &start, piece, MMDB_DUMP_ROOM, &length) == MMDB_DONE);
+  MUST(load(&whole, "nonsense", &lines) == MMDB_SYNTAX && mmdb_dump(&whole, &start, piece, MMDB_DUMP_ROOM, &length) == MMDB_DONE);
+  MUST(load(&whole, "DELETE v\nnonsense", &lines) == MMDB_SYNTAX && lines == 1);
+  MUST(mmdb_dump(&whole, &start, piece, MMDB_DUMP_ROOM, &length) == MMDB_MISUSE);
+  mmdb_close(&whole), mmdb_close(&copy);
+}
+
 /* mmdb_query: a run and a read in one call. */
 static void queries(void) {
   mmdb db = opened_with_rows();
@@ -1313,6 +1620,9 @@ static const struct { const char *name; void (*run)(void); } tests[] = {
   TEST(texts), TEST(numbers), TEST(values_of_the_wrong_type), TEST(shifts),
   TEST(changes_of_the_catalog), TEST(other_tables), TEST(standing_queries), TEST(transactions),
   TEST(released_savepoints), TEST(released_savepoints_of_one_name), TEST(a_savepoint_for_each_item), TEST(names_of_savepoints),
+  TEST(dumps), TEST(dumps_in_a_transaction), TEST(interrupted_dumps), TEST(misused_dumps),
+  TEST(definitions), TEST(refused_definitions), TEST(definitions_between_calls),
+  TEST(loads), TEST(refused_loads), TEST(loads_of_long_lines), TEST(loads_between_calls),
   TEST(queries), TEST(runs_of_many), TEST(runs_of_many_with_a_misuse),
   TEST(a_full_table), TEST(many_calls),
 };

@@ -28,6 +28,12 @@ ASSERT(offsetof(mmdb_column, len) == 1);
 ASSERT(offsetof(mmdb_column, name) == 2);
 ASSERT(MMDB_NAME_BYTES == 32);
 
+ASSERT(sizeof(mmdb_dump_place) == 24);
+ASSERT(offsetof(mmdb_dump_place, part) == 0);
+ASSERT(offsetof(mmdb_dump_place, row) == 8);
+ASSERT(offsetof(mmdb_dump_place, version) == 16);
+ASSERT(MMDB_DUMP_ROOM == 4097);
+
 ASSERT(MMDB_NUMBER == 0);
 ASSERT(MMDB_STRING == 1);
 

@@ -1,20 +1,21 @@
-/* Behaves like the program mmdb, but through the library: it reads commands from standard input, one per line, and writes the reply to a line before it
-   reads the next one.
+/* Behaves like the program mmdb, but through the library. Reads commands from standard input, one per line, and writes the reply to each line before it reads
+   the next one.
 
      script [--statements]
 
-   With --statements each line that can be read runs as a prepared statement: where the language allows a hole, numbers and texts become values. The
-   statement is kept for the next line of the same form. Without it each line is executed. Both ways must produce the same replies, byte for byte. Compiled
-   with -DALWAYS_STATEMENTS it needs no argument, so tests can run it instead of a program.
+   With --statements, each line that can be prepared runs as a prepared statement. Parameters replace its numbers and texts if the language allows them there.
+   The statement is kept for the next line of the same form. Without --statements, each line is executed. Both ways must produce the same replies, byte for
+   byte. Compiled with -DALWAYS_STATEMENTS, the program needs no argument, so tests can run it instead of mmdb.
 
-   It compares each reply with its status, its count and its rows. The exit status is 0 at the end of the input, and 2 if a device failed or no database
-   could be opened. It is 4 if the library broke its contract or a reply is too long for the buffer here; a line on standard error then says what is wrong.
+   The program compares each reply with its status, its count and its rows. The exit status is 0 at the end of the input, and 2 if a device failed or no
+   database could be opened. The status is 4, with a message on standard error, if the library broke its contract or a reply is too long for the buffer here.
    The input may have any length.
 
-   Compiled with -DASKS_ABOUT_LINES it also compares each reply with the results of mmdb_columns and mmdb_place. These calls allocate memory that no reply
-   needs, so tests with failing allocations compile it without.
+   Compiled with -DASKS_ABOUT_LINES, the program also compares each reply with the results of mmdb_columns and mmdb_place. These calls allocate memory that no
+   reply needs, so tests with failing allocations compile it without.
 
-   It allocates nothing: its buffers are static, and it uses stdio only for the line on standard error. So each growth of memory is the library's. */
+   The program itself allocates nothing: its buffers are static, and it uses stdio only for the message on standard error. So each allocation is the
+   library's. */
 #include <errno.h>
 #include <inttypes.h>
 #include <mmdb.h>
@@ -39,7 +40,7 @@ struct line {
   size_t length;
 };
 
-/* A line with a question mark for each literal that can be a hole, and these literals. */
+/* A line with a question mark for each literal that can be a parameter, and these literals. */
 struct form {
   uint8_t bytes[LONGEST_LINE];
   size_t length;
@@ -47,7 +48,7 @@ struct form {
   size_t count;
 };
 
-/* A line that was prepared, and the number of its statement. */
+/* A prepared line, and the number of its statement. */
 struct kept {
   uint8_t bytes[LONGEST_LINE];
   size_t length;
@@ -71,7 +72,7 @@ static void must(bool holds, const char *what) {
 
 /* Input and output. */
 
-/* The next byte of standard input, or -1 at its end. */
+/* Returns the next byte of standard input, or -1 at its end. */
 static int next_byte(void) {
   static uint8_t bytes[1 << 16];
   static ssize_t count, from;
@@ -84,7 +85,7 @@ static int next_byte(void) {
   return count ? bytes[from++] : -1;
 }
 
-/* Reads a line, without its line feed and one carriage return before it. Returns whether there was a line. */
+/* Reads a line without its line feed and one carriage return before it. Returns whether there was a line. */
 static bool read_line(void) {
   int byte = next_byte();
   if (byte < 0) return false;
@@ -145,7 +146,8 @@ static bool goes_on_with_row(struct rest *rest, const mmdb_cell *cells, size_t c
   return holds && goes_on_with(rest, ")\n");
 }
 
-/* Whether the text continues with the rows of the reply, read one at a time. The number of columns is the least room that the first row fits into. */
+/* Returns whether the text continues with the rows of the reply, read one at a time. The number of columns is the least capacity that the first row
+   requires. */
 static bool goes_on_with_rows(struct rest *rest) {
   mmdb_cell cells[MOST_COLUMNS];
   size_t columns = 1, row = 0;
@@ -154,7 +156,7 @@ static bool goes_on_with_rows(struct rest *rest) {
   return row == mmdb_count(&db);
 }
 
-/* Whether the text of a reply has the form that its status says. */
+/* Returns whether the text of a reply has the form that its status requires. */
 static bool fits_status(uint8_t status, struct rest rest) {
   char told[32];
   switch (status) {
@@ -168,7 +170,7 @@ static bool fits_status(uint8_t status, struct rest rest) {
   }
 }
 
-/* Writes the reply, or error 90 if the allocation for its text fails. That is correct for a query and a refused line, which change nothing. All other
+/* Writes the reply, or error 90 if the allocation for its text fails. Error 90 is correct for a query and a refused line, which change nothing. All other
    replies are short, and must not fail. */
 static void write_reply(uint8_t status) {
   static const char memory[] = "error 90 memory\n";
@@ -185,7 +187,7 @@ static void write_reply(uint8_t status) {
   write_all(text, length);
 }
 
-/* Whether the line's columns match the rows of its reply in number and kinds. */
+/* Returns whether the line's columns match the rows of its reply in number and kinds. */
 static bool are_columns_of_rows(const mmdb_column *columns, size_t count) {
   mmdb_cell cells[MOST_COLUMNS];
   size_t rows = mmdb_count(&db);
@@ -197,26 +199,26 @@ static bool are_columns_of_rows(const mmdb_column *columns, size_t count) {
   return holds;
 }
 
-/* Compares the line's columns and place with its reply, which must not change. */
+/* Compares the line's columns and place with its reply. The reply must not change. */
 static void ask_about_line(uint8_t status) {
   mmdb_column columns[MOST_COLUMNS];
   size_t count = 0;
-  must(mmdb_place(&db, line.bytes, line.length, status) <= (status < MMDB_LINE_TOO_LONG ? 0 : line.length), "a place is past the line");
+  must(mmdb_place(&db, line.bytes, line.length, status) <= (status < MMDB_LINE_TOO_LONG ? 0 : line.length), "a place is beyond the line");
   if (status >= MMDB_LINE_TOO_LONG) return;
   must(mmdb_columns(&db, line.bytes, line.length, columns, MOST_COLUMNS, &count) == MMDB_DONE, "mmdb_columns failed for a line that was executed");
   must(status == MMDB_ROWS ? are_columns_of_rows(columns, count) : count == 0, "the columns do not match the rows");
 }
 
-/* From a line to its form. */
+/* Forms of lines. */
 
-/* The token before a literal, as far as it decides whether the literal can be a hole. */
+/* The kind of token before a literal, which decides whether the literal can be a parameter. */
 enum before { NAME, BEFORE_A_LITERAL, MINUS_OF_A_NUMBER, SIGN_OF_A_SHIFT, ELSE };
 
 /* The state of scanning a line. */
 struct look {
   size_t at;
   enum before before;
-  bool has_holes; /* a literal can be a hole here: in a change of rows or a query, before ORDER */
+  bool has_holes; /* a literal can be a parameter here: in a change of rows or a query, before ORDER */
   bool is_first;  /* no token was found yet */
 };
 
@@ -224,7 +226,7 @@ static bool is_word(uint8_t byte) {
   return (byte >= '0' && byte <= '9') || (byte >= 'a' && byte <= 'z') || (byte >= 'A' && byte <= 'Z') || byte == '_';
 }
 
-/* Writes digits as a number, and returns whether it fits into 64 bits. Sums are negative, since the least number has no positive counterpart. */
+/* Converts digits to a number, and returns whether it fits into 64 bits. Sums are negative, since the least number has no positive counterpart. */
 static bool read_number(const uint8_t *digits, size_t count, bool is_negative, int64_t *number) {
   int64_t sum = 0;
   for (size_t i = 0; i < count; i++)
@@ -249,7 +251,7 @@ static mmdb_cell *add_hole(void) {
   return value;
 }
 
-/* Replaces digits, and a minus that is part of the number, by a hole; or copies the digits if no hole is allowed. */
+/* Replaces digits, and a minus that is part of the number, with a parameter. Copies the digits if no parameter is allowed. */
 static void add_digits(struct look *look, const uint8_t *digits, size_t count) {
   bool is_negative = look->before == MINUS_OF_A_NUMBER && form.bytes[form.length - 1] == '-';
   bool fits = is_negative || look->before == BEFORE_A_LITERAL || look->before == SIGN_OF_A_SHIFT;
@@ -273,7 +275,7 @@ static void add_word(struct look *look, const uint8_t *word, size_t length) {
   look->is_first = false;
 }
 
-/* Replaces a text by a hole, or copies it. Returns whether the text is closed. */
+/* Replaces a text with a parameter, or copies it if no parameter is allowed. Returns whether the text is closed. */
 static bool add_text(struct look *look) {
   mmdb_cell value = {.kind = MMDB_STRING};
   size_t start = look->at, length = 0;
@@ -292,7 +294,7 @@ static bool add_text(struct look *look) {
   return true;
 }
 
-/* Copies a symbol, or a byte outside of all tokens. */
+/* Copies a symbol, or a byte outside all tokens. */
 static void add_symbol(struct look *look) {
   uint8_t byte = line.bytes[look->at++];
   copy(&byte, 1);
@@ -303,7 +305,7 @@ static void add_symbol(struct look *look) {
   look->is_first = false;
 }
 
-/* Computes the form of the line, and returns whether it has one. A line that is too long, has a question mark or an unclosed text has none. */
+/* Computes the form of the line, and returns whether it has one. A line has none if it is too long, or has a question mark or an unclosed text. */
 static bool make_form(void) {
   struct look look = {.at = 0, .before = ELSE, .has_holes = false, .is_first = true};
   form.length = form.count = 0;
@@ -331,7 +333,7 @@ static bool make_form(void) {
 
 /* Statements. */
 
-/* A slot for a statement. If all slots are taken, the oldest statement is deleted. */
+/* Returns a slot for a statement. If all slots are in use, deletes the oldest statement. */
 static struct kept *place_for_one_more(void) {
   if (number_kept < MOST_KEPT) return &kept[number_kept++];
   struct kept *place = &kept[next_to_replace++ % MOST_KEPT];
@@ -339,7 +341,7 @@ static struct kept *place_for_one_more(void) {
   return place;
 }
 
-/* The statement of the form, prepared now or before, or NULL if the form cannot be prepared. */
+/* Returns the statement of the form, prepared now or before, or NULL if the form cannot be prepared. */
 static const struct kept *statement_of_form(void) {
   for (size_t i = 0; i < number_kept; i++)
     if (kept[i].length == form.length && !memcmp(kept[i].bytes, form.bytes, form.length)) return &kept[i];
