@@ -1,10 +1,11 @@
 -- Rows in use and hidden rows that change places in pairs.
-use Rattle.std.specs.Prelude.{◌≡◌, ◌≢◌, ℕ, ◌≤◌, ◌⊎◌, true, List, All, AllPairs}
+use Rattle.std.specs.Prelude.{◌≡◌, ◌≢◌, ℕ, ◌≤◌, ◌/◌, ◌⊎◌, true, List, length, All, AllPairs}
 use Rattle.mm_value.specs.declared.row_ref.RowRef.{RowRef}
-use Rattle.mm_schema.specs.Rows.{same_in_column}
+use Rattle.mm_schema.specs.Rows.{most_rows, same_in_column}
 use Rattle.mm_partition.specs.Places.{Live, Hidden}
 use Rattle.mm_row_order.specs.Refs.{Slots, HasRow, HasHidden, row_at}
 use Rattle.mm_indexed.specs.Index.{Keeps, SameIndex, column_of, spare_of}
+use Rattle.mm_indexed.specs.Kept.{StoredRows}
 use Rattle.mm_indexed.specs.declared.exchange.Exchange.{Exchange}
 use Rattle.mm_indexed.specs.declared.indexes.index.Index.{Index}
 
@@ -33,3 +34,10 @@ pub record Follows (key : ℕ) (now : Slots) (refs : List RowRef) (exchanges : L
   pub same : SameIndex old new
   pub spare : spare_of old ≤ spare_of new
   pub entries : ((new ≡ old) × AgreeIn (column_of old) now exchanges) ⊎ Keeps key now refs new
+
+-- This many pairs are enough to rebuild the indexes, and there are any.
+pub record IsRebuilt (pairs : ℕ) (rows : StoredRows) : Type 0 where
+  pub indexes : 1 ≤ length rows.indexes
+  pub many : 32 ≤ pairs
+  pub share : length rows.refs / 8 ≤ pairs
+  pub few : length rows.refs ≤ most_rows

@@ -1,9 +1,9 @@
 //! Many rows exchanged at once.
-ghost use Rattle.std.specs.Prelude.{◌≡◌, ◌≤◌, All, length, OnOk, OnErr};
+ghost use Rattle.std.specs.Prelude.{◌≡◌, ◌≤◌, ◌↔◌, All, length, IsTrue, OnOk, OnErr};
 ghost use Rattle.std.specs.declared.cmp.Ordering.TheVariants.{Equal};
 ghost use Rattle.mm_schema.specs.Rows.{most_rows};
 ghost use Rattle.mm_partition.specs.Places.{slot_at, extent_of, IsUnchanged};
-ghost use Rattle.mm_indexed.specs.Exchanges.{ArePairs, ExchangesAll};
+ghost use Rattle.mm_indexed.specs.Exchanges.{ArePairs, ExchangesAll, IsRebuilt};
 ghost use Rattle.mm_indexed.specs.Index.{spare_of};
 ghost use Rattle.mm_indexed.specs.Kept.{SameTable};
 ghost use Rattle.mm_indexed.specs.Twins.{keys_by};
@@ -23,9 +23,21 @@ const REBUILT_SHARE: usize = 8;
 const FEW_PAIRS: usize = 32;
 
 impl IndexedRows {
+    /// Returns whether `exchange_all_kept` rebuilds the changed indexes for that many pairs: there is a further index, there are at least 32
+    /// pairs, an eighth of the rows changes, and there are at most 1,048,576 rows.
+    pub fn rebuilds(&self, pairs: usize) -> bool
+        ensures { IsTrue result ↔ IsRebuilt pairs self.now }
+    {
+        let rows = self.by_key.len();
+        !self.indexes.is_empty()
+            && pairs >= FEW_PAIRS
+            && pairs >= rows / REBUILT_SHARE
+            && rows <= MAX_ROWS
+    }
+
     /// Exchanges the rows of each pair, which have the same key. The index on the key does not change, and a further one only if the rows
-    /// of a pair differ in its column: then it is rebuilt, if there are at least 32 pairs and an eighth of the rows change. Never fails: if
-    /// an allocation fails, the pairs are exchanged one after the other.
+    /// of a pair differ in its column: then it is rebuilt, if [`IndexedRows::rebuilds`] allows it. Never fails: if an allocation fails,
+    /// the pairs are exchanged one after the other.
     pub fn exchange_all_kept(&mut self, alloc: Global, exchanges: &[Exchange])
         requires pairs { ArePairs (slot_at self.old.places) exchanges.now }
         requires keys { All (λ e. keys_by self.old.key (slot_at self.old.places) e.at e.other ≡ Equal) exchanges.now }
@@ -35,9 +47,7 @@ impl IndexedRows {
         ensures extent { extent_of self.new.places ≡ extent_of self.old.places }
         ensures table { SameTable 0 (length exchanges.now) self.old self.new }
     {
-        let rows = self.len();
-        let enough = FEW_PAIRS.max(rows / REBUILT_SHARE);
-        if exchanges.len() < enough || rows > MAX_ROWS {
+        if !self.rebuilds(exchanges.len()) {
             self.exchange_each_kept(exchanges);
             return;
         }
