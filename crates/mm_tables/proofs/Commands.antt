@@ -53,15 +53,19 @@ first_apart e es apart k d within = apart 0 (suc k) d (omega arith) (omega arith
 pub rest_apart : (e : Edit) (es : List Edit) → AllPairs IsApart (e ∷ es) → AllPairs IsApart es
 rest_apart e es apart i j d before within = apart (suc i) (suc j) d (omega arith) (omega arith)
 
+-- the edits after the first are a command of their own
+pub next_command : (key : ℕ) (e : Edit) (es : List Edit) (now : Slots) → IsCommand key (e ∷ es) now → IsCommand key es (step e now)
+next_command key e es now standing = record {
+  fits = all_fit_still key e es now (first_apart e es standing.apart) (All-tail (Fits key now) e es standing.fits);
+  apart = rest_apart e es standing.apart;
+}
+
 -- edits of one command fit one after the other
 pub FitsForth-command : (key : ℕ) (es : List Edit) (now : Slots) → IsCommand key es now → FitsForth key es now
 FitsForth-command key [] now standing = tt
 FitsForth-command key (e ∷ es) now standing = (
   All-head (Fits key now) e es standing.fits,
-  FitsForth-command key es (step e now) (record {
-    fits = all_fit_still key e es now (first_apart e es standing.apart) (All-tail (Fits key now) e es standing.fits);
-    apart = rest_apart e es standing.apart;
-  }),
+  FitsForth-command key es (step e now) (next_command key e es now standing),
 )
 
 -- ---- which rows have changed

@@ -6,4 +6,6 @@ pub mod InTables
 pub mod Logging
 pub mod Settling
 pub mod Making
+pub mod AtOnce
 pub mod Deleting
+pub mod Updating

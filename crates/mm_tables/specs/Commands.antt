@@ -1,5 +1,5 @@
 -- The edits of a command in one table.
-use Rattle.std.specs.Prelude.{◌≡◌, ◌≢◌, ℕ, ◌+◌, ◌≤◌, Bool, true, false, List, [], ◌∷◌, Some, All, AllPairs, length}
+use Rattle.std.specs.Prelude.{◌≡◌, ◌≢◌, ℕ, ◌+◌, ◌≤◌, Bool, true, false, List, [], ◌∷◌, Some, All, AllPairs, length, map}
 use Rattle.std.specs.Bool.{OnTrue}
 use Rattle.std.specs.List.{list_all, sum_by}
 use Rattle.mm_value.specs.declared.row_ref.RowRef.{RowRef}
@@ -7,6 +7,9 @@ use Rattle.mm_schema.specs.Rows.{most_rows}
 use Rattle.mm_row_order.specs.Refs.{Slots, HasRow}
 use Rattle.mm_indexed.specs.Kept.{StoredRows}
 use Rattle.mm_indexed.specs.Twins.{HasTwin}
+use Rattle.mm_indexed.specs.declared.exchange.Exchange.{Exchange}
+use Rattle.mm_tables.specs.declared.bulk.Bulk.{Bulk}
+use Rattle.mm_tables.specs.declared.bulk.Bulk.TheVariants.{Deletions, Updates}
 use Rattle.mm_tables.specs.Edits.{step, Fits, came_by, has_new_key, key_places_back, places_back}
 use Rattle.mm_tables.specs.declared.edit.Edit.{Edit}
 use Rattle.mm_tables.specs.declared.edit.Edit.TheVariants.{Stage, Insert, Update, Move, Delete}
@@ -63,11 +66,20 @@ is_delete (Update a b) = false
 is_delete (Move a b) = false
 is_delete (Delete r) = true
 
+-- the rows of a pair are exchanged, and have one key
+abbrev pub update : Exchange → Edit
+update e = Update e.at e.other
+
 -- The edits are deletions, as many as there are rows in use, and at most as many as a table may have.
 pub record DeletesAll (edits : List Edit) (rows : StoredRows) : Type 0 where
   pub deletions : list_all is_delete edits ≡ true
   pub as_many : length edits ≡ length rows.refs
   pub few : length edits ≤ most_rows
+
+-- Edits can be made in this way: they delete all rows of the table, or they update the rows of these pairs.
+abbrev pub Suits : List Edit → StoredRows → Bulk → Type 0
+Suits edits rows Deletions = DeletesAll edits rows
+Suits edits rows (Updates pairs) = edits ≡ map update pairs.items
 
 -- A table owes the capacity for the undo of these edits in addition.
 pub record OwesAll (edits : List Edit) (old new : IndexRoom) : Type 0 where

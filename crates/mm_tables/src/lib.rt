@@ -1,7 +1,7 @@
 //! The rows of all tables, with one log of the edits of a transaction.
 #![tactic(auto)]
 
-mod deletions;
+mod bulk;
 mod edit;
 mod index_room;
 mod log_record;

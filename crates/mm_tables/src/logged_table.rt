@@ -1,18 +1,19 @@
 //! A table, and the capacity that the undo of its edits needs.
-ghost use Rattle.std.specs.Prelude.{◌≡◌, ◌+◌, ◌≤◌, ◌<◌, ◌^◌, ℕ, All, length, OnOk, OnErr};
+ghost use Rattle.std.specs.Prelude.{◌≡◌, ◌+◌, ◌≤◌, ◌<◌, ◌^◌, ℕ, All, length, map, OnOk, OnErr};
 ghost use Rattle.mm_value.specs.Storable.{AreStorable};
 ghost use Rattle.mm_schema.specs.Rows.{most_rows};
 ghost use Rattle.mm_partition.specs.Places.{Free, Hidden};
 ghost use Rattle.mm_partition.specs.Types.{HasTypes};
-ghost use Rattle.mm_tables.specs.Commands.{after, DeletesAll, FitsForth, OwesAll};
+ghost use Rattle.mm_tables.specs.Commands.{after, update, DeletesAll, FitsForth, IsCommand, OwesAll, Suits};
 ghost use Rattle.mm_tables.specs.Edits.{put, step, step_back, Fits, Stands, key_places, places, key_places_back, places_back, Owes};
 ghost use Rattle.mm_tables.specs.Edits.{IsCleared, DropsHidden};
 ghost use Rattle.mm_tables.specs.Tables.{extent_of_table, slots_of, shape_of, HasSpare, HasRoom, HasRoomFor, HasFewSpares, IndexAdded, without_index};
 
+use crate::bulk::Bulk;
 use crate::edit::Edit;
 use crate::index_room::IndexRoom;
 use crate::steps::{perform, release_hidden, take_back};
-use mm_indexed::IndexedRows;
+use mm_indexed::{Exchange, IndexedRows};
 use mm_schema::IndexKind;
 use mm_value::{RowRef, Value};
 use std::alloc::{AllocError, Global};
@@ -92,7 +93,7 @@ impl LoggedTable {
     }
 
     /// Makes edits that delete all rows in use, without a search for each of them.
-    pub(crate) fn delete_all(&mut self, edits: &[Edit])
+    fn delete_all(&mut self, edits: &[Edit])
         requires deletes { DeletesAll edits.now self.old.rows }
         requires fits { FitsForth self.old.rows.key edits.now (slots_of self.old) }
         requires room { HasRoomFor edits.now self.old }
@@ -108,6 +109,40 @@ impl LoggedTable {
         self.rows.hide_all();
         self.owed.key += edits.len();
         self.owed.indexes += edits.len();
+    }
+
+    /// Makes the updates of many pairs, and rebuilds the changed indexes.
+    fn update_all(&mut self, alloc: Global, pairs: &[Exchange])
+        requires command { IsCommand self.old.rows.key (map update pairs.now) (slots_of self.old) }
+        requires room { HasRoomFor (map update pairs.now) self.old }
+        requires few { self.old.owed.indexes + length pairs.now < 2 ^ 64 }
+        ensures slots { slots_of self.new ≡ after (map update pairs.now) (slots_of self.old) }
+        ensures owed { OwesAll (map update pairs.now) self.old.owed self.new.owed }
+        ensures spare { HasSpare self.new.owed.key self.new.owed.indexes self.new.rows }
+        ensures extent { extent_of_table self.new ≡ extent_of_table self.old }
+        ensures shape { shape_of self.new ≡ shape_of self.old }
+    {
+        self.rows.exchange_all_kept(alloc, pairs);
+        self.owed.indexes += pairs.len();
+    }
+
+    /// Makes the edits of a command at once.
+    pub(crate) fn change_bulk(&mut self, alloc: Global, edits: &[Edit], bulk: &Bulk)
+        requires suits { Suits edits.now self.old.rows bulk.now }
+        requires command { IsCommand self.old.rows.key edits.now (slots_of self.old) }
+        requires room { HasRoomFor edits.now self.old }
+        requires few_keys { self.old.owed.key + length edits.now < 2 ^ 64 }
+        requires few { self.old.owed.indexes + length edits.now < 2 ^ 64 }
+        ensures slots { slots_of self.new ≡ after edits.now (slots_of self.old) }
+        ensures owed { OwesAll edits.now self.old.owed self.new.owed }
+        ensures spare { HasSpare self.new.owed.key self.new.owed.indexes self.new.rows }
+        ensures extent { extent_of_table self.new ≡ extent_of_table self.old }
+        ensures shape { shape_of self.new ≡ shape_of self.old }
+    {
+        match bulk {
+            Bulk::Deletions => self.delete_all(edits),
+            Bulk::Updates(pairs) => self.update_all(alloc, pairs.as_slice()),
+        }
     }
 
     /// Undoes an edit.

@@ -10,12 +10,12 @@ ghost use Rattle.mm_row_order.specs.Refs.{HasRow};
 ghost use Rattle.mm_indexed.specs.Twins.{AreApart};
 ghost use Rattle.mm_schema.specs.Rows.{most_rows};
 ghost use Rattle.mm_tables.specs.Edits.{put, step, Fits, key_places, places};
-ghost use Rattle.mm_tables.specs.Commands.{after, DeletesAll, FitsForth, IsCommand};
+ghost use Rattle.mm_tables.specs.Commands.{after, IsCommand, Suits};
 ghost use Rattle.mm_tables.specs.Tables.{AddsTable, IndexAdded, without_index, extent_in, extents_of, shape_of, state_of, slots_in, key_in, at_mark, logged};
 ghost use Rattle.mm_tables.specs.Tables.{HasCapacity, HasRoom, HasRoomFor, HasFewSpares, HoldsAt, KeepsOthers, IsLogged, IsUndone};
 ghost use Rattle.mm_tables.specs.declared.edit.Edit.TheVariants as made;
 
-use crate::deletions::{delete_all_rows, log_all};
+use crate::bulk::{Bulk, bulk_of, log_all};
 use crate::edit::{Edit, room_for};
 use crate::index_room::IndexRoom;
 use crate::log_record::LogRecord;
@@ -330,11 +330,11 @@ impl Tables {
         }
     }
 
-    /// Makes the edits of a command that delete all rows of a table, at once.
-    fn delete_all(&mut self, table: usize, edits: &[Edit])
+    /// Makes the edits of a command in a table at once.
+    fn change_bulk(&mut self, alloc: Global, table: usize, edits: &[Edit], bulk: &Bulk)
         requires within { table < length self.old.tables }
-        requires deletes { HoldsAt (λ x. DeletesAll edits.now x.rows) self.old.tables table }
-        requires fits { FitsForth (key_in self.old.tables table) edits.now (slots_in self.old.tables table) }
+        requires suits { HoldsAt (λ x. Suits edits.now x.rows bulk.now) self.old.tables table }
+        requires command { IsCommand (key_in self.old.tables table) edits.now (slots_in self.old.tables table) }
         requires capacity { HoldsAt (HasRoomFor edits.now) self.old.tables table }
         requires log_room { length edits.now ≤ self.old.log_room }
         ensures state { state_of self.new.tables
@@ -346,14 +346,14 @@ impl Tables {
         ensures extents { extents_of self.new.tables ≡ extents_of self.old.tables }
         ensures shapes { map shape_of self.new.tables ≡ map shape_of self.old.tables }
     {
-        self.tables[table].delete_all(edits);
+        self.tables[table].change_bulk(alloc, edits, bulk);
         log_all(&mut self.log, table as u16, edits);
     }
 
-    /// Makes the edits of a command in a table, one after the other, unless they delete all its rows.
+    /// Makes the edits of a command in a table, one after the other, unless they can be made at once.
     fn change_all(&mut self, table: usize, edits: &[Edit])
         requires within { table < length self.old.tables }
-        requires fits { FitsForth (key_in self.old.tables table) edits.now (slots_in self.old.tables table) }
+        requires command { IsCommand (key_in self.old.tables table) edits.now (slots_in self.old.tables table) }
         requires capacity { HoldsAt (HasRoomFor edits.now) self.old.tables table }
         requires log_room { length edits.now ≤ self.old.log_room }
         ensures state { state_of self.new.tables
@@ -365,8 +365,9 @@ impl Tables {
         ensures extents { extents_of self.new.tables ≡ extents_of self.old.tables }
         ensures shapes { map shape_of self.new.tables ≡ map shape_of self.old.tables }
     {
-        if delete_all_rows(&self.tables[table].rows, edits) {
-            self.delete_all(table, edits);
+        let alloc = *self.log.allocator();
+        if let Some(bulk) = bulk_of(alloc, &self.tables[table].rows, edits) {
+            self.change_bulk(alloc, table, edits, &bulk);
             return;
         }
         for edit in edits {

@@ -1,21 +1,23 @@
-use Rattle.std.proofs.Common.{ℕ, ◌<◌, length, map, take, ap, ◌∙◌, subst, arith}
-use Rattle.std.proofs.lemmas.List.{length-append, get_or_default}
-use Rattle.mm_tables.specs.Commands.{DeletesAll}
-use Rattle.mm_tables.specs.Tables.{Stored, HoldsAt, logged}
-use Rattle.mm_tables.specs.declared.logged_table.LoggedTable.{LoggedTable}
-use Rattle.mm_tables.proofs.InTables.{HoldsAt-read, size_from_shapes, others_both}
+use Rattle.std.proofs.Common.{ℕ, ◌<◌, length, map, take, refl, sym, ap, ◌∙◌, arith}
+use Rattle.std.proofs.lemmas.List.{append-nil, length-append, get_or_default}
+use Rattle.mm_tables.specs.Tables.{logged}
+use Rattle.mm_tables.proofs.Commands.{FitsForth-command}
+use Rattle.mm_tables.proofs.InTables.{size_from_shapes, others_both}
 use Rattle.mm_tables.proofs.Making.{change_more, room_ahead, room_next}
-use Rattle.mm_tables.proofs.Slots.{on_true}
 use Rattle.mm_tables.proofs.tables.Tables.change_all.Goals as goal
 
-pub delete_all-requires-clause-deletes : goal.delete_all-requires-clause-deletes
-delete_all-requires-clause-deletes c =
-    let t : ℕ = c.args.table in
-    let deletes : LoggedTable → Type 0 = λ x. DeletesAll c.args.edits.now x.rows in
-    let within : t < length c.self.inside.tables.items = omega (arith, c.requires.within, ap (λ (s : Stored). length s.tables) c.self.view_is) in
-    subst (λ (s : Stored). HoldsAt deletes s.tables t) c.self.view_is
-    (HoldsAt-read deletes c.self.inside.tables.items t c.index.result.now within c.index.ensures
-    (on_true _ _ c.if-delete_all_rows.true c.delete_all_rows.ensures))
+pub loop-edit-init : goal.loop-edit-init
+loop-edit-init c = record {
+  fits = FitsForth-command _ c.args.edits.now _ c.requires.command;
+  state = refl;
+  log = sym (append-nil c.args.self.now.log);
+  marks = λ mark here. refl;
+  log_room = omega arith;
+  capacity = c.requires.capacity;
+  others = λ t d apart. refl;
+  extents = refl;
+  shapes = refl;
+}
 
 pub change-requires-clause-capacity : goal.change-requires-clause-capacity
 change-requires-clause-capacity c d =

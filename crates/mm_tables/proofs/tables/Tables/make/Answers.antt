@@ -41,12 +41,6 @@ returns-in-Some-clause-apart c =
     (lone_apart (key_in start t) edits (slots_in start t) c.in-Some.at c.in-Some.ensures c.requires.apart
     (lone_hidden (key_in start t) edits (slots_in start t) c.in-Some.at c.in-Some.ensures c.requires.command.fits) none)
 
-pub change_all-requires-clause-fits : goal.change_all-requires-clause-fits
-change_all-requires-clause-fits c = FitsForth-command _ c.args.edits.now _ c.requires.command
-
-pub change_all-requires-2-clause-fits : goal.change_all-requires-2-clause-fits
-change_all-requires-2-clause-fits c = FitsForth-command _ c.args.edits.now _ c.requires.command
-
 pub bring_twins-requires : goal.bring_twins-requires
 bring_twins-requires c =
     let start = c.args.self.now in

@@ -1,6 +1,6 @@
 use Rattle.std.proofs.Common.{◌≡◌, ◌++◌, map, take, vec_capacity}
 use Rattle.mm_tables.specs.Tables.{logged}
-use Rattle.mm_tables.proofs.deletions.log_all.Given as goal
+use Rattle.mm_tables.proofs.bulk.log_all.Given as goal
 
 abbrev pub invariant-loop-edit : goal.invariant-loop-edit
 invariant-loop-edit l = record {
