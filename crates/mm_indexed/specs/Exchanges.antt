@@ -1,5 +1,5 @@
 -- Rows in use and hidden rows that change places in pairs.
-use Rattle.std.specs.Prelude.{◌≡◌, ◌≢◌, ℕ, ◌≤◌, ◌/◌, ◌⊎◌, true, List, length, All, AllPairs}
+use Rattle.std.specs.Prelude.{◌≡◌, ◌≢◌, ℕ, ◌+◌, ◌≤◌, ◌/◌, ◌⊎◌, true, List, length, All, AllPairs}
 use Rattle.mm_value.specs.declared.row_ref.RowRef.{RowRef}
 use Rattle.mm_schema.specs.Rows.{most_rows, same_in_column}
 use Rattle.mm_partition.specs.Places.{Live, Hidden}
@@ -28,11 +28,11 @@ pub record ExchangesAll (old new : Slots) (exchanges : List Exchange) : Type 0 w
 abbrev pub AgreeIn : ℕ → Slots → List Exchange → Type 0
 AgreeIn column now exchanges = All (λ e. same_in_column column (row_at now e.at) (row_at now e.other) ≡ true) exchanges
 
--- The index has the same column and kind, and no less capacity. It is unchanged and the pairs agree in its column, or it contains these
--- references.
+-- The index has the same column and kind, and its capacity decreases by at most one entry per pair. It is unchanged and the pairs agree in
+-- its column, or it contains these references.
 pub record Follows (key : ℕ) (now : Slots) (refs : List RowRef) (exchanges : List Exchange) (old new : Index) : Type 0 where
   pub same : SameIndex old new
-  pub spare : spare_of old ≤ spare_of new
+  pub spare : spare_of old ≤ spare_of new + length exchanges
   pub entries : ((new ≡ old) × AgreeIn (column_of old) now exchanges) ⊎ Keeps key now refs new
 
 -- This many pairs are enough to rebuild the indexes, and there are any.

@@ -85,7 +85,8 @@ impl IndexedRows {
         ensures err { OnErr result (IsUnchanged self.old.places self.new.places) }
         ensures room { self.new.places.room ≡ self.old.places.room }
         ensures extent { extent_of self.new.places ≡ extent_of self.old.places }
-        ensures table { SameTable 0 0 self.old self.new }
+        ensures table { SameTable 0 (length exchanges.now) self.old self.new }
+        ensures kept { OnErr result (SameTable 0 0 self.old self.new) }
     {
         let refs = copy_refs(alloc, &self.by_key)?;
         exchange_rows(&mut self.rows, exchanges);

@@ -34,7 +34,7 @@ impl Index {
     }
 
     /// Returns the index that replaces this one after exchanges, over all rows in use, or `None` if the rows of each pair agree in its
-    /// column. `AllocError` if an allocation fails.
+    /// column. The entries of the pairs are in the new index, so it needs that much less capacity. `AllocError` if an allocation fails.
     fn rebuilt(
         &self,
         alloc: Global,
@@ -55,7 +55,7 @@ impl Index {
         if agree_in(rows, column, exchanges) {
             return Ok(None);
         }
-        let more = self.spare();
+        let more = self.spare().saturating_sub(exchanges.len());
         let rebuilt = Index::with_room(alloc, rows, column, key, self.kind(), refs, more)?;
         Ok(Some(rebuilt))
     }

@@ -1,8 +1,4 @@
-use Rattle.std.proofs.Common.{sym, ap, ◌∙◌, subst, refl}
-use Rattle.std.specs.Prelude.{IsPermutation}
-use Rattle.std.proofs.lemmas.List.Sorted.{IsPermutation-refl}
 use Rattle.mm_partition.specs.Places.{slot_at}
-use Rattle.mm_row_order.specs.InOrder.{InOrder}
 use Rattle.mm_indexed.proofs.Building.{wide_refs}
 use Rattle.mm_indexed.proofs.indexes.index.Index.over.Goals as goal
 
