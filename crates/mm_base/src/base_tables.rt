@@ -334,7 +334,7 @@ impl BaseTables {
     /// Makes the edits of a command in a table. Fails with the first refusal that is due: `DuplicateKey` if two rows would have one key,
     /// `NoTargetRow` if a row would refer to no row, `RowIsReferenced` if a row to which another one refers would be deleted or get another
     /// key, or `TableFull` if there would be more than 1,048,576 rows. Then all tables and the log are as they were at a mark, also without
-    /// the rows that were staged since. Allocates nothing.
+    /// the rows that were staged since. Does not fail if an allocation fails.
     pub fn make(&mut self, mark: usize, table: usize, edits: &[Edit]) -> Result<(), Refusal>
         requires mark { mark ≤ length self.old.stored.log }
         requires lawful { AreLawful (keys_of self.old.stored.tables) (at_mark self.old.stored mark) }

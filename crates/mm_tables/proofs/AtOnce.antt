@@ -46,7 +46,7 @@ exchange_undone a b now live hidden = λ i r.
     (λ not_b. step_leaves (Update a b) now r (λ same. apart_from_test a r not_a (sym same), λ same. apart_from_test b r not_b (sym same))))
     i
 
-edit_undone : (key : ℕ) (e : Edit) (now : Slots) → Fits key now e → step_back e (step e now) ≡ now
+pub edit_undone : (key : ℕ) (e : Edit) (now : Slots) → Fits key now e → step_back e (step e now) ≡ now
 edit_undone key (Stage s) now fits = absurd fits
 edit_undone key (Insert s) now hidden = λ i r.
     picked (same_ref s r) _ _ (now r)
@@ -64,7 +64,7 @@ edit_undone key (Delete s) now live = λ i r.
     i
 
 -- an edit leaves its slots as its undo requires them
-edit_stands : (key : ℕ) (e : Edit) (now : Slots) → Fits key now e → Stands key (step e now) e
+pub edit_stands : (key : ℕ) (e : Edit) (now : Slots) → Fits key now e → Stands key (step e now) e
 edit_stands key (Stage s) now fits = absurd fits
 edit_stands key (Insert s) now hidden = (row_in (now s), put_here s s (Live (row_in (now s))) now refl)
 edit_stands key (Update a b) now (live, hidden, same) =

@@ -1,5 +1,5 @@
 -- The content of slots while edits are made and undone.
-use Rattle.std.proofs.Common.{◌≡◌, ◌≢◌, ℕ, Bool, true, false, cond, ◌⊎◌, ⊎_elim, inl, inr, List, refl, sym, ap, ap₂, ◌∙◌, subst}
+use Rattle.std.proofs.Common.{◌≡◌, ◌≢◌, ℕ, Bool, true, false, cond, ◌⊎◌, ⊎_elim, inl, inr, List, refl, sym, ap, ◌∙◌, subst}
 use Rattle.std.specs.Bool.{OnTrue, OnFalse}
 use Rattle.std.specs.Prelude.{Result, Ok, Err, OnOk, OnErr}
 use Rattle.std.specs.List.{All, Contains}
@@ -16,7 +16,6 @@ use Rattle.mm_value.specs.declared.values.Value.{Value}
 use Rattle.mm_schema.specs.Rows.{column_cmp}
 use Rattle.mm_partition.specs.Places.{Content, Places, Live, Hidden, row_in, slot_at, IsUnchanged, ChangesOnly, ChangesTwo}
 use Rattle.mm_row_order.specs.Refs.{Slots}
-use Rattle.mm_indexed.specs.Twins.{keys_by}
 use Rattle.mm_tables.specs.Edits.{same_ref, put, exchanged}
 
 pub same_or_apart : (a b : RowRef) → (a ≡ b) ⊎ (a ≢ b)
@@ -89,17 +88,7 @@ changed_back old new at was now is changes = λ i r.
     (λ apart. changes.others r (apart_from_test at r apart))
     i
 
--- an exchange undoes itself
-pub exchanged_back : (old new : Places) (a b : RowRef) (x y : List Value) → slot_at old a ≡ Live x → slot_at old b ≡ Hidden y
-    → ChangesTwo old new a b (Live y) (Hidden x) → exchanged a b (slot_at new) ≡ slot_at old
-exchanged_back old new a b x y live hidden changes = λ i r.
-    picked (same_ref a r) _ _ (slot_at old r)
-    (λ at_a. ap (λ c. Live (row_in c)) changes.second ∙ (sym live ∙ ap (slot_at old) (same_from_test a r at_a)))
-    (λ not_a. picked (same_ref b r) _ _ (slot_at old r)
-    (λ at_b. ap (λ c. Hidden (row_in c)) changes.first ∙ (sym hidden ∙ ap (slot_at old) (same_from_test b r at_b)))
-    (λ not_b. changes.others r (apart_from_test a r not_a) (apart_from_test b r not_b)))
-    i
-
+-- two slots are exchanged
 pub exchanged_made : (old new : Places) (a b : RowRef) (x y : List Value) → slot_at old a ≡ Live x → slot_at old b ≡ Hidden y
     → ChangesTwo old new a b (Live y) (Hidden x) → slot_at new ≡ exchanged a b (slot_at old)
 exchanged_made old new a b x y live hidden changes = λ i r.
@@ -123,10 +112,3 @@ equal_self key x = tied_itself (column_cmp_total key) x
 
 pub equal_through : (key : ℕ) (x y z : List Value) → column_cmp key x y ≡ Equal → column_cmp key y z ≡ Equal → column_cmp key x z ≡ Equal
 equal_through key x y z first second = (column_cmp_total key).congr x y z first ∙ second
-
--- rows of one key that are exchanged still have one key
-pub still_one_key : (key : ℕ) (old new : Slots) (a b : RowRef) (x y : List Value) → old a ≡ Live x → old b ≡ Hidden y → new a ≡ Live y → new b ≡ Hidden x
-    → keys_by key old a b ≡ Equal → keys_by key new a b ≡ Equal
-still_one_key key old new a b x y old_a old_b new_a new_b same =
-    let was : column_cmp key x y ≡ Equal = sym (ap₂ (λ c d. column_cmp key (row_in c) (row_in d)) old_a old_b) ∙ same in
-    ap₂ (λ c d. column_cmp key (row_in c) (row_in d)) new_a new_b ∙ equal_turns key x y was

@@ -376,7 +376,7 @@ impl Tables {
     }
 
     /// Makes the edits of a command in a table and returns `true`, unless they leave two rows with one key. In that case, rolls all tables
-    /// and the log back to a savepoint, including the rows staged since, and returns `false`.
+    /// and the log back to a savepoint, including the rows staged since, and returns `false`. Does not fail if an allocation fails.
     pub fn make(&mut self, mark: usize, table: usize, edits: &[Edit]) -> bool
         requires mark { mark ≤ length self.old.log }
         requires within { table < length self.old.tables }
