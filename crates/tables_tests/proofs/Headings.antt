@@ -1,16 +1,14 @@
 -- Lemmas about the tables of the tests.
 use Rattle.std.proofs.Common.{◌≡◌, ◌≢◌, ◌⊎◌, ⊎_elim, inl, inr, ℕ, ◌<◌, zero, suc, List, [], ◌∷◌, length, map, get_or, refl, sym, ap, ap₂, ◌∙◌, subst, arith}
 use Rattle.std.specs.Prelude.{Result, OnOk, OnErr}
-use Rattle.std.specs.List.{AllPairs, Contains}
+use Rattle.std.specs.List.{Contains}
 use Rattle.std.proofs.lemmas.Bool.{cases_eq}
 use Rattle.std.proofs.lemmas.List.{length-map, get_or_default}
 use Rattle.mm_schema.specs.declared.index.IndexKind.{IndexKind}
 use Rattle.mm_partition.specs.Places.{slot_at}
 use Rattle.mm_row_order.specs.Refs.{Slots}
 use Rattle.mm_indexed.specs.Kept.{StoredRows}
-use Rattle.mm_tables.specs.Commands.{IsApart}
 use Rattle.mm_tables.specs.Tables.{Stored, HoldsAt, IndexAdded, KeepsOthers, shape_of, slots_of, state_of, slots_in, key_in}
-use Rattle.mm_tables.specs.declared.edit.Edit.{Edit}
 use Rattle.mm_tables.specs.declared.logged_table.LoggedTable.{LoggedTable}
 use Rattle.mm_tables.proofs.InTables.{key_read, slots_read}
 use Rattle.mm_tables.proofs.Slots.{either_way}
@@ -67,9 +65,3 @@ contains_cases a xs x (suc k, within, is) = inr (k, omega arith, is)
 
 pub contains_none : {X : Type 0} (x : X) → Contains [] x → ⊥
 contains_none x (k, within, is) = let no : ⊥ = omega arith in no
-
-pub pair_apart : (a b : Edit) → IsApart a b → AllPairs IsApart (a ∷ b ∷ [])
-pair_apart a b apart zero zero d before within = let no : ⊥ = omega arith in absurd no
-pair_apart a b apart zero (suc zero) d before within = apart
-pair_apart a b apart zero (suc (suc n)) d before within = let no : ⊥ = omega arith in absurd no
-pair_apart a b apart (suc i) j d before within = let no : ⊥ = omega arith in absurd no

@@ -1,14 +1,13 @@
-//! Commands of two edits: made, or refused because two rows would have one key.
-ghost use Rattle.std.specs.Prelude.{◌≡◌, ◌≢◌, ◌<◌, ◌∷◌, []};
+//! Commands of several edits: made, or refused because two rows would have one key.
 ghost use Rattle.std.specs.Bool.{OnTrue};
 ghost use Rattle.mm_partition.specs.Places.{slot_at};
 ghost use Rattle.mm_indexed.specs.Twins.{AreApart};
-ghost use Rattle.mm_tables.specs.Commands.{IsCommand};
 ghost use Rattle.tables_tests.specs.Samples.{AreSample};
 
 use crate::assertions::{assert_same, assert_that};
 use crate::plain::{PlainRow, assert_records, assert_rows};
-use crate::samples::{add_index, change, fits, revert, stage, two_tables};
+use crate::ready::{all_apart, all_fit};
+use crate::samples::{add_index, change, revert, stage, two_tables};
 use mm_indexed::IndexedRows;
 use mm_schema::{IndexKind, MAX_ROWS};
 use mm_tables::{Edit, Tables};
@@ -33,47 +32,23 @@ fn keys_are_apart(rows: &IndexedRows) -> bool
     true
 }
 
-/// Two rows that are exchanged: a row in use, and a hidden row.
-#[derive(Clone, Copy)]
-struct Swap {
-    at: RowRef,
-    other: RowRef,
-}
-
-/// Returns whether two exchanges have no slot in common.
-fn are_apart(one: Swap, two: Swap) -> bool
-    ensures at { OnTrue result (one.at ≢ two.at) }
-    ensures other { OnTrue result (one.other ≢ two.other) }
-    ensures cross { OnTrue result (one.at ≢ two.other) }
-    ensures across { OnTrue result (one.other ≢ two.at) }
-{
-    one.at.slot != two.at.slot
-        && one.other.slot != two.other.slot
-        && one.at.slot != two.other.slot
-        && one.other.slot != two.at.slot
-}
-
-/// Makes two exchanges in the first table in one command, and returns whether they were made. A refusal undoes all changes beyond the
-/// savepoint.
-fn make_two(
+/// Makes the edits of a command in the first table, and returns whether they were made. A refusal undoes all changes beyond the savepoint.
+fn make(
     rt: &(impl Abort + AllocGlobal),
     tables: &mut Tables,
     mark: usize,
-    one: Swap,
-    two: Swap,
+    edits: &[Edit],
 ) -> Result<bool, AllocError>
     requires { AreSample tables.old }
     ensures { AreSample tables.new }
 {
-    let edits = [Edit::Move(one.at, one.other), Edit::Move(two.at, two.other)];
-    tables.reserve_for(rt.alloc(), 0, &edits)?;
-    tables.reserve_log(2)?;
+    tables.reserve_for(rt.alloc(), 0, edits)?;
+    tables.reserve_log(edits.len())?;
     assert_that(rt, mark <= tables.mark());
-    assert_that(rt, are_apart(one, two));
-    assert_that(rt, fits(tables.table(0), edits[0]));
-    assert_that(rt, fits(tables.table(0), edits[1]));
+    assert_that(rt, all_fit(tables.table(0), edits));
+    assert_that(rt, all_apart(edits));
     assert_that(rt, keys_are_apart(tables.table(0)));
-    Ok(tables.make(mark, 0, &edits))
+    Ok(tables.make(mark, 0, edits))
 }
 
 /// Inserts a row into the first table.
@@ -110,15 +85,8 @@ fn change_keys(
     let mark = tables.mark();
     let first = stage(tables, rt.alloc(), 0, one, 8)?;
     let second = stage(tables, rt.alloc(), 0, two, 9)?;
-    let one = Swap {
-        at: rows[0],
-        other: first,
-    };
-    let two = Swap {
-        at: rows[1],
-        other: second,
-    };
-    make_two(rt, tables, mark, one, two)
+    let edits = [Edit::Move(rows[0], first), Edit::Move(rows[1], second)];
+    make(rt, tables, mark, &edits)
 }
 
 /// Asserts that a command increases the keys 1 and 2 by one.
@@ -181,34 +149,6 @@ fn refuses_one_key(rt: HostRuntime) -> Result<(), Fail> {
     Ok(())
 }
 
-/// Returns whether two references differ.
-fn differ(one: RowRef, two: RowRef) -> bool
-    ensures { OnTrue result (one ≢ two) }
-{
-    one.slot != two.slot
-}
-
-/// Deletes two rows of the first table in one command.
-fn delete_two(
-    rt: &(impl Abort + AllocGlobal),
-    tables: &mut Tables,
-    one: RowRef,
-    two: RowRef,
-) -> Result<bool, AllocError>
-    requires { AreSample tables.old }
-    ensures { AreSample tables.new }
-{
-    let edits = [Edit::Delete(one), Edit::Delete(two)];
-    tables.reserve_for(rt.alloc(), 0, &edits)?;
-    tables.reserve_log(2)?;
-    assert_that(rt, differ(one, two));
-    assert_that(rt, fits(tables.table(0), edits[0]));
-    assert_that(rt, fits(tables.table(0), edits[1]));
-    assert_that(rt, keys_are_apart(tables.table(0)));
-    let mark = tables.mark();
-    Ok(tables.make(mark, 0, &edits))
-}
-
 /// Deletes all rows of the first table, which has two, and inserts another one.
 fn replace_all(
     rt: &(impl Abort + AllocGlobal),
@@ -219,7 +159,9 @@ fn replace_all(
     requires { AreSample tables.old }
     ensures { AreSample tables.new }
 {
-    let made = delete_two(rt, tables, one.at, two.at)?;
+    let edits = [Edit::Delete(one.at), Edit::Delete(two.at)];
+    let mark = tables.mark();
+    let made = make(rt, tables, mark, &edits)?;
     assert_that(rt, made);
     assert_rows(rt, tables, &[]);
     assert_records(rt, tables, 6);
@@ -255,5 +197,45 @@ fn deletes_all_rows(rt: HostRuntime) -> Result<(), Fail> {
     let one = add(&rt, &mut tables, 1, 5)?;
     let two = add(&rt, &mut tables, 2, 6)?;
     delete_all(&rt, &mut tables, one, two)?;
+    Ok(())
+}
+
+/// Sets the digit of each row of the first table to 7 in one command. Returns the rows afterwards.
+fn update_all(
+    rt: &(impl Abort + AllocGlobal),
+    tables: &mut Tables,
+    rows: &[PlainRow],
+) -> Result<Vec<PlainRow>, AllocError>
+    requires { AreSample tables.old }
+    ensures { AreSample tables.new }
+{
+    let mark = tables.mark();
+    let mut edits = Vec::new(rt.alloc());
+    let mut changed = Vec::new(rt.alloc());
+    for row in rows {
+        let other = stage(tables, rt.alloc(), 0, row.key, 7)?;
+        edits.push(Edit::Update(row.at, other))?;
+        changed.push(PlainRow { digit: 7, ..*row })?;
+    }
+    let made = make(rt, tables, mark, edits.as_slice())?;
+    assert_that(rt, made);
+    Ok(changed)
+}
+
+#[test]
+fn updates_many_rows(rt: HostRuntime) -> Result<(), Fail> {
+    let mut tables = two_tables(rt.alloc())?;
+    add_index(&mut tables, rt.alloc(), 0, IndexKind::Tree)?;
+    add_index(&mut tables, rt.alloc(), 0, IndexKind::Hash)?;
+    let mut rows = Vec::new(rt.alloc());
+    for key in 0..40 {
+        rows.push(add(&rt, &mut tables, key, key % 8)?)?;
+    }
+    let mark = tables.mark();
+    let changed = update_all(&rt, &mut tables, rows.as_slice())?;
+    assert_rows(&rt, &tables, changed.as_slice());
+    assert_records(&rt, &tables, 160);
+    revert(&rt, &mut tables, mark);
+    assert_rows(&rt, &tables, rows.as_slice());
     Ok(())
 }

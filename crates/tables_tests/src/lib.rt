@@ -10,6 +10,8 @@ mod growths;
 #[cfg(test)]
 mod plain;
 #[cfg(test)]
+mod ready;
+#[cfg(test)]
 mod samples;
 #[cfg(test)]
 mod transactions;
