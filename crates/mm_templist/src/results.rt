@@ -80,8 +80,12 @@ impl<'a> TempList<'a> {
         ensures reads { view.new.reads ≤ view.old.reads + length self.now.combos * length self.now.tables }
         ensures same { view.new.store ≡ view.old.store }
     {
-        if self.len() == 1 && self.descriptor().fields.len() <= FEW_VALUES {
-            return self.copy_only(alloc, view, buffer);
+        match self.len() {
+            0 => return Ok(()),
+            1 if self.descriptor().fields.len() <= FEW_VALUES => {
+                return self.copy_only(alloc, view, buffer);
+            }
+            _ => {}
         }
         let shown = self.shown(alloc, view, distinct, order)?;
         shown.copy_into(alloc, buffer)
@@ -104,8 +108,13 @@ impl<'a> TempList<'a> {
         ensures same { view.new.store ≡ view.old.store }
     {
         let descriptor = self.descriptor();
+        let combo = self.combo(0);
+        if descriptor.tables.len() == 1 {
+            let row = view.row(descriptor.tables[0], combo[0]);
+            return copy_values(alloc, descriptor.fields, &[Some(row)], buffer);
+        }
         let mut chosen = SmallVec::with_capacity(alloc, descriptor.tables.len())?;
-        choose_rows(view, descriptor.tables, self.combo(0), &mut chosen)?;
+        choose_rows(view, descriptor.tables, combo, &mut chosen)?;
         copy_values(alloc, descriptor.fields, chosen.as_slice(), buffer)
     }
 
