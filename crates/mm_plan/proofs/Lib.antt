@@ -9,6 +9,7 @@ mod FoundRows
 mod Growing
 mod Joining
 mod KeyOrder
+mod KeyRows
 mod Keyed
 pub mod Named
 pub mod NamedJoins

@@ -59,20 +59,6 @@ pub fn plan_steps(
     Ok(steps)
 }
 
-/// Returns the step of a query of one table, as [`plan_steps`] does, without a list.
-pub(crate) fn plan_alone(view: &View<'_>, query: &BoundQuery, tables: &[usize]) -> [Step; 1]
-    requires there { All (λ table. table < length view.now.store.tables) tables.now }
-    requires alone { length tables.now ≡ 1 }
-    ensures steps { result ≡ steps_of view.now.store query.now.atoms tables.now }
-    ensures allowed { AreSteps view.now.store query.now.atoms tables.now result }
-{
-    let chooser = Chooser {
-        view,
-        atoms: query.atoms.as_slice(),
-    };
-    [chooser.first_step(tables[0])]
-}
-
 /// The input of the rules: the current tables, and the atoms of a query.
 #[derive(Clone, Copy)]
 pub(crate) struct Chooser<'c, 'v> {

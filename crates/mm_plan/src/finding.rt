@@ -1,5 +1,5 @@
 //! The rows of one table that satisfy atoms.
-ghost use Rattle.std.specs.Prelude.{◌≡◌, ◌+◌, ◌++◌, ◌<◌, ◌≤◌, [], ℕ, true, All, IfOk, IsOk, IsPermutation, None, OnOk, length, map};
+ghost use Rattle.std.specs.Prelude.{◌≡◌, ◌+◌, ◌++◌, ◌<◌, ◌≤◌, [], ℕ, true, All, Contains, IfOk, IsOk, IsPermutation, None, OnOk, length, map};
 ghost use Rattle.std.specs.List.{count_by};
 ghost use Rattle.std.specs.List.Sorted.{IsSortedByKey};
 ghost use Rattle.mm_partition.specs.Places.{IsLive};
@@ -8,18 +8,25 @@ ghost use Rattle.mm_plan.specs.Finding.{IsKeyed, among, finds_in_key_order, is_a
 ghost use Rattle.mm_plan.specs.Steps.{may_look};
 ghost use Rattle.mm_plan.specs.declared.step.Step.TheVariants.{LookUp};
 ghost use Rattle.mm_indexed.specs.Kept.{StoredRows};
+ghost use Rattle.mm_query.specs.declared.atom.Comparison.TheVariants.{Equal};
+ghost use Rattle.mm_select.specs.Accesses.{has};
+ghost use Rattle.mm_select.specs.Asked.{compares};
+ghost use Rattle.mm_select.specs.Matches.{matching};
 ghost use Rattle.mm_store.specs.Tables.{IsAt, rows_at};
 ghost use Rattle.mm_store.specs.declared.index_ref.IndexRef.TheVariants.{Key};
 ghost use Rattle.mm_value.specs.Order.{value_cmp};
+ghost use Rattle.mm_templist.specs.Combos.{row_of};
 ghost use Rattle.mm_value.specs.Views.{value_of};
+ghost use Rattle.mm_value.specs.declared.values.Value.{Value as AnyValue};
 
 use crate::beginning::access_by;
 use crate::choosing::Chooser;
-use mm_query::{Atom, FieldPlace};
-use mm_select::select_refs;
-use mm_store::View;
+use mm_query::{Atom, FieldPlace, none_fails};
+use mm_select::{Access, select_refs};
+use mm_store::{IndexRef, View};
 use mm_templist::FoundRefs;
-use mm_value::{RowRef, ValueRef, compare};
+use mm_value::{RowRef, Value, ValueRef, compare};
+use smallvec::SmallVec;
 use std::alloc::{AllocError, Global};
 
 /// The key and the reference of a row.
@@ -55,6 +62,78 @@ pub fn find_rows(
         return Ok(found);
     }
     in_key_order(alloc, view, table, found)
+}
+
+/// Returns the references of the rows of a table that make no atom false, each once and in no particular order, found by the step of a
+/// query of this table alone. Fails with `AllocError` if an allocation fails; a look-up by key allocates nothing.
+pub(crate) fn find_refs(
+    alloc: Global,
+    view: &mut View<'_>,
+    table: usize,
+    atoms: &[Atom<FieldPlace>],
+) -> Result<FoundRefs, AllocError>
+    requires { table < length view.old.store.tables }
+    ensures found { IfOk result (λ found. (stored : StoredRows) → IsAt view.old.store table stored
+        → IsPermutation found.items (matching view.old.store table atoms.now [] stored.refs)) }
+    ensures live { IfOk result (λ found. (stored : StoredRows) → IsAt view.old.store table stored → All (IsLive stored.places) found.items) }
+    ensures reads { view.new.reads ≤ view.old.reads
+        + count_by (may_look atoms.now 0 (first_step view.old.store atoms.now table) []) (rows_at view.old.store.tables table) }
+    ensures same { view.new.store ≡ view.old.store }
+    ensures met { (atom : ℕ) → first_step view.old.store atoms.now table ≡ LookUp Key atom → IsOk result }
+{
+    let step = Chooser { view, atoms }.first_step(table);
+    let access = access_by(atoms, step);
+    match access {
+        Access::Equal {
+            index: IndexRef::Key,
+            value,
+            ..
+        } => Ok(row_with_key(alloc, view, table, atoms, value)),
+        _ => select_refs(alloc, view, table, atoms, access),
+    }
+}
+
+/// Returns whether no atom is false for a row with a key, which one of the atoms requires. Reads the row only if there are other atoms.
+fn fits(view: &mut View<'_>, table: usize, at: RowRef, atoms: &[Atom<FieldPlace>]) -> bool
+    requires there { table < length view.old.store.tables }
+    requires live { (stored : StoredRows) → IsAt view.old.store table stored → IsLive stored.places at }
+    requires asked { (column : ℕ) × (key : AnyValue) × Contains atoms.now (compares column Equal key)
+        × (has column key (row_of view.old.store table at) ≡ true) }
+    ensures told { result ≡ meets atoms.now (row_of view.old.store table at) }
+    ensures reads { view.new.reads ≤ view.old.reads + 1 }
+    ensures same { view.new.store ≡ view.old.store }
+{
+    if atoms.len() == 1 {
+        return true;
+    }
+    let row = view.row(table, at);
+    none_fails(atoms, &[Some(row)])
+}
+
+/// Returns the reference of the row with a key for which no atom is false, if there is one. Reads the row only if there are several atoms.
+fn row_with_key(
+    alloc: Global,
+    view: &mut View<'_>,
+    table: usize,
+    atoms: &[Atom<FieldPlace>],
+    key: &Value,
+) -> FoundRefs
+    requires there { table < length view.old.store.tables }
+    requires asked { (stored : StoredRows) → IsAt view.old.store table stored → Contains atoms.now (compares stored.key Equal key.now) }
+    ensures found { (stored : StoredRows) → IsAt view.old.store table stored
+        → IsPermutation result.items (matching view.old.store table atoms.now [] stored.refs) }
+    ensures live { (stored : StoredRows) → IsAt view.old.store table stored → All (IsLive stored.places) result.items }
+    ensures reads { (stored : StoredRows) → IsAt view.old.store table stored
+        → view.new.reads ≤ view.old.reads + count_by (has stored.key key.now) (rows_at view.old.store.tables table) }
+    ensures same { view.new.store ≡ view.old.store }
+{
+    let mut found = SmallVec::new(alloc);
+    if let Some(at) = view.find(table, key.as_ref()) {
+        if fits(view, table, at, atoms) {
+            found.push_reserved(at);
+        }
+    }
+    found
 }
 
 /// Returns those of the table's references that are among the given ones, each once and in key order. The given references may be in any

@@ -11,12 +11,13 @@ ghost use Rattle.mm_templist.specs.Combos.{AreLive};
 ghost use Rattle.mm_value.specs.declared.refusal.Refusal.TheVariants.{Memory};
 
 use crate::beginning::begin;
-use crate::choosing::{plan_alone, plan_steps};
+use crate::choosing::plan_steps;
+use crate::finding::find_refs;
 use crate::next_table::join_next;
 use crate::step::Step;
 use mm_query::BoundQuery;
 use mm_store::View;
-use mm_templist::TempList;
+use mm_templist::{Descriptor, TempList};
 use mm_value::Refusal;
 use std::alloc::Global;
 
@@ -41,11 +42,38 @@ pub fn run_query<'a>(
     ensures same { view.new.store ≡ view.old.store }
 {
     if tables.len() == 1 {
-        let step = plan_alone(view, query, tables);
-        return run_plan(alloc, view, query, tables, &step);
+        return run_alone(alloc, view, query, tables);
     }
     let steps = plan_steps(alloc, view, query, tables)?;
     run_plan(alloc, view, query, tables, steps.as_slice())
+}
+
+/// Runs a query of one table as [`run_query`] does: the references that its step finds are the combinations.
+fn run_alone<'a>(
+    alloc: Global,
+    view: &mut View<'_>,
+    query: &'a BoundQuery,
+    tables: &'a [usize],
+) -> Result<TempList<'a>, Refusal>
+    requires there { All (λ table. table < length view.old.store.tables) tables.now }
+    requires alone { length tables.now ≡ 1 }
+    ensures due { AnswersDue (first_refusal (size_conditions (bag_of query.now (map (rows_at view.old.store.tables) tables.entry.now)))) result }
+    ensures fitting { IfOk result (λ list. AreFitting view.old.store query.now.atoms list) }
+    ensures live { IfOk result (λ list. All (AreLive view.old.store list.tables) list.combos) }
+    ensures tables { IfOk result (λ list. list.tables ≡ tables.entry.now) }
+    ensures fields { IfOk result (λ list. list.fields ≡ query.now.fields) }
+    ensures reads { view.new.reads ≤ view.old.reads
+        + plan_reads query.now.atoms (steps_of view.old.store query.now.atoms tables.entry.now) (map (rows_at view.old.store.tables) tables.entry.now) }
+    ensures same { view.new.store ≡ view.old.store }
+{
+    let descriptor = Descriptor {
+        tables,
+        fields: query.fields.as_slice(),
+    };
+    match find_refs(alloc, view, tables[0], query.atoms.as_slice()) {
+        Ok(refs) => Ok(TempList::of_refs(descriptor, refs)),
+        Err(_) => Err(Refusal::Memory),
+    }
 }
 
 /// Returns the combinations of rows that fit a query, each once and in no particular order. `tables` has the positions of its tables in the
