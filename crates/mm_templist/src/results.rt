@@ -81,12 +81,30 @@ impl<'a> TempList<'a> {
         ensures same { view.new.store ≡ view.old.store }
     {
         match self.len() {
-            0 => return Ok(()),
+            0 => Ok(()),
             1 if self.descriptor().fields.len() <= FEW_VALUES => {
-                return self.copy_only(alloc, view, buffer);
+                self.copy_only(alloc, view, buffer)
             }
-            _ => {}
+            _ => self.copy_sorted(alloc, view, distinct, order, buffer),
         }
+    }
+
+    /// Copies as [`TempList::copy_into`] does. A separate function, so that a single row moves no list of values.
+    #[inline(never)]
+    fn copy_sorted(
+        &self,
+        alloc: Global,
+        view: &mut View<'_>,
+        distinct: bool,
+        order: &[usize],
+        buffer: &mut RowBuffer,
+    ) -> Result<(), AllocError>
+        requires live { All (AreLive view.old.store self.now.tables) self.now.combos }
+        ensures ok { OnOk result (buffer.new ≡ buffer.old ++ result_rows view.old.store self.now distinct order.now) }
+        ensures err { OnErr result (take (length buffer.old) buffer.new ≡ buffer.old) }
+        ensures reads { view.new.reads ≤ view.old.reads + length self.now.combos * length self.now.tables }
+        ensures same { view.new.store ≡ view.old.store }
+    {
         let shown = self.shown(alloc, view, distinct, order)?;
         shown.copy_into(alloc, buffer)
     }
