@@ -37,7 +37,9 @@ pub(crate) fn refill(
     }
 }
 
-/// Writes new values into the holes of the bound form of a change of rows as [`refill`] does.
+/// Writes new values into the holes of the bound form of a change of rows as [`refill`] does. A separate function, so that no query moves
+/// rows.
+#[inline(never)]
 fn refill_change(
     alloc: Global,
     holes: &Holes,

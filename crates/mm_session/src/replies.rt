@@ -3,6 +3,7 @@ ghost use Rattle.std.specs.Prelude.{◌≡◌, None, Ok};
 ghost use Rattle.mm_lang.specs.Answering.{MayLeadTo};
 ghost use Rattle.mm_query.specs.declared.command.Command.TheVariants.{Select};
 ghost use Rattle.mm_query.specs.declared.query.Query.{Query as AnyQuery};
+ghost use Rattle.mm_query.specs.declared.reply.Reply.TheVariants.{Refused};
 ghost use Rattle.mm_session.specs.Replies.{reply_lent};
 ghost use Rattle.mm_session.specs.Session.{changes_after};
 ghost use Rattle.mm_session.specs.steps.Kept.{reply_kept};
@@ -110,20 +111,45 @@ impl ReplySink for KeptReply {
     }
 
     fn take_selected(&mut self, alloc: Global, database: &Db, bound: &Bound) {
-        self.kept = select(alloc, database, bound, &mut self.rows);
+        select(alloc, database, bound, &mut self.rows, &mut self.kept);
     }
 }
 
-/// Runs a bound query, and returns its reply. Replaces the rows of the buffer.
-fn select(alloc: Global, database: &Db, bound: &Bound, rows: &mut RowBuffer) -> Kept
+/// Runs a bound query, and stores its reply. Replaces the rows of the buffer.
+fn select(alloc: Global, database: &Db, bound: &Bound, rows: &mut RowBuffer, kept: &mut Kept)
     requires { (query : AnyQuery) × IsBoundQuery database.now.schema query bound.now }
     ensures { (query : AnyQuery) → IsBoundQuery database.now.schema query bound.now
-        → MayLeadTo (Ok (Select query)) database.now (record { reply = reply_kept rows.new result; state = database.now }) }
+        → MayLeadTo (Ok (Select query)) database.now (record { reply = reply_kept rows.new kept.new; state = database.now }) }
 {
     rows.clear();
     let mut reads = 0;
     match database.select_into(alloc, bound, rows, &mut reads) {
-        Ok(()) => Kept::InBuffer,
-        Err(refusal) => Kept::Other(Reply::Refused(refusal)),
+        Ok(()) => keep_rows(kept),
+        Err(refusal) => keep_refusal(refusal, kept),
     }
+}
+
+/// Makes the rows of the buffer the reply. Moves no reply if the last reply was rows of the buffer too.
+fn keep_rows(kept: &mut Kept)
+    ensures { kept.new ≡ Kept.InBuffer }
+{
+    if !matches!(kept, Kept::InBuffer) {
+        keep_first_rows(kept);
+    }
+}
+
+/// Replaces another reply by the rows of the buffer. A separate function, so that rows after rows move no reply.
+#[inline(never)]
+fn keep_first_rows(kept: &mut Kept)
+    ensures { kept.new ≡ Kept.InBuffer }
+{
+    *kept = Kept::InBuffer;
+}
+
+/// Makes a refusal the reply. A separate function, so that rows after rows move no reply.
+#[inline(never)]
+fn keep_refusal(refusal: Refusal, kept: &mut Kept)
+    ensures { kept.new ≡ Kept.Other (Refused refusal) }
+{
+    *kept = Kept::Other(Reply::Refused(refusal));
 }

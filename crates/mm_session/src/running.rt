@@ -37,6 +37,7 @@ pub(crate) fn run_form<S: ReplySink>(
 }
 
 /// Makes a change of rows as [`run_form`] does. A separate function, so that no query moves rows.
+#[inline(never)]
 fn run_change<S: ReplySink>(
     alloc: Global,
     database: &mut Db,

@@ -165,7 +165,7 @@ impl Statement {
         if refill(alloc, &self.holes, values, form, &mut self.rows) {
             return true;
         }
-        self.bound = None;
+        drop_form(&mut self.bound);
         false
     }
 
@@ -182,6 +182,20 @@ impl Statement {
         if self.bound.is_some() || !self.kind.has_form() {
             return Ok(());
         }
+        self.bind_anew(alloc, database, values)
+    }
+
+    /// Reads the line, and binds its command with the values. A separate function, so that a bound form is run without moving commands.
+    /// Fails as [`read_filled`] and [`bind_into`] do.
+    #[inline(never)]
+    fn bind_anew(&mut self, alloc: Global, database: &Db, values: &[Value]) -> Result<(), Refusal>
+        requires ready { IsReadyStatement database.now.schema self.old }
+        requires values { length values.now ≡ hole_count (holes_of self.old.line.items) }
+        ensures ready { IsReadyStatement database.now.schema self.new }
+        ensures line { self.new.line ≡ self.old.line }
+        ensures kind { self.new.kind ≡ self.old.kind }
+        ensures refused { IfErr result (λ refusal. Runs self.old.line.items values.now database.now (refused_outcome refusal database.now)) }
+    {
         match read_filled(alloc, self.line.as_slice(), self.holes.count(), values) {
             Ok(command) => bind_into(alloc, database, command, &mut self.bound),
             Err(refusal) => Err(refusal),
@@ -206,4 +220,12 @@ impl Statement {
         let read = read_explain(alloc, self.line.as_slice(), values);
         respond(alloc, database, read, sink)
     }
+}
+
+/// Drops a bound form. A separate function, so that a form that values fit is not moved.
+#[inline(never)]
+fn drop_form(form: &mut Option<BoundForm>)
+    ensures { form.new ≡ None }
+{
+    *form = None;
 }

@@ -4,7 +4,7 @@ use Rattle.mm_session.proofs.replies.KeptReplyReplySink.take_selected.Goals as g
 
 pub returns : goal.returns
 returns c query bound = record {
-  outcome = record { reply = reply_kept c.select.new.rows c.select.result; state = c.args.database.now };
+  outcome = record { reply = reply_kept c.select.new.rows c.select.new.kept; state = c.args.database.now };
   is = c.select.ensures query bound;
   state = refl;
   took = refl;

@@ -3,7 +3,7 @@ use Rattle.mm_query.specs.Machine.{refused_outcome}
 use Rattle.mm_session.proofs.LineReadings.{runs_filled, runs_refused}
 use Rattle.mm_session.proofs.ReadyStatements.{if_err, ready_after}
 use Rattle.mm_session.specs.steps.Readings.{FillsLine}
-use Rattle.mm_session.proofs.statement.Statement.bind_line.Goals as goal
+use Rattle.mm_session.proofs.statement.Statement.bind_anew.Goals as goal
 
 pub returns-in-Ok-clause-ready : goal.returns-in-Ok-clause-ready
 returns-in-Ok-clause-ready c =
