@@ -62,3 +62,10 @@ indices_are f k (b ∷ fs) same = by b (ap f (let e : k ≡ k + 0 = omega arith 
         → All (λ i. f i ≡ true) (cond b (k ∷ indices_from (suc k) fs) (indices_from (suc k) fs))
     by true is rest = All-cons (λ i. f i ≡ true) k (indices_from (suc k) fs) is rest
     by false is rest = rest
+
+-- If there are no indices, no flag is set.
+pub none_set : (k : ℕ) (fs : List Bool) → indices_from k fs ≡ [] → (i : ℕ) → get_or fs i false ≡ false
+none_set k [] none i = refl
+none_set k (true ∷ fs) none i = absurd (let no : ⊥ = cc in no)
+none_set k (false ∷ fs) none zero = refl
+none_set k (false ∷ fs) none (suc i) = none_set (suc k) fs none i

@@ -5,12 +5,12 @@ use Rattle.std.specs.Prelude.{IsPermutation}
 use Rattle.std.specs.List.{All, swap_remove}
 use Rattle.std.proofs.lemmas.Bool.{cases_eq, cases_lt}
 use Rattle.std.proofs.lemmas.List.{get_or-map, get_or-set_other, get_or-set_same, get_or_append_left, get_or_past, get_or_push, get_or_default}
-use Rattle.std.proofs.lemmas.List.{length-map, length-set, length_push, map-set, map_push, set-get_or, set-set}
+use Rattle.std.proofs.lemmas.List.{length-map, length-set, length_push, map-set, map_push, nil_from_length, set-get_or, set-set}
 use Rattle.std.proofs.lemmas.List.Elements.{All-get_or}
 use Rattle.std.proofs.lemmas.List.Sorted.{All-permutation, IsPermutation-sym, IsPermutation-swap_remove, IsPermutation-to_front}
 use Rattle.std.proofs.lemmas.List.Sorted.{IsPermutation-trans, IsPermutation-cons, length_permutation}
 use Rattle.slot_counts.specs.Sets.{IsMoveTold, IsPlaced, absent, indices_from, is_present}
-use Rattle.slot_counts.proofs.Indices.{few_indices, fewer_indices, indices_are, indices_push, indices_set}
+use Rattle.slot_counts.proofs.Indices.{few_indices, fewer_indices, indices_are, indices_push, indices_set, none_set}
 use Rattle.slot_counts.proofs.Uncons.{uncons}
 
 abbrev pub has_of : List ℕ → List Bool
@@ -273,3 +273,13 @@ module _ (members places : List ℕ) (was : IsPlaced members places) where
           ap (λ (n : ℕ). get_or members n absent) same ∙ old.1,
         );
   }
+
+  -- If there are no members, no slot is in the set.
+  pub none_in : members ≡ [] → (i : ℕ) → get_or (has_of places) i false ≡ false
+  none_in none i =
+      none_set 0 (has_of places)
+      (nil_from_length (indices_from 0 (has_of places)) (let e : length (indices_from 0 (has_of places)) ≡ 0 = sym size ∙ ap length none in e)) i
+
+  -- A member is in the set.
+  pub member_has : (k d : ℕ) → k < length members → get_or (has_of places) (get_or members k d) false ≡ true
+  member_has k d within = All-get_or (λ i. get_or (has_of places) i false ≡ true) members k d within are

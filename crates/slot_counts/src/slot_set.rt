@@ -1,6 +1,7 @@
 //! Sets of slots.
 ghost use Rattle.std.specs.Prelude.{◌≡◌, ℕ, ◌+◌, ◌-◌, ◌<◌, ◌≤◌, ◌^◌, ◌++◌, ◌∷◌, [], true};
-ghost use Rattle.std.specs.Prelude.{false, length, slice_index_or, slice_set, vec_capacity, vec_len, IsPermutation, OnOk};
+ghost use Rattle.std.specs.Prelude.{false, length, slice_index_or, slice_set, vec_capacity, vec_len, IfNone, IfSome};
+ghost use Rattle.std.specs.Prelude.{IsPermutation, OnOk};
 ghost use Rattle.slot_counts.specs.Sets.{IsMoveTold, absent, indices_from};
 
 use std::alloc::{AllocError, Global};
@@ -109,6 +110,17 @@ impl SlotSet {
         self.members.swap_remove(place as usize);
         tell_moved(&mut self.places, self.members.as_slice(), place);
         self.places[slot] = ABSENT;
+    }
+
+    /// Returns a member, or `None` if the set is empty.
+    pub fn last(&self) -> Option<usize>
+        ensures some { IfSome result (λ slot. slice_index_or self.now.has slot false ≡ true) }
+        ensures none { IfNone result ((slot : ℕ) → slice_index_or self.now.has slot false ≡ false) }
+    {
+        if self.members.is_empty() {
+            return None;
+        }
+        Some(self.members[self.members.len() - 1] as usize)
     }
 
     /// Returns the members, in no particular order.
