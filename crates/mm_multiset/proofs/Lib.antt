@@ -15,6 +15,7 @@ pub mod Shown
 pub mod SlotEntries
 pub mod SlotLists
 pub mod Tallies
+pub mod Told
 pub mod Turning
 pub mod Undoing
 pub mod Walked

@@ -1,5 +1,5 @@
 -- Inserting a row into a slot, with its count and its pair, and removing it.
-use Rattle.std.proofs.Common.{◌≡◌, ℕ, ◌+◌, ◌<◌, ◌≤◌, inl, inr, max, List, [], ◌∷◌, ◌++◌, false, length, get_or, set, refl, sym, ◌∙◌, subst, arith}
+use Rattle.std.proofs.Common.{◌≡◌, ℕ, ◌+◌, ◌<◌, ◌≤◌, inl, inr, max, List, [], ◌∷◌, ◌++◌, Bool, true, false, length, get_or, set, refl, sym, ◌∙◌, subst, arith}
 use Rattle.std.specs.Prelude.{IsPermutation}
 use Rattle.std.proofs.lemmas.List.Sorted.{IsPermutation-cons, IsPermutation-sym, IsPermutation-trans}
 use Rattle.mm_value.specs.declared.row_ref.RowRef.{RowRef}
@@ -8,7 +8,8 @@ use Rattle.mm_partition.specs.Places.{ChangesOnly, Content, Free, Hidden, Live, 
 use Rattle.slot_counts.specs.Numbers.{IsWritten}
 use Rattle.mm_multiset.specs.Counts.{has_entry}
 use Rattle.mm_multiset.specs.RowHash.{row_hash}
-use Rattle.mm_multiset.specs.Slots.{AreMarked, IsKept, IsMarked, entries_of, pairs_from}
+use Rattle.mm_multiset.specs.Counts.{Entries}
+use Rattle.mm_multiset.specs.Slots.{AreMarked, IsKept, IsMarked, entries_of, entry_of, left_by, pair_of, pairs_from}
 use Rattle.mm_multiset.proofs.EntryBags.{once_put, once_rest}
 use Rattle.mm_multiset.proofs.Pairs.{IsPermutation-uncons}
 use Rattle.mm_multiset.proofs.SlotEntries.{Turns, turned_at, turned_end}
@@ -20,7 +21,7 @@ pairs_of slots = pairs_from 0 slots
 free_count : (s : Content) (n : ℕ) → IsMarked s n → s ≡ Free → n ≡ 0
 free_count Free n is free = is
 free_count (Live row) n is free = let e : Live row ≡ Free = free in absurd (let no : ⊥ = cc in no)
-free_count (Hidden row) n is free = absurd is
+free_count (Hidden row) n is free = let e : Hidden row ≡ Free = free in absurd (let no : ⊥ = cc in no)
 
 module _ (old new : Places) (at : RowRef) (row : List Value) (counts new_counts : List ℕ) (count : ℕ) (marked : AreMarked old.slots counts)
     (free : slot_at old at ≡ Free) (placed : ChangesOnly old new at (Live row))
@@ -72,18 +73,25 @@ module _ (i : ℕ) (slots new_slots : List Content) (counts new_counts : List �
           (IsPermutation-sym (pairs_of new_slots) ((row_hash row, at) ∷ turns.pairs) turns.pairs_after)));
     }
 
-  module _ (turns : Turns i slots new_slots counts new_counts (Live row) Free count 0) where
+  module _ (gone : Content) (turns : Turns i slots new_slots counts new_counts (Live row) gone count 0) (no_entry : entry_of gone 0 ≡ [])
+      (no_pair : pair_of i gone ≡ []) where
+    after : IsPermutation (entries_of new_slots new_counts) turns.rest
+    after = subst (λ (l : Entries). IsPermutation (entries_of new_slots new_counts) (l ++ turns.rest)) no_entry turns.after
+
+    pairs_after : IsPermutation (pairs_of new_slots) turns.pairs
+    pairs_after = subst (λ (l : List (ℕ × RowRef)). IsPermutation (pairs_of new_slots) (l ++ turns.pairs)) no_pair turns.pairs_after
+
     -- The row has no entry any more.
     pub entries_taken : IsPermutation (entries_of slots counts) ((row, count) ∷ entries_of new_slots new_counts)
     entries_taken =
         IsPermutation-trans (entries_of slots counts) ((row, count) ∷ turns.rest) ((row, count) ∷ entries_of new_slots new_counts) turns.before
         (IsPermutation-cons (row, count) turns.rest (entries_of new_slots new_counts)
-        (IsPermutation-sym (entries_of new_slots new_counts) turns.rest turns.after))
+        (IsPermutation-sym (entries_of new_slots new_counts) turns.rest after))
 
-    pub kept_taken : (pairs new_pairs : List (ℕ × RowRef)) (hash : ℕ) → IsKept slots counts pairs → hash ≡ row_hash row
+    pub kept_taken : (pairs new_pairs : List (ℕ × RowRef)) (hash : ℕ) → IsMarked gone 0 → IsKept slots counts pairs → hash ≡ row_hash row
         → IsPermutation pairs ((hash, record { slot = i }) ∷ new_pairs) → IsKept new_slots new_counts new_pairs
-    kept_taken pairs new_pairs hash kept is taken = record {
-      marked = turns.marked kept.marked refl;
+    kept_taken pairs new_pairs hash is_marked kept is taken = record {
+      marked = turns.marked kept.marked is_marked;
       once = once_rest row count (entries_of slots counts) (entries_of new_slots new_counts) kept.once entries_taken;
       hashed =
           let at : RowRef = record { slot = i } in
@@ -96,7 +104,7 @@ module _ (i : ℕ) (slots new_slots : List Content) (counts new_counts : List �
           (subst (λ p. IsPermutation pairs (p ∷ turns.pairs)) (sym same) before)
           in
           IsPermutation-trans new_pairs turns.pairs (pairs_of new_slots) (IsPermutation-uncons (hash, at) new_pairs turns.pairs without)
-          (IsPermutation-sym (pairs_of new_slots) turns.pairs turns.pairs_after);
+          (IsPermutation-sym (pairs_of new_slots) turns.pairs pairs_after);
     }
 
 -- A row that is hidden and then released is removed.
@@ -104,14 +112,27 @@ pub changes_twice : (old mid new : Places) (at : RowRef) (first second : Content
     → ChangesOnly old new at second
 changes_twice old mid new at first second a b = record { changed = b.changed; others = λ other apart. b.others other apart ∙ a.others other apart }
 
-module _ (old new : Places) (at : RowRef) (row : List Value) (counts : List ℕ) (marked : AreMarked old.slots counts) (live : slot_at old at ≡ Live row)
-    (freed : ChangesOnly old new at Free) (extent : extent_of new ≡ extent_of old) where
-  pub turned_taken : Turns at.slot old.slots new.slots counts (set counts at.slot 0) (Live row) Free
+module _ (old new : Places) (at : RowRef) (row : List Value) (gone : Content) (counts : List ℕ) (marked : AreMarked old.slots counts)
+    (live : slot_at old at ≡ Live row) (freed : ChangesOnly old new at gone) (extent : extent_of new ≡ extent_of old) where
+  pub turned_taken : Turns at.slot old.slots new.slots counts (set counts at.slot 0) (Live row) gone
       (get_or counts at.slot 0) 0
   turned_taken =
       let i : ℕ = at.slot in
       let inside : i < length old.slots = live_inside old.slots i row live in
-      let slots : new.slots ≡ set old.slots i Free = slots_set old new at Free freed extent inside in
-      subst (λ l. Turns i old.slots l counts (set counts i 0) (Live row) Free (get_or counts i 0) 0) (sym slots)
-      (subst (λ s. Turns i old.slots (set old.slots i Free) counts (set counts i 0) s Free (get_or counts i 0) 0) live
-      (turned_at i old.slots counts inside marked.size Free 0))
+      let slots : new.slots ≡ set old.slots i gone = slots_set old new at gone freed extent inside in
+      subst (λ l. Turns i old.slots l counts (set counts i 0) (Live row) gone (get_or counts i 0) 0) (sym slots)
+      (subst (λ s. Turns i old.slots (set old.slots i gone) counts (set counts i 0) s gone (get_or counts i 0) 0) live
+      (turned_at i old.slots counts inside marked.size gone 0))
+
+-- What a removed entry leaves has no entry and no pair.
+pub left_entry : (owed : Bool) (row : List Value) → entry_of (left_by owed row) 0 ≡ []
+left_entry true row = refl
+left_entry false row = refl
+
+pub left_pair : (owed : Bool) (row : List Value) (i : ℕ) → pair_of i (left_by owed row) ≡ []
+left_pair true row i = refl
+left_pair false row i = refl
+
+pub left_marked : (owed : Bool) (row : List Value) → IsMarked (left_by owed row) 0
+left_marked true row = refl
+left_marked false row = refl

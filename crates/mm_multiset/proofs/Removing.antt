@@ -1,13 +1,14 @@
 -- A bag without an entry of the count 0, or unchanged if there was no such entry.
-use Rattle.std.proofs.Common.{◌≡◌, ℕ, ◌⊎◌, inl, inr, Bool, true, false, List, ◌∷◌, get_or, set, sym, ap, ◌∙◌}
+use Rattle.std.proofs.Common.{◌≡◌, ℕ, ◌⊎◌, inl, inr, Bool, true, false, List, ◌∷◌, get_or, map, set, refl, sym, ap, ◌∙◌}
 use Rattle.std.specs.Prelude.{IsPermutation, IsTrue}
 use Rattle.std.specs.Bool.{OnFalse, OnTrue}
+use Rattle.std.proofs.lemmas.List.{map-set}
 use Rattle.mm_value.specs.Equality.{same_row}
 use Rattle.mm_value.specs.declared.row_ref.RowRef.{RowRef}
 use Rattle.mm_value.specs.declared.values.Value.{Value}
 use Rattle.mm_partition.specs.Places.{Free, Places}
 use Rattle.mm_multiset.specs.Counts.{Entries, IsOnce, count_in, has_entry, row_at, total_of}
-use Rattle.mm_multiset.specs.Slots.{entries_of}
+use Rattle.mm_multiset.specs.Slots.{entries_of, in_use, left_by}
 use Rattle.mm_multiset.specs.declared.entry_ref.EntryRef.{EntryRef}
 use Rattle.mm_multiset.proofs.EntryBags.{beside_taken, counts_taken, gone_taken, others_taken, total_taken}
 
@@ -16,10 +17,10 @@ pub read_count : (counts : List ℕ) (at : RowRef) (i n : ℕ) → i ≡ at.slot
 read_count counts at i n place read = ap (λ (k : ℕ). get_or counts k 0) (sym place) ∙ sym read
 
 module _ (old new : Places) (counts : List ℕ) (entry : EntryRef) (once : IsOnce (entries_of old.slots counts)) (r : Bool)
-    (taken : OnTrue r (IsPermutation (entries_of old.slots counts) ((row_at old.slots entry, 0) ∷ entries_of new.slots counts)))
+    (taken : OnTrue r (IsPermutation (entries_of old.slots counts) ((row_at (map in_use old.slots) entry, 0) ∷ entries_of new.slots counts)))
     (same : OnFalse r (new ≡ old)) where
   abbrev row : List Value
-  row = row_at old.slots entry
+  row = row_at (map in_use old.slots) entry
 
   abbrev was : Entries
   was = entries_of old.slots counts
@@ -63,12 +64,23 @@ module _ (old new : Places) (counts : List ℕ) (entry : EntryRef) (once : IsOnc
       by true t is = gone_taken row was now once t
       by false t is = absurd (let no : ⊥ = cc in no)
 
-  pub slots_removed : OnTrue r (new.slots ≡ set old.slots entry.slot.slot Free)
-      → (new.slots ≡ old.slots) ⊎ ((new.slots ≡ set old.slots entry.slot.slot Free) × (has_entry row now ≡ false))
-  slots_removed = by r taken same
+  free_left : (owed : Bool) → in_use (left_by owed row) ≡ Free
+  free_left true = refl
+  free_left false = refl
+
+  pub slots_removed : (owed : Bool) → OnTrue r (new.slots ≡ set old.slots entry.slot.slot (left_by owed row))
+      → (map in_use new.slots ≡ map in_use old.slots)
+      ⊎ ((map in_use new.slots ≡ set (map in_use old.slots) entry.slot.slot Free) × (has_entry row now ≡ false))
+  slots_removed owed = by r taken same
     where
       by : (b : Bool) → OnTrue b (IsPermutation was ((row, 0) ∷ now)) → OnFalse b (new ≡ old)
-          → OnTrue b (new.slots ≡ set old.slots entry.slot.slot Free)
-          → (new.slots ≡ old.slots) ⊎ ((new.slots ≡ set old.slots entry.slot.slot Free) × (has_entry row now ≡ false))
-      by true t s freed = inr (freed, gone_taken row was now once t)
-      by false t s freed = inl (ap (λ (p : Places). p.slots) s)
+          → OnTrue b (new.slots ≡ set old.slots entry.slot.slot (left_by owed row))
+          → (map in_use new.slots ≡ map in_use old.slots)
+          ⊎ ((map in_use new.slots ≡ set (map in_use old.slots) entry.slot.slot Free) × (has_entry row now ≡ false))
+      by true t s left =
+          inr (
+            ap (map in_use) left ∙ (map-set in_use old.slots entry.slot.slot (left_by owed row)
+                ∙ ap (set (map in_use old.slots) entry.slot.slot) (free_left owed)),
+            gone_taken row was now once t,
+          )
+      by false t s left = inl (ap (λ (p : Places). map in_use p.slots) s)

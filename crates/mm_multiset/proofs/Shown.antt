@@ -23,7 +23,7 @@ one_shown (Live row) n rest is = either (not (n == 0))
     either : (b : Bool) → cond b ((row, n) ∷ rest) rest ≡ cond b ((row, n) ∷ []) [] ++ rest
     either true = refl
     either false = refl
-one_shown (Hidden row) n rest is = absurd is
+one_shown (Hidden row) n rest is = ap {B = Entries} (λ b. cond b ((row, n) ∷ rest) rest) (ap is_counted is)
 
 filter_both : (xs ys : Entries) → filter has_rows (xs ++ ys) ≡ filter has_rows xs ++ filter has_rows ys
 filter_both [] ys = refl
@@ -89,7 +89,7 @@ module _ (slots : List Content) (counts shown : List ℕ) (marked : AreMarked sl
   live_at : (s : Content) (n : ℕ) → IsMarked s n → n ≢ 0 → (row : List Value) × (s ≡ Live row)
   live_at Free n is some = absurd (some is)
   live_at (Live row) n is some = (row, refl)
-  live_at (Hidden row) n is some = absurd is
+  live_at (Hidden row) n is some = absurd (some is)
 
   -- Each of its slots has a row.
   pub walk_is : IsWalk slots counts shown

@@ -1,14 +1,17 @@
 -- Multisets of rows, stored as counts.
-use Rattle.std.specs.Prelude.{◌==◌, not, ◌≡◌, ◌≢◌, ℕ, ℤ, pos, neg_ℤ, ◌+ℤ◌, ◌<ℤ◌, ◌^◌, ◌⊎◌, Bool, true, false, if◌then◌else◌, is_some, List, [], ◌∷◌, All, map}
+use Rattle.std.specs.Prelude.{◌==◌, not, ◌≡◌, ◌≢◌, ℕ, ℤ, pos, neg_ℤ, ◌+◌, ◌+ℤ◌, ◌<ℤ◌, ◌^◌, ◌⊎◌, Bool, true, false, if◌then◌else◌, is_some, List, [], ◌∷◌, All, map}
+use Rattle.std.specs.Prelude.{Option, Some, None}
 use Rattle.std.specs.Prelude.{slice_index_or, slice_set, sum}
 use Rattle.std.specs.List.{IsDistinct, count_by}
 use Rattle.std.specs.Map.{keys_of, values_of, lookup}
 use Rattle.std.specs.Option.{unwrap_or}
 use Rattle.mm_multiset.specs.RowHash.{row_hash}
 use Rattle.mm_multiset.specs.declared.entry_ref.EntryRef.{EntryRef}
-use Rattle.mm_partition.specs.Places.{Content, Free, Live, row_in}
+use Rattle.mm_partition.specs.Places.{Content, Free, Live, holds_row, row_in}
+use Rattle.slot_counts.specs.Numbers.{shown_count}
 use Rattle.mm_value.specs.Equality.{same_row}
 use Rattle.mm_value.specs.declared.col_type.ColType.{ColType}
+use Rattle.mm_value.specs.declared.row_ref.RowRef.{RowRef}
 use Rattle.mm_value.specs.declared.values.Value.{Value}
 use Rattle.mm_multiset.specs.declared.signed.Signed.{Signed}
 
@@ -16,10 +19,19 @@ use Rattle.mm_multiset.specs.declared.signed.Signed.{Signed}
 abbrev pub Entries : Type 0
 Entries = List (List Value × ℕ)
 
--- A bag: the contents of its slots, its entries, the number of new entries that fit the capacity, and the types of the columns.
+-- What the reader of a bag was told: whether each row counts at most once, and rows with the numbers that were told. A row that was removed
+-- and inserted again may be in the list twice.
+pub record Feed : Type 0 where
+  pub distinct : Bool
+  pub told : Entries
+
+-- A bag: the slots of its entries; the same slots with the rows that are kept to be told; its entries; what its reader was told, if there is
+-- one; the number of new entries that fit the capacity; and the types of the columns.
 pub record Counts : Type 0 where
   pub slots : List Content
+  pub held : List Content
   pub entries : Entries
+  pub feed : Option Feed
   pub room : ℕ
   pub types : List ColType
 
@@ -86,3 +98,39 @@ pub record IsNet (changes : List Signed) : Type 0 where
   pub once : IsDistinct same_row (map (λ change. change.row) changes)
   pub nonzero : All (λ change. change.count ≢ pos 0) changes
   pub small : All (λ change. (neg_ℤ (pos (2 ^ 64)) <ℤ change.count) × (change.count <ℤ pos (2 ^ 64))) changes
+
+-- ---- the feed
+
+-- The sum of the numbers of a row in a list.
+abbrev pub number_in : List Value → Entries → ℕ
+number_in row [] = 0
+number_in row (entry ∷ entries) = (if same_row row entry.0 then entry.1 else 0) + number_in row entries
+
+-- A feed was started, for which nothing was told, or there was one and nothing changes.
+abbrev pub IsStarted : Bool → Option Feed → Option Feed → Type 0
+IsStarted distinct None new = new ≡ Some (record { distinct = distinct; told = [] })
+IsStarted distinct (Some f) new = new ≡ Some f
+
+-- The change of a row was told, which is not 0: the numbers told before and the change make the numbers told now.
+pub record IsTold (held : List Content) (at : RowRef) (by : ℤ) (old new : Option Feed) : Type 0 where
+  pub holds : holds_row (slice_index_or held at.slot Free) ≡ true
+  pub some : by ≢ pos 0
+  pub before : Feed
+  pub was : old ≡ Some before
+  pub after : Feed
+  pub now : new ≡ Some after
+  pub same : after.distinct ≡ before.distinct
+  pub told : (row : List Value) → pos (number_in row after.told)
+      ≡ pos (number_in row before.told) +ℤ signed_count row (record { row = row_in (slice_index_or held at.slot Free); count = by } ∷ [])
+
+-- The number that was last told for each row is the one to tell now.
+abbrev pub IsUpToDate : Option Feed → Entries → Type 0
+IsUpToDate None entries = Unit {0}
+IsUpToDate (Some f) entries = (row : List Value) → number_in row f.told ≡ shown_count f.distinct (count_in row entries)
+
+-- The changes were told one after another.
+abbrev pub AreTold : List Signed → Entries → Entries → Type 0
+AreTold [] before after = after ≡ before
+AreTold (change ∷ changes) before after =
+    (mid : Entries) × ((row : List Value) → pos (number_in row mid) ≡ pos (number_in row before) +ℤ signed_count row (change ∷ []))
+    × AreTold changes mid after

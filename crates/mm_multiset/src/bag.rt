@@ -1,6 +1,6 @@
 //! Multisets of rows with typed columns.
 ghost use Rattle.std.specs.Prelude.{◌≡◌, ◌+◌, ◌-◌, ◌≤◌, ◌<◌, ◌^◌, ◌⊎◌, pos, ◌+ℤ◌, ◌≤ℤ◌, ◌<ℤ◌, true, []};
-ghost use Rattle.std.specs.Prelude.{if◌then◌else◌, false, filter, length, not, List, IfOk, IsPermutation, OnOk, OnErr};
+ghost use Rattle.std.specs.Prelude.{None, if◌then◌else◌, false, filter, length, not, List, IfOk, IsPermutation, OnOk, OnErr};
 ghost use Rattle.mm_multiset.specs.Counts.{Adds, IsEntry, IsOnce, IsThere, MayFree, count_in, has_entry, has_rows, row_at, total_of};
 ghost use Rattle.mm_multiset.specs.declared.entry_ref.EntryRef.{EntryRef as AnyEntry};
 ghost use Rattle.mm_partition.specs.Types.{HasTypes};
@@ -9,7 +9,9 @@ ghost use Rattle.mm_value.specs.declared.values.Value.{Value as Val};
 
 mod entries;
 mod finding;
+mod following;
 mod slots;
+mod taken;
 mod typed;
 
 use crate::entry_ref::EntryRef;
@@ -17,11 +19,12 @@ pub use entries::BagEntries;
 use finding::{find, hash_of};
 use mlhash::HashRefs;
 use mm_partition::{Partitions, index_of};
-use mm_value::{ColType, Row};
+use mm_value::{ColType, Row, RowRef};
 use slot_counts::{SlotCounts, changed};
 use slots::{put, take};
 use std::alloc::{AllocError, Global};
 use std::marker::Model;
+pub use taken::Taken;
 
 /// The maximum total.
 const MAX_TOTAL: u32 = u32::MAX - 1;
@@ -37,30 +40,35 @@ pub struct Bag {
     counts: SlotCounts,
     by_hash: HashRefs,
     total: u32,
+    /// The slot of the change that was told last.
+    last_told: Option<RowRef>,
 }
 
 impl Model for Bag {
-    ghost use Rattle.std.specs.Prelude.{◌≡◌, min};
+    ghost use Rattle.std.specs.Prelude.{◌≡◌, map, min};
     ghost use Rattle.mm_multiset.specs.Counts.{Counts, total_of};
-    ghost use Rattle.mm_multiset.specs.Slots.{IsKept, entries_of};
+    ghost use Rattle.mm_multiset.specs.Slots.{IsFed, IsKept, entries_of, feed_of, in_use};
 
     ghost Value = { Counts };
 
     ghost view = { λ b. record {
-      slots = b.rows.slots;
+      slots = map in_use b.rows.slots;
+      held = b.rows.slots;
       entries = entries_of b.rows.slots b.counts.counts;
+      feed = feed_of b.rows.slots b.counts.feed;
       room = min b.rows.room (min b.by_hash.spare b.counts.room);
       types = b.rows.types;
     } };
 
     ghost invariant = { λ b. IsKept b.rows.slots b.counts.counts b.by_hash.entries
-        × (b.total ≡ total_of (entries_of b.rows.slots b.counts.counts)) };
+        × (b.total ≡ total_of (entries_of b.rows.slots b.counts.counts)) × IsFed b.rows.slots b.counts.feed };
 }
 
 impl Bag {
     /// Returns an empty bag whose columns have these types. Fails with `AllocError` if the allocation of the list of columns fails.
     pub fn new(alloc: Global, types: &[ColType]) -> Result<Bag, AllocError>
         ensures entries { IfOk result (λ bag. bag.entries ≡ []) }
+        ensures feed { IfOk result (λ bag. bag.feed ≡ None) }
         ensures types { IfOk result (λ bag. bag.types ≡ types.now) }
     {
         Ok(Bag {
@@ -68,6 +76,7 @@ impl Bag {
             counts: SlotCounts::new(alloc),
             by_hash: HashRefs::new(alloc),
             total: 0,
+            last_told: None,
         })
     }
 
@@ -78,6 +87,7 @@ impl Bag {
         ensures entries { self.new.entries ≡ self.old.entries }
         ensures kept { self.old.room ≤ self.new.room }
         ensures slots { self.new.slots ≡ self.old.slots }
+        ensures feed { self.new.feed ≡ self.old.feed }
         ensures types { self.new.types ≡ self.old.types }
     {
         let alloc = self.counts.allocator();
@@ -148,6 +158,7 @@ impl Bag {
         ensures kept { (entry : AnyEntry) (other : List Val) → IsEntry self.old.slots entry other → IsEntry self.new.slots entry other }
         ensures unchanged { OnErr result (self.new.entries ≡ self.old.entries) }
         ensures same { OnErr result (self.new.slots ≡ self.old.slots) }
+        ensures feed { self.new.feed ≡ self.old.feed }
         ensures types { self.new.types ≡ self.old.types }
     {
         let hash = hash_of(&row);
@@ -175,13 +186,15 @@ impl Bag {
         ensures entries { (row : List Val) → has_entry row self.new.entries ≡ has_entry row self.old.entries }
         ensures total { pos (total_of self.new.entries) ≡ pos (total_of self.old.entries) +ℤ by }
         ensures slots { self.new.slots ≡ self.old.slots }
+        ensures feed { self.new.feed ≡ self.old.feed }
         ensures types { self.new.types ≡ self.old.types }
     {
         self.total = changed(self.total, by as i128);
         self.counts.add(index_of(entry.slot), by as i128);
     }
 
-    /// Removes an entry if its count is 0, and does nothing if the entry was removed before. No count changes. Hashes nothing.
+    /// Removes an entry if its count is 0, and does nothing if the entry was removed before. No count changes. Hashes nothing. With a feed, the
+    /// row stays in its slot until its removal was told.
     pub fn remove_if_zero(&mut self, entry: EntryRef)
         requires within { entry.slot.slot < length self.old.slots }
         ensures gone { IsThere self.old.slots entry → count_in (row_at self.old.slots entry) self.old.entries ≡ 0
@@ -192,10 +205,19 @@ impl Bag {
         ensures beside { (other : List Val) → same_row (row_at self.old.slots entry) other ≡ false
             → has_entry other self.new.entries ≡ has_entry other self.old.entries }
         ensures slots { MayFree entry self.old self.new }
+        ensures feed { self.new.feed ≡ self.old.feed }
         ensures types { self.new.types ≡ self.old.types }
     {
-        if self.counts.count(index_of(entry.slot)) == 0 {
-            take(&mut self.rows, &self.counts, &mut self.by_hash, entry);
+        let slot = index_of(entry.slot);
+        if self.counts.count(slot) == 0 {
+            let is_owed = self.counts.told(slot) != 0;
+            take(
+                &mut self.rows,
+                &self.counts,
+                &mut self.by_hash,
+                entry,
+                is_owed,
+            );
         }
     }
 
@@ -205,6 +227,7 @@ impl Bag {
         requires typed { HasTypes self.old.types row }
         ensures counted { OnOk result (Adds (record { row = row; count = pos 1 }) self.old.entries self.new.entries) }
         ensures unchanged { OnErr result (self.new.entries ≡ self.old.entries) }
+        ensures feed { self.new.feed ≡ self.old.feed }
         ensures types { self.new.types ≡ self.old.types }
     {
         if self.total >= MAX_TOTAL {

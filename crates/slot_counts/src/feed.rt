@@ -84,11 +84,17 @@ impl Feed {
     }
 
     /// Returns a slot whose number differs from what was last told, or `None` if there is none.
-    pub(crate) fn next(&self) -> Option<usize>
+    pub(crate) fn next(&self) -> Option<u32>
         ensures some { IfSome result (λ slot. slice_index_or self.now.changed slot false ≡ true) }
         ensures none { IfNone result ((slot : ℕ) → slice_index_or self.now.changed slot false ≡ false) }
     {
         self.changed.last()
+    }
+
+    /// Returns the number of slots whose number differs from what was last told.
+    pub(crate) fn changes(&self) -> usize {
+        let changed = self.changed.as_slice();
+        changed.len()
     }
 
     /// Records that a number was told for a slot, and returns the one that was told before. Allocates nothing.

@@ -4,7 +4,7 @@
 #[derive(Clone, Copy, Debug)]
 pub struct SlotChange {
     /// The slot.
-    pub slot: usize,
+    pub slot: u32,
     /// The number now minus the one that was last told. It is not 0.
     pub by: i64,
 }

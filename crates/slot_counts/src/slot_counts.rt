@@ -208,12 +208,20 @@ impl SlotCounts {
         ensures room { self.new.room ≡ self.old.room }
     {
         let slot = self.next_change()?;
-        let by = self.tell(slot);
+        let by = self.tell(slot as usize);
         Some(SlotChange { slot, by })
     }
 
+    /// Returns the number of slots whose number differs from what was last told: 0 without a feed.
+    pub fn changes(&self) -> usize {
+        match &self.feed {
+            None => 0,
+            Some(feed) => feed.changes(),
+        }
+    }
+
     // Returns a slot whose number differs from what was last told, if there is one.
-    fn next_change(&self) -> Option<usize>
+    fn next_change(&self) -> Option<u32>
         ensures some { IfSome result (λ slot. IsChanged self.now slot) }
         ensures none { IfNone result (IsAllTold self.now.feed self.now.counts) }
     {

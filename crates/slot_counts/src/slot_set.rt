@@ -113,14 +113,14 @@ impl SlotSet {
     }
 
     /// Returns a member, or `None` if the set is empty.
-    pub fn last(&self) -> Option<usize>
+    pub fn last(&self) -> Option<u32>
         ensures some { IfSome result (λ slot. slice_index_or self.now.has slot false ≡ true) }
         ensures none { IfNone result ((slot : ℕ) → slice_index_or self.now.has slot false ≡ false) }
     {
         if self.members.is_empty() {
             return None;
         }
-        Some(self.members[self.members.len() - 1] as usize)
+        Some(self.members[self.members.len() - 1])
     }
 
     /// Returns the members, in no particular order.

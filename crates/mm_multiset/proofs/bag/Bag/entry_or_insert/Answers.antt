@@ -3,10 +3,11 @@ use Rattle.std.proofs.Common.{◌≡◌, List, Bool, true, false, cond, not, ref
 use Rattle.mm_value.proofs.SameRows.{rows_exact}
 use Rattle.mm_value.specs.Equality.{same_row}
 use Rattle.mm_value.specs.declared.values.Value.{Value}
-use Rattle.mm_multiset.specs.Counts.{Entries, count_in, has_entry, total_of}
+use Rattle.mm_multiset.specs.Counts.{Entries, IsEntry, count_in, has_entry, total_of}
 use Rattle.mm_multiset.specs.Slots.{entries_of}
 use Rattle.mm_multiset.proofs.EntryBags.{counts_taken, has_was, total_taken}
 use Rattle.mm_multiset.proofs.Recounting.{entry_there, none_there}
+use Rattle.mm_multiset.proofs.Told.{entry_kept}
 use Rattle.mm_multiset.proofs.bag.Bag.entry_or_insert.Goals as goal
 
 pub returns-in-Some-clause-is_new : goal.returns-in-Some-clause-is_new
@@ -41,6 +42,7 @@ invariant_of-self c = (
   c.put-slot.ensures.kept,
   c.self-2.invariant.1 ∙ total_taken c.args.row (entries_of c.put-slot.new.rows.slots
       c.put-slot.new.counts.counts) (entries_of c.self-2.inside.rows.slots c.self-2.inside.counts.counts) c.put-slot.ensures.kept.once c.put-slot.ensures.put,
+  c.put-slot.ensures.fed,
 )
 
 pub returns-clause-is_new : goal.returns-clause-is_new
@@ -65,3 +67,8 @@ returns-clause-total c =
     sym (total_taken c.args.row (entries_of c.put-slot.new.rows.slots c.put-slot.new.counts.counts) (entries_of c.self-2.inside.rows.slots
     c.self-2.inside.counts.counts) c.put-slot.ensures.kept.once c.put-slot.ensures.put)
     ∙ ap total_of (ap (λ v. v.entries) c.self-2.view_is ∙ c.reserve.ensures.entries)
+
+pub returns-clause-kept : goal.returns-clause-kept
+returns-clause-kept c = λ entry other it.
+    entry_kept c.self-2.inside.rows c.put-slot.new.rows c.put-slot.result c.args.row c.put-slot.ensures.fresh c.put-slot.ensures.placed entry other
+    (subst (λ l. IsEntry l entry other) (sym (ap (λ v. v.slots) c.self-2.view_is ∙ c.reserve.ensures.slots)) it)

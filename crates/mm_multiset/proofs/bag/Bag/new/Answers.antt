@@ -6,7 +6,7 @@ use Rattle.mm_value.specs.declared.row_ref.RowRef.{RowRef}
 use Rattle.mm_partition.specs.Places.{Content}
 use Rattle.mm_multiset.specs.Slots.{IsKept}
 use Rattle.mm_multiset.specs.Counts.{total_of}
-use Rattle.mm_multiset.specs.Slots.{entries_of}
+use Rattle.mm_multiset.specs.Slots.{IsFed, entries_of}
 use Rattle.mm_multiset.proofs.bag.Bag.new.Goals as goal
 
 none_kept : IsKept [] [] []
@@ -30,5 +30,6 @@ nothing (x ∷ xs) none = absurd (let no : ⊥ = omega (arith, none) in no)
 
 pub invariant_of-result : goal.invariant_of-result
 invariant_of-result c =
-    empty c.in_ok-new.field-0.slots c.new-2.result.counts c.new-3.result.entries (nothing c.in_ok-new.field-0.slots c.in_ok-new.ensures.extent)
-    c.new-2.ensures c.new-3.ensures.entries
+    let kept = empty c.in_ok-new.field-0.slots c.new-2.result.counts c.new-3.result.entries (nothing c.in_ok-new.field-0.slots c.in_ok-new.ensures.extent)
+    c.new-2.ensures.counts c.new-3.ensures.entries in
+    (kept.0, kept.1, subst (IsFed c.in_ok-new.field-0.slots) (sym c.new-2.ensures.feed) tt)

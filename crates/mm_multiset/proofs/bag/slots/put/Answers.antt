@@ -1,9 +1,11 @@
 -- One slot has the row, with its count and its pair.
 use Rattle.std.proofs.Common.{◌≡◌, ℕ, ap, ◌∙◌, subst, arith}
 use Rattle.mm_partition.specs.Places.{ChangesOnly, Free, IsLive, Live}
-use Rattle.slot_counts.specs.Numbers.{IsWritten}
+use Rattle.slot_counts.specs.Numbers.{IsToldSame, IsWritten}
+use Rattle.mm_multiset.specs.Slots.{IsFed, feed_of}
 use Rattle.mm_multiset.proofs.Placing.{entries_put, kept_put, turned_put}
 use Rattle.mm_multiset.proofs.SlotEntries.{Turns}
+use Rattle.mm_multiset.proofs.Told.{feed_put}
 use Rattle.mm_multiset.proofs.bag.slots.put.Goals as goal
 use Rattle.mm_multiset.proofs.bag.slots.put.Goals.{After-insert}
 
@@ -45,3 +47,17 @@ pub returns-clause-put : goal.returns-clause-put
 returns-clause-put c =
     entries_put c.place-at.result.slot c.args.rows.now.slots c.place-at.new.self.slots c.args.counts.now.counts c.set.new.self.counts
     c.args.row 0 (turned c)
+
+now_fed : (c : After-insert) → IsFed c.place-at.new.self.slots c.set.new.self.feed
+    × (feed_of c.place-at.new.self.slots c.set.new.self.feed ≡ feed_of c.args.rows.now.slots c.args.counts.now.feed)
+now_fed c =
+    let place = c.place-at.ensures in
+    let told = subst (λ (i : ℕ). IsToldSame i c.args.counts.now c.set.new.self.feed) c.index_of.ensures c.set.ensures.feed in
+    feed_put c.args.rows.now c.place-at.new.self c.place-at.result c.args.row c.args.counts.now c.requires.kept.marked.size place.fresh (placed c)
+    place.extent place.within c.requires.fed c.set.new.self.feed told
+
+pub returns-clause-feed : goal.returns-clause-feed
+returns-clause-feed c = (now_fed c).1
+
+pub returns-clause-fed : goal.returns-clause-fed
+returns-clause-fed c = (now_fed c).0
