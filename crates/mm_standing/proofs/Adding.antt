@@ -1,6 +1,6 @@
 -- The contents of the bags after one of them is replaced.
 use Rattle.std.proofs.Common.{◌≡◌, ◌≢◌, ℕ, zero, suc, ℤ, pos, ◌-◌, ◌+ℤ◌, ◌≤◌, ◌<◌, ◌≤ℤ◌, ◌<ℤ◌, ◌^◌, ◌⊎◌, inl, inr, ⊎_elim, Bool, true, false, true≢false, not}
-use Rattle.std.proofs.Common.{cond, List, [], ◌∷◌, length, map, get_or, set, refl, sym, ap, ◌∙◌, subst, arith}
+use Rattle.std.proofs.Common.{cond, List, [], ◌∷◌, None, length, map, get_or, set, refl, sym, ap, ◌∙◌, subst, arith}
 use Rattle.std.specs.Prelude.{◌==◌}
 use Rattle.std.proofs.lemmas.Int.{ints}
 use Rattle.std.proofs.lemmas.Bool.{eq-eqb, eqb-true}
@@ -15,7 +15,7 @@ use Rattle.mm_multiset.specs.Counts as bag
 use Rattle.mm_multiset.specs.declared.entry_ref.EntryRef.{EntryRef}
 use Rattle.mm_partition.specs.Places.{Free}
 use Rattle.mm_standing.specs.Bags.{AddedTo, AreSame, IsWithin, Purged, Puts, change_of, entries_at, list_change, names, row_change, row_of, slots_at}
-use Rattle.mm_standing.specs.Bags.{types_at, types_of}
+use Rattle.mm_standing.specs.Bags.{IsFeedOf, feed_at, feeds_of, held_at, types_at, types_of}
 use Rattle.mm_standing.specs.declared.change.ListChange.{ListChange}
 use Rattle.mm_standing.specs.declared.change.RowChange.{RowChange}
 use Rattle.mm_schema.specs.Rows.{most_rows}
@@ -69,6 +69,25 @@ module _ (bags : List Counts) (at : ℕ) (b0 b1 : Counts) (there : at < length b
   pub types_kept : b1.types ≡ b0.types → types_of (set bags at b1) ≡ types_of bags
   types_kept same = map-set_same (λ (b : Counts). b.types) bags at b1 b0 (same ∙ ap (λ (b : Counts). b.types) is)
 
+  -- What was told of all bags is unchanged if it is of the bag.
+  pub feeds_kept : b1.feed ≡ b0.feed → feeds_of (set bags at b1) ≡ feeds_of bags
+  feeds_kept same = map-set_same (λ (b : Counts). b.feed) bags at b1 b0 (same ∙ ap (λ (b : Counts). b.feed) is)
+
+  pub feed_here : feed_at bags at ≡ b0.feed
+  feed_here = at_map (λ (b : Counts). b.feed) bags at b0 None there ∙ ap (λ (b : Counts). b.feed) (sym is)
+
+  pub held_here : held_at bags at ≡ b0.held
+  held_here = at_map (λ (b : Counts). b.held) bags at b0 [] there ∙ ap (λ (b : Counts). b.held) (sym is)
+
+  pub new_feed : feed_at (set bags at b1) at ≡ b1.feed
+  new_feed = set_here (λ (b : Counts). b.feed) bags at b1 None there
+
+  pub new_held : held_at (set bags at b1) at ≡ b1.held
+  new_held = set_here (λ (b : Counts). b.held) bags at b1 [] there
+
+  pub other_feeds : IsFeedOf at bags (set bags at b1)
+  other_feeds list apart = set_other (λ (b : Counts). b.feed) bags at list b1 None apart
+
   new_entries : entries_at (set bags at b1) at ≡ b1.entries
   new_entries = set_here (λ (b : Counts). b.entries) bags at b1 [] there
 
@@ -105,8 +124,9 @@ module _ (bags : List Counts) (c : RowChange) (b0 b1 : Counts) (there : c.list <
   after = set bags c.list b1
 
   pub added : Adds c.change b0.entries b1.entries → pos (total_of b1.entries) ≡ pos (total_of b0.entries) +ℤ c.change.count
-      → ((row : List Value) → has_entry row b1.entries ≡ has_entry row b0.entries) → b1.slots ≡ b0.slots → b1.types ≡ b0.types → AddedTo c bags after
-  added adds total same slots types = record {
+      → ((row : List Value) → has_entry row b1.entries ≡ has_entry row b0.entries) → b1.slots ≡ b0.slots → b1.types ≡ b0.types → b1.feed ≡ b0.feed
+      → AddedTo c bags after
+  added adds total same slots types feed = record {
     counts = λ list row. each_place c.list
         (λ l. pos (count_in row (entries_at after l)) ≡ pos (count_in row (entries_at bags l)) +ℤ row_change l row c)
         (ap (λ es. pos (count_in row es)) (new_entries bags c.list b0 b1 there is) ∙ adds.counts row
@@ -124,6 +144,7 @@ module _ (bags : List Counts) (c : RowChange) (b0 b1 : Counts) (there : c.list <
     slots = each_place c.list (λ l. slots_at after l ≡ slots_at bags l)
         (new_slots bags c.list b0 b1 there is ∙ slots ∙ sym (slots_here bags c.list b0 b1 there is)) (other_slots bags c.list b0 b1 there is);
     types = types_kept bags c.list b0 b1 there is types;
+    feeds = feeds_kept bags c.list b0 b1 there is feed;
     size = length-set bags c.list b1;
   }
 
@@ -145,8 +166,8 @@ module _ (bags : List Counts) (c : ListChange) (b0 b1 : Counts) (there : c.list 
       → (bag.IsThere b0.slots c.entry → count_in (row_at b0.slots c.entry) b0.entries ≡ 0 → has_entry (row_at b0.slots c.entry) b1.entries ≡ false)
       → ((row : List Value) → has_entry row b1.entries ≡ true → has_entry row b0.entries ≡ true)
       → ((row : List Value) → same_row (row_at b0.slots c.entry) row ≡ false → has_entry row b1.entries ≡ has_entry row b0.entries)
-      → MayFree c.entry b0 b1 → b1.types ≡ b0.types → Purged c bags left
-  purged counts total goes others beside slots types = record {
+      → MayFree c.entry b0 b1 → b1.types ≡ b0.types → b1.feed ≡ b0.feed → Purged c bags left
+  purged counts total goes others beside slots types feed = record {
     counts = λ list row. unchanged bags c.list b0 b1 there is (count_in row) (counts row) list;
     totals = unchanged bags c.list b0 b1 there is total_of total;
     gone = λ it is_0.
@@ -177,6 +198,7 @@ module _ (bags : List Counts) (c : ListChange) (b0 b1 : Counts) (there : c.list 
         slots)
         (λ l apart. inl (other_slots bags c.list b0 b1 there is l apart));
     types = types_kept bags c.list b0 b1 there is types;
+    feeds = feeds_kept bags c.list b0 b1 there is feed;
     size = length-set bags c.list b1;
   }
 
@@ -186,8 +208,8 @@ pub puts : (bags : List Counts) (c : RowChange) (b0 b1 : Counts) (there : c.list
     → total_of b1.entries ≡ total_of b0.entries → IsEntry b1.slots entry c.change.row → is_new ≡ not (has_entry c.change.row b0.entries)
     → ((row : List Value) → has_entry row b1.entries ≡ cond (same_row c.change.row row) true (has_entry row b0.entries))
     → ((other : EntryRef) (row : List Value) → IsEntry b0.slots other row → IsEntry b1.slots other row)
-    → b1.types ≡ b0.types → Puts c entry is_new bags (set bags c.list b1)
-puts bags c b0 b1 there is entry is_new counts total here says entries kept types = record {
+    → b1.types ≡ b0.types → b1.feed ≡ b0.feed → Puts c entry is_new bags (set bags c.list b1)
+puts bags c b0 b1 there is entry is_new counts total here says entries kept types feed = record {
   counts = λ list row. unchanged bags c.list b0 b1 there is (count_in row) (counts row) list;
   totals = unchanged bags c.list b0 b1 there is total_of total;
   found = subst (λ ss. IsEntry ss entry c.change.row) (sym (new_slots bags c.list b0 b1 there is)) here;
@@ -204,6 +226,7 @@ puts bags c b0 b1 there is entry is_new counts total here says entries kept type
       (kept other row (subst (λ ss. IsEntry ss other row) (slots_here bags c.list b0 b1 there is) it)))
       (λ l apart it. subst (λ ss. IsEntry ss other row) (sym (other_slots bags c.list b0 b1 there is l apart)) it) list;
   types = types_kept bags c.list b0 b1 there is types;
+  feeds = feeds_kept bags c.list b0 b1 there is feed;
   size = length-set bags c.list b1;
 }
   where

@@ -16,7 +16,7 @@ use Rattle.mm_partition.specs.Places.{Content, Free, Live, row_in}
 use Rattle.mm_multiset.specs.Counts.{Counts, IsEntry, count_in, has_entry, row_at, total_of}
 use Rattle.mm_standing.specs.Bags.{AreFirst, AreSame, CanAdd, CanMake, IsLean, IsSound, IsThere, IsWithin, Purged, Puts}
 use Rattle.mm_standing.specs.Bags.{brings_entry, change_of, changes_in, count_with, done_of, entries_at, is_named, names, opposite, row_change}
-use Rattle.mm_standing.specs.Bags.{row_of, slots_at, steps_of, sum_over, types_of, undos}
+use Rattle.mm_standing.specs.Bags.{feeds_of, row_of, slots_at, steps_of, sum_over, types_of, undos}
 use Rattle.mm_standing.specs.declared.change.ListChange.{ListChange}
 use Rattle.mm_standing.specs.declared.change.RowChange.{RowChange}
 use Rattle.mm_standing.proofs.Adding.{at_map, eq_itself}
@@ -234,6 +234,9 @@ module _ (bags : List Counts) (rest log : List ListChange) (c : ListChange) (sou
 
     pub types_removed : types_of new ≡ types_of bags
     types_removed = cases (λ e. (removed e).types) (λ e. ap types_of (kept e))
+
+    pub feeds_removed : feeds_of new ≡ feeds_of bags
+    feeds_removed = cases (λ e. (removed e).feeds) (λ e. ap feeds_of (kept e))
 
     pub size_removed : length new ≡ length bags
     size_removed = cases (λ e. (removed e).size) (λ e. ap (λ (bs : List Counts). length bs) (kept e))

@@ -261,6 +261,7 @@ module _ (bags bags' : List Counts) (next : ListChange) (rest log : List ListCha
     longer = omega (arith, made.longer, length_undos, ap (λ (ds : List RowChange). length ds) rest_made);
     older = omega (arith, made.older, length_undos);
     types = adds.types ∙ made.types;
+    feeds = adds.feeds ∙ made.feeds;
     size = adds.size ∙ made.size;
   }
 
@@ -271,6 +272,7 @@ made_none bags prepared log = record {
   longer = refl;
   older = omega arith;
   types = refl;
+  feeds = refl;
   size = refl;
 }
 

@@ -1,6 +1,6 @@
 -- The bags of standing queries, and changes of counts.
-use Rattle.std.specs.Prelude.{◌≡◌, ◌==◌, ℕ, ℤ, pos, ◌+◌, ◌≤◌, ◌<◌, ◌<ℤ◌, ◌⊎◌, ◌^◌, ◌++◌, ◌+ℤ◌, ◌≤ℤ◌, neg_ℤ, Bool, true, false, not, if◌then◌else◌, All}
-use Rattle.std.specs.Prelude.{length, List, [], ◌∷◌}
+use Rattle.std.specs.Prelude.{◌≡◌, ◌≢◌, ◌==◌, ℕ, ℤ, pos, ◌+◌, ◌≤◌, ◌<◌, ◌<ℤ◌, ◌⊎◌, ◌^◌, ◌++◌, ◌+ℤ◌, ◌≤ℤ◌, neg_ℤ, Bool, true, false, not, if◌then◌else◌, All}
+use Rattle.std.specs.Prelude.{length, List, [], ◌∷◌, Option, None}
 use Rattle.std.specs.Prelude.{drop, map, slice_index_or, slice_set, take}
 use Rattle.std.specs.List.{list_any}
 use Rattle.mm_value.specs.Equality.{same_row}
@@ -8,7 +8,7 @@ use Rattle.mm_value.specs.declared.col_type.ColType.{ColType}
 use Rattle.mm_value.specs.declared.values.Value.{Value}
 use Rattle.mm_partition.specs.Places.{Content, Free}
 use Rattle.mm_partition.specs.Types.{HasTypes}
-use Rattle.mm_multiset.specs.Counts.{Counts, Entries, IsEntry, count_in, count_of, has_entry, row_at, signed_count, total_of}
+use Rattle.mm_multiset.specs.Counts.{Counts, Entries, Feed, IsEntry, count_in, count_of, has_entry, row_at, signed_count, total_of}
 use Rattle.mm_multiset.specs.Counts as bag
 use Rattle.mm_multiset.specs.declared.entry_ref.EntryRef.{EntryRef}
 use Rattle.mm_multiset.specs.declared.signed.Signed.{Signed}
@@ -23,6 +23,18 @@ entries_at bags list = slice_index_or (map (λ (bag : Counts). bag.entries) bags
 -- The contents of the slots of the bag of a list; none if there is no such list.
 abbrev pub slots_at : List Counts → ℕ → List Content
 slots_at bags list = slice_index_or (map (λ (bag : Counts). bag.slots) bags) list []
+
+-- What the reader of each bag was told.
+abbrev pub feeds_of : List Counts → List (Option Feed)
+feeds_of bags = map (λ (bag : Counts). bag.feed) bags
+
+-- What the reader of the bag of a list was told; nothing if there is no such list.
+abbrev pub feed_at : List Counts → ℕ → Option Feed
+feed_at bags list = slice_index_or (feeds_of bags) list None
+
+-- The slots of the bag of a list, with the rows that are kept to be told; none if there is no such list.
+abbrev pub held_at : List Counts → ℕ → List Content
+held_at bags list = slice_index_or (map (λ (bag : Counts). bag.held) bags) list []
 
 -- The types of the columns of each bag.
 abbrev pub types_of : List Counts → List (List ColType)
@@ -170,6 +182,10 @@ pub record AreSame (old new : List Counts) : Type 0 where
   pub types : types_of new ≡ types_of old
   pub size : length new ≡ length old
 
+-- No other list has another feed.
+abbrev pub IsFeedOf : ℕ → List Counts → List Counts → Type 0
+IsFeedOf list old new = (other : ℕ) → other ≢ list → feed_at new other ≡ feed_at old other
+
 -- A change was applied: its number was added to the count of its row in its list, and to no other. All entries remain.
 pub record AddedTo (c : RowChange) (old new : List Counts) : Type 0 where
   pub counts : (list : ℕ) (row : List Value) → pos (count_in row (entries_at new list)) ≡ pos (count_in row (entries_at old list)) +ℤ row_change list row c
@@ -177,6 +193,7 @@ pub record AddedTo (c : RowChange) (old new : List Counts) : Type 0 where
   pub entries : (list : ℕ) (row : List Value) → has_entry row (entries_at new list) ≡ has_entry row (entries_at old list)
   pub slots : (list : ℕ) → slots_at new list ≡ slots_at old list
   pub types : types_of new ≡ types_of old
+  pub feeds : feeds_of new ≡ feeds_of old
   pub size : length new ≡ length old
 
 -- The entry of a change was removed if its count was 0, and all else is unchanged.
@@ -191,6 +208,7 @@ pub record Purged (c : ListChange) (old new : List Counts) : Type 0 where
       ⊎ ((c.list ≡ list) × (slots_at new list ≡ slice_set (slots_at old list) c.entry.slot.slot Free)
       × (has_entry (row_of old c) (entries_at new list) ≡ false))
   pub types : types_of new ≡ types_of old
+  pub feeds : feeds_of new ≡ feeds_of old
   pub size : length new ≡ length old
 
 -- A reference leads to the entry of a row in its list, which may be a new one, and all else is unchanged.
@@ -203,6 +221,7 @@ pub record Puts (c : RowChange) (entry : EntryRef) (is_new : Bool) (old new : Li
       → has_entry row (entries_at new list) ≡ (if names list row c then true else has_entry row (entries_at old list))
   pub kept : (list : ℕ) (other : EntryRef) (row : List Value) → IsEntry (slots_at old list) other row → IsEntry (slots_at new list) other row
   pub types : types_of new ≡ types_of old
+  pub feeds : feeds_of new ≡ feeds_of old
   pub size : length new ≡ length old
 
 -- Every row that has an entry has a count above 0.
@@ -219,4 +238,5 @@ pub record Made (bags : List Counts) (prepared : List RowChange) (log : List Row
   pub longer : length log' + length prepared' ≡ length log + length prepared
   pub older : length log ≤ length log'
   pub types : types_of bags' ≡ types_of bags
+  pub feeds : feeds_of bags' ≡ feeds_of bags
   pub size : length bags' ≡ length bags

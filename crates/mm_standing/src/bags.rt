@@ -4,7 +4,7 @@ ghost use Rattle.std.specs.Vec.{vec_capacity, vec_len};
 ghost use Rattle.mm_multiset.specs.Counts.{Counts as BagCounts, count_in};
 ghost use Rattle.mm_multiset.specs.Counts as bag;
 ghost use Rattle.mm_standing.specs.Bags.{AddedTo, AreSame, IsSmall, IsSound, IsThere, IsTyped, IsWithin, Made, Purged, Puts};
-ghost use Rattle.mm_standing.specs.Bags.{change_of, count_with, done_of, entries_at, opposite, row_of, slots_at, types_of, undos};
+ghost use Rattle.mm_standing.specs.Bags.{change_of, count_with, done_of, entries_at, feeds_of, opposite, row_of, slots_at, types_of, undos};
 ghost use Rattle.mm_value.specs.declared.values.Value.{Value as Val};
 
 use crate::change::{ListChange, RowChange};
@@ -37,6 +37,7 @@ pub fn undo_behind(bags: &mut Vec<Bag>, log: &[ListChange], mark: usize)
         → count_with bags.new.items (drop earlier (undos bags.new.items (take mark log.now))) list row
         ≡ count_with bags.old.items (drop earlier (undos bags.old.items log.now)) list row }
     ensures types { types_of bags.new.items ≡ types_of bags.old.items }
+    ensures feeds { feeds_of bags.new.items ≡ feeds_of bags.old.items }
     ensures size { length bags.new.items ≡ length bags.old.items }
 {
     let mut left = log.len();
@@ -67,6 +68,7 @@ pub fn drop_all(bags: &mut Vec<Bag>, prepared: &mut Vec<ListChange>, log: &[List
     ensures counts { (list : ℕ) (row : List Val)
         → count_in row (entries_at bags.new.items list) ≡ count_in row (entries_at bags.old.items list) }
     ensures types { types_of bags.new.items ≡ types_of bags.old.items }
+    ensures feeds { feeds_of bags.new.items ≡ feeds_of bags.old.items }
     ensures size { length bags.new.items ≡ length bags.old.items }
 {
     while let Some(change) = prepared.pop() {
@@ -82,6 +84,7 @@ pub fn purge(bags: &mut Vec<Bag>, log: &mut Vec<ListChange>)
     ensures counts { (list : ℕ) (row : List Val)
         → count_in row (entries_at bags.new.items list) ≡ count_in row (entries_at bags.old.items list) }
     ensures types { types_of bags.new.items ≡ types_of bags.old.items }
+    ensures feeds { feeds_of bags.new.items ≡ feeds_of bags.old.items }
     ensures size { length bags.new.items ≡ length bags.old.items }
 {
     while let Some(change) = log.pop() {
@@ -99,6 +102,7 @@ pub fn prepare_one(bags: &mut Vec<Bag>, change: RowChange) -> Result<ListChange,
     ensures by { IfOk result (λ prepared. prepared.by ≡ change.change.count) }
     ensures puts { IfOk result (λ prepared. Puts change prepared.entry prepared.is_new bags.old.items bags.new.items) }
     ensures err { OnErr result (AreSame bags.old.items bags.new.items) }
+    ensures feeds { feeds_of bags.new.items ≡ feeds_of bags.old.items }
 {
     let RowChange { list, change } = change;
     let by = change.count as i64;

@@ -3,6 +3,7 @@
 
 mod bags;
 mod change;
+mod feeds;
 mod listing;
 mod prepare;
 mod read_laws;

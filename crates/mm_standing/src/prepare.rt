@@ -12,7 +12,7 @@ ghost use Rattle.mm_multiset.specs.declared.signed.Signed.{Signed as Change};
 ghost use Rattle.mm_partition.specs.Types.{HasTypes};
 ghost use Rattle.mm_schema.specs.Refused.{AnswersDue, first_refusal};
 ghost use Rattle.mm_standing.specs.Bags.{Brings, CanAdd, HasGainsFirst, IsSmall, IsSound, IsTyped};
-ghost use Rattle.mm_standing.specs.Bags.{count_with, done_of, entries_at, sum_over, types_of, undos};
+ghost use Rattle.mm_standing.specs.Bags.{count_with, done_of, entries_at, feeds_of, sum_over, types_of, undos};
 ghost use Rattle.mm_standing.specs.Queries.{AreCounts, GivesTyped, IsBagOf, IsServed, bag_over, change_conditions, list_conditions};
 ghost use Rattle.mm_standing.specs.Reads.{AreOfCyclicRows, AreTypeTested, RowTests, query_reads};
 ghost use Rattle.mm_standing.specs.State.{AreOfTypes, AreServed};
@@ -52,6 +52,7 @@ pub(crate) fn prepare_each(
     ensures counts { (list : ℕ) (row : List Val)
         → count_in row (entries_at bags.new.items list) ≡ count_in row (entries_at bags.old.items list) }
     ensures types { types_of bags.new.items ≡ types_of bags.old.items }
+    ensures feeds { feeds_of bags.new.items ≡ feeds_of bags.old.items }
     ensures size { length bags.new.items ≡ length bags.old.items }
 {
     while let Some(change) = changes.pop() {

@@ -1,5 +1,5 @@
 //! The standing queries and their lists.
-ghost use Rattle.std.specs.Prelude.{◌≡◌, ℕ, ◌++◌, ◌∷◌, ◌≤◌, ◌<◌, All, List, [], drop, length, map, pos, Some, slice_get, take, IfOk, OnErr, OnOk};
+ghost use Rattle.std.specs.Prelude.{◌≡◌, ℕ, ◌++◌, ◌∷◌, ◌≤◌, ◌<◌, All, List, [], drop, length, map, pos, None, Some, slice_get, take, IfOk, OnErr, OnOk};
 ghost use Rattle.std.specs.List.{remove, sum_by};
 ghost use Rattle.mm_multiset.specs.Counts.{Counts as BagCounts, count_in};
 ghost use Rattle.mm_delta.specs.Edited.{after_at, before_at};
@@ -9,13 +9,15 @@ ghost use Rattle.mm_query.specs.Queries.{bag_of};
 ghost use Rattle.mm_schema.specs.References.{above};
 ghost use Rattle.mm_schema.specs.Refused.{AnswersDue, first_refusal};
 ghost use Rattle.mm_store.specs.Tables.{rows_at};
-ghost use Rattle.mm_standing.specs.Bags.{CanAdd, IsLean, IsSmall, IsTyped, Made, count_with, entries_at};
+ghost use Rattle.mm_standing.specs.Bags.{CanAdd, IsLean, IsSmall, IsTyped, Made, count_with, entries_at, feeds_of};
 ghost use Rattle.mm_standing.specs.Queries.{GivesTyped, IsBagOf, StandingQuery, bag_over, change_conditions, list_conditions, shown_of};
 ghost use Rattle.mm_standing.specs.Reads.{AreOfCyclicRows, AreTypeTested, RowTests, query_reads};
 ghost use Rattle.mm_standing.specs.State.{AreServed, FitNow, FitPrepared, count_at};
 ghost use Rattle.mm_value.specs.declared.values.Value.TheVariants.{Int};
 ghost use Rattle.mm_standing.specs.declared.change.RowChange.{RowChange as AnyChange};
 ghost use Rattle.mm_value.specs.declared.values.Value.{Value as Val};
+
+mod following;
 
 use crate::bags::{drop_all, make_all, purge, undo_behind};
 use crate::change::{ListChange, RowChange};
@@ -116,6 +118,7 @@ impl Standing {
         ensures counts { (list : ℕ) (row : List Val)
             → count_in row (entries_at self.new.bags list) ≡ count_in row (entries_at self.old.bags list) }
         ensures size { length self.new.bags ≡ length self.old.bags }
+        ensures feeds { feeds_of self.new.bags ≡ feeds_of self.old.bags }
         ensures rest { self.new ≡ record self.old { bags = self.new.bags; prepared = [] } }
     {
         drop_all(&mut self.bags, &mut self.prepared, self.log.as_slice());
@@ -142,6 +145,7 @@ impl Standing {
             → count_at earlier list row self.new ≡ count_at earlier list row self.old }
         ensures lean { IsLean self.new.bags self.new.log }
         ensures size { length self.new.bags ≡ length self.old.bags }
+        ensures feeds { feeds_of self.new.bags ≡ feeds_of self.old.bags }
         ensures rest { self.new ≡ record self.old { bags = self.new.bags; log = self.new.log } }
     {
         undo_behind(&mut self.bags, self.log.as_slice(), mark);
@@ -156,6 +160,7 @@ impl Standing {
         ensures counts { (list : ℕ) (row : List Val)
             → count_in row (entries_at self.new.bags list) ≡ count_in row (entries_at self.old.bags list) }
         ensures size { length self.new.bags ≡ length self.old.bags }
+        ensures feeds { feeds_of self.new.bags ≡ feeds_of self.old.bags }
         ensures rest { self.new ≡ record self.old { bags = self.new.bags; log = [] } }
     {
         purge(&mut self.bags, &mut self.log);
@@ -196,6 +201,7 @@ impl Standing {
               queries = self.old.queries ++ record { query = query; tables = tables.items; types = types.items } ∷ [];
               bags = self.old.bags ++ bag ∷ [];
             })) }
+        ensures feed { OnOk result (feeds_of self.new.bags ≡ feeds_of self.old.bags ++ None ∷ []) }
         ensures err { OnErr result (self.new ≡ self.old) }
     {
         self.queries.reserve(1)?;
@@ -275,6 +281,7 @@ impl Standing {
         ensures counts { (list : ℕ) (row : List Val)
             → count_in row (entries_at self.new.bags list) ≡ count_in row (entries_at self.old.bags list) }
         ensures size { length self.new.bags ≡ length self.old.bags }
+        ensures feeds { feeds_of self.new.bags ≡ feeds_of self.old.bags }
         ensures rest { self.new ≡ record self.old { bags = self.new.bags; prepared = self.new.prepared; reads = view.new.reads } }
         ensures reads { (skipped : RowTests) → AreOfCyclicRows skipped
             → view.new.reads ≤ sum_by (query_reads view.old.store changes.now skipped) self.old.queries }
@@ -308,6 +315,7 @@ impl Standing {
         ensures counts { (list : ℕ) (row : List Val)
             → count_in row (entries_at self.new.bags list) ≡ count_in row (entries_at self.old.bags list) }
         ensures size { length self.new.bags ≡ length self.old.bags }
+        ensures feeds { feeds_of self.new.bags ≡ feeds_of self.old.bags }
         ensures rest { self.new ≡ record self.old { bags = self.new.bags; prepared = self.new.prepared } }
     {
         self.prepared.reserve(changes.len())?;

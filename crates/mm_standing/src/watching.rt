@@ -1,5 +1,5 @@
 //! The bag of a new standing query.
-ghost use Rattle.std.specs.Prelude.{◌≡◌, ◌≢◌, ◌<◌, ◌≤◌, All, IfOk, Some, length, map, pos, slice_get};
+ghost use Rattle.std.specs.Prelude.{◌≡◌, ◌≢◌, ◌<◌, ◌≤◌, All, IfOk, None, Some, length, map, pos, slice_get};
 ghost use Rattle.std.specs.Option.{unwrap_or};
 ghost use Rattle.mm_multiset.specs.Counts.{IsOnce};
 ghost use Rattle.mm_partition.specs.Types.{HasTypes};
@@ -36,6 +36,7 @@ pub(crate) fn bag_now(
     requires few { length tables.now ≤ 4 }
     requires typed { All (HasTypes types.now) (bag_of query.now (map (rows_at store.now.tables) tables.now)) }
     ensures types { IfOk result (λ bag. bag.types ≡ types.now) }
+    ensures feed { IfOk result (λ bag. bag.feed ≡ None) }
     ensures due { AnswersDue (first_refusal (list_conditions (bag_of query.now (map (rows_at store.now.tables) tables.now)))) result }
     ensures ok { IfOk result (λ bag. IsBagOf bag.entries (bag_of query.now (map (rows_at store.now.tables) tables.now))) }
     ensures once { IfOk result (λ bag. IsOnce bag.entries) }
@@ -71,6 +72,7 @@ fn counted(
     requires live { All (AreLive view.old.store list.now.tables) list.now.combos }
     requires typed { All (HasTypes types.now) (projected_rows view.old.store list.now) }
     ensures types { IfOk result (λ bag. bag.types ≡ types.now) }
+    ensures feed { IfOk result (λ bag. bag.feed ≡ None) }
     ensures ok { IfOk result (λ bag. IsBagOf bag.entries (projected_rows view.old.store list.now)) }
     ensures once { IfOk result (λ bag. IsOnce bag.entries) }
     ensures positive { IfOk result (λ bag. ArePositive bag.entries) }

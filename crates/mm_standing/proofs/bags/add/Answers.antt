@@ -51,4 +51,4 @@ returns c =
     (subst (λ (ss : List Content). Adds (record { row = row_at ss c.args.change.now.entry; count = c.args.by }) bag.entries new.entries)
     (sym (slots_here bags list bag bag c.requires.list c.index_mut.ensures.value)) adds)
     (subst (λ (z : ℤ). pos (total_of new.entries) ≡ pos (total_of bag.entries) +ℤ z) cast c.add_at.ensures.total)
-    c.add_at.ensures.entries c.add_at.ensures.slots c.add_at.ensures.types
+    c.add_at.ensures.entries c.add_at.ensures.slots c.add_at.ensures.types c.add_at.ensures.feed

@@ -3,7 +3,7 @@ use Rattle.std.proofs.Common.{◌≡◌, ◌-◌, ◌++◌, ◌∷◌, [], List,
 use Rattle.std.proofs.lemmas.List.{append-nil}
 use Rattle.mm_standing.specs.Bags.{IsSound}
 use Rattle.mm_standing.specs.declared.change.ListChange.{ListChange}
-use Rattle.mm_standing.proofs.Dropping.{counts_removed, last_there, size_removed, sound_removed, types_removed, undos_removed}
+use Rattle.mm_standing.proofs.Dropping.{counts_removed, last_there, feeds_removed, size_removed, sound_removed, types_removed, undos_removed}
 use Rattle.mm_standing.proofs.Purging.{slot_inside}
 use Rattle.mm_standing.proofs.bags.drop_all.Goals as goal
 use Rattle.mm_standing.proofs.bags.drop_all.Goals.{In-Some}
@@ -14,6 +14,7 @@ loop-change-init c = record {
   log = refl;
   counts = λ list row. refl;
   types = refl;
+  feeds = refl;
   size = refl;
 }
 
@@ -48,6 +49,7 @@ loop-change-preserved c =
       log = undos_removed bags rest log change sound new removed kept ∙ so_far.log;
       counts = λ list row. counts_removed bags rest log change sound new removed kept list row ∙ so_far.counts list row;
       types = types_removed bags rest log change sound new removed kept ∙ so_far.types;
+      feeds = feeds_removed bags rest log change sound new removed kept ∙ so_far.feeds;
       size = size_removed bags rest log change sound new removed kept ∙ so_far.size;
     }
 

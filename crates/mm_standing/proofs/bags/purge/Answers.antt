@@ -21,6 +21,7 @@ loop-change-init c =
       counts = λ list row. refl;
       totals = λ list. refl;
       types = refl;
+      feeds = refl;
       size = refl;
       lean = lean_sound bags log c.requires;
     }
@@ -52,6 +53,7 @@ loop-change-preserved c =
       counts = λ list row. purged.counts list row ∙ so_far.counts list row;
       totals = λ list. purged.totals list ∙ so_far.totals list;
       types = purged.types ∙ so_far.types;
+      feeds = purged.feeds ∙ so_far.feeds;
       size = purged.size ∙ so_far.size;
       lean = lean_left start bags new change purged rest both.1
           (subst (λ (l : List ListChange). IsLean bags (undos start l)) c.in-Some.ensures.items so_far.lean);

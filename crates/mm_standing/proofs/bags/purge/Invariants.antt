@@ -2,7 +2,7 @@ use Rattle.std.proofs.Common.{◌≡◌, ℕ, List, length, vec_len}
 use Rattle.std.specs.List.{All}
 use Rattle.mm_value.specs.declared.values.Value.{Value}
 use Rattle.mm_multiset.specs.Counts.{count_in, total_of}
-use Rattle.mm_standing.specs.Bags.{IsLean, entries_at, types_of, undos}
+use Rattle.mm_standing.specs.Bags.{IsLean, entries_at, feeds_of, types_of, undos}
 use Rattle.mm_standing.proofs.Purging.{IsThereOrGone}
 use Rattle.mm_standing.proofs.bags.purge.Given as goal
 
@@ -13,6 +13,7 @@ invariant-loop-change l = record {
   counts : (list : ℕ) (row : List Value) → count_in row (entries_at l.bags.items list) ≡ count_in row (entries_at l.fn.bags.items list);
   totals : (list : ℕ) → total_of (entries_at l.bags.items list) ≡ total_of (entries_at l.fn.bags.items list);
   types : types_of l.bags.items ≡ types_of l.fn.bags.items;
+  feeds : feeds_of l.bags.items ≡ feeds_of l.fn.bags.items;
   size : length l.bags.items ≡ length l.fn.bags.items;
   lean : IsLean l.bags.items (undos l.fn.bags.items l.log.items);
 }

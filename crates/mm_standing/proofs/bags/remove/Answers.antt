@@ -14,4 +14,4 @@ pub returns : goal.returns
 returns c =
     let e = c.remove_if_zero.ensures in
     purged c.args.bags.now.items c.args.change.now c.index_mut.result.now c.remove_if_zero.new.self c.requires.list c.index_mut.ensures.value
-    e.counts e.total e.gone e.others e.beside e.slots e.types
+    e.counts e.total e.gone e.others e.beside e.slots e.types e.feed

@@ -11,7 +11,7 @@ use Rattle.mm_standing.specs.declared.change.ListChange.{ListChange}
 use Rattle.mm_standing.specs.declared.change.RowChange.{RowChange}
 use Rattle.mm_standing.proofs.Stages.{count_moved, nothing_left}
 use Rattle.mm_standing.proofs.Steps.{newest_there, newest_within, sound_back, undos_back, undos_push}
-use Rattle.mm_standing.proofs.Dropping.{counts_removed, sound_removed, types_removed, undos_removed, size_removed}
+use Rattle.mm_standing.proofs.Dropping.{counts_removed, sound_removed, types_removed, undos_removed, feeds_removed, size_removed}
 use Rattle.mm_standing.proofs.Purging.{slot_inside}
 use Rattle.mm_standing.proofs.bags.undo_behind.Goals as goal
 
@@ -58,6 +58,7 @@ loop-left-init c =
       most = omega arith;
       counts = λ earlier within list row. ap (λ (l : List ListChange). count_with bags (drop earlier (undos bags l)) list row) (sym all);
       types = refl;
+      feeds = refl;
       size = refl;
     }
 
@@ -115,5 +116,6 @@ loop-left-preserved c =
           ∙ ap (λ (us : List RowChange). count_with bags (drop earlier us) list row) (sym joined)
           ∙ so_far.counts earlier (omega (arith, within)) list row;
       types = types_removed mid [] rest change back new removed kept ∙ adds.types ∙ so_far.types;
+      feeds = feeds_removed mid [] rest change back new removed kept ∙ adds.feeds ∙ so_far.feeds;
       size = size_removed mid [] rest change back new removed kept ∙ adds.size ∙ so_far.size;
     }

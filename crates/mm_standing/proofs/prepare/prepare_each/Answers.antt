@@ -28,6 +28,7 @@ loop-change-init c =
       counts = λ list row. refl;
       totals = λ list. refl;
       types = refl;
+      feeds = refl;
       size = refl;
     }
 
@@ -93,5 +94,6 @@ loop-change-preserved c =
       counts = λ list row. e.puts.counts list row ∙ so_far.counts list row;
       totals = λ list. e.puts.totals list ∙ so_far.totals list;
       types = e.puts.types ∙ so_far.types;
+      feeds = e.puts.feeds ∙ so_far.feeds;
       size = e.puts.size ∙ so_far.size;
     }

@@ -3,7 +3,7 @@ use Rattle.std.specs.List.{All}
 use Rattle.std.specs.Vec.{vec_capacity}
 use Rattle.mm_value.specs.declared.values.Value.{Value}
 use Rattle.mm_multiset.specs.Counts.{count_in, total_of}
-use Rattle.mm_standing.specs.Bags.{IsSmall, IsSound, IsTyped, CanAdd, done_of, entries_at, row_change, sum_over, types_of, undos}
+use Rattle.mm_standing.specs.Bags.{IsSmall, IsSound, IsTyped, CanAdd, done_of, entries_at, feeds_of, row_change, sum_over, types_of, undos}
 use Rattle.mm_standing.specs.declared.change.RowChange.{RowChange}
 use Rattle.mm_standing.proofs.Preparing.{AreSplit}
 use Rattle.mm_standing.proofs.prepare.prepare_each.Given as goal
@@ -22,6 +22,7 @@ invariant-loop-change l = record {
   counts : (list : ℕ) (row : List Value) → count_in row (entries_at l.bags.items list) ≡ count_in row (entries_at l.fn.bags.items list);
   totals : (list : ℕ) → total_of (entries_at l.bags.items list) ≡ total_of (entries_at l.fn.bags.items list);
   types : types_of l.bags.items ≡ types_of l.fn.bags.items;
+  feeds : feeds_of l.bags.items ≡ feeds_of l.fn.bags.items;
   size : length l.bags.items ≡ length l.fn.bags.items;
 }
 

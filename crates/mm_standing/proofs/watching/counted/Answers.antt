@@ -20,6 +20,7 @@ loop-i-init c = record {
   counts = λ row. ap (count_in row) c.in_ok-bag.ensures.entries;
   positive = subst ArePositive (sym c.in_ok-bag.ensures.entries) positive_none;
   types = c.in_ok-bag.ensures.types;
+  feed = c.in_ok-bag.ensures.feed;
   same = refl;
 }
 
@@ -49,6 +50,7 @@ loop-i-preserved c =
           (bag_more c.loop-i.bag.entries c.count_up.new.self.entries (take i rows) row c.loop-i.invariant.counts c.in_ok-count_up.ensures.counted);
       positive = positive_more c.loop-i.bag.entries c.count_up.new.self.entries row c.loop-i.invariant.positive c.in_ok-count_up.ensures.counted;
       types = c.count_up.ensures.types ∙ c.loop-i.invariant.types;
+      feed = c.count_up.ensures.feed ∙ c.loop-i.invariant.feed;
       same = c.row_read.ensures.same ∙ c.loop-i.invariant.same;
     }
 
