@@ -22,7 +22,8 @@ use Rattle.slot_counts.proofs.Telling.{shown_at, shown_zero}
 use Rattle.mm_multiset.specs.Counts.{Entries, Feed, IsEntry, IsOnce, IsStarted, IsThere, IsTold, IsUpToDate, count_in, number_in, row_at, signed_count}
 use Rattle.mm_multiset.specs.RowHash.{row_hash}
 use Rattle.mm_multiset.specs.declared.entry_ref.EntryRef.{EntryRef}
-use Rattle.mm_multiset.specs.Slots.{AreMarked, HasTold, IsFed, IsKept, IsMarked, entries_of, entry_of, feed_of, in_use, left_by, pair_of, pairs_from, told_of, told_part}
+use Rattle.mm_multiset.specs.Slots.{AreMarked, HasTold, IsFed, IsKept, IsMarked, entries_of, entry_of}
+use Rattle.mm_multiset.specs.Slots.{feed_of, in_use, left_by, pair_of, pairs_from, told_of, told_part}
 use Rattle.mm_multiset.proofs.SlotLists.{live_inside, slots_push, slots_set}
 
 -- ---- lists

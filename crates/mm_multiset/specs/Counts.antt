@@ -1,5 +1,6 @@
 -- Multisets of rows, stored as counts.
-use Rattle.std.specs.Prelude.{◌==◌, not, ◌≡◌, ◌≢◌, ℕ, ℤ, pos, neg_ℤ, ◌+◌, ◌+ℤ◌, ◌<ℤ◌, ◌^◌, ◌⊎◌, Bool, true, false, if◌then◌else◌, is_some, List, [], ◌∷◌, All, map}
+use Rattle.std.specs.Prelude.{◌==◌, not, ◌≡◌, ◌≢◌, ℕ, ℤ, pos, neg_ℤ, ◌+◌, ◌+ℤ◌, ◌<ℤ◌}
+use Rattle.std.specs.Prelude.{◌^◌, ◌⊎◌, Bool, true, false, if◌then◌else◌, is_some, List, [], ◌∷◌, All, map}
 use Rattle.std.specs.Prelude.{Option, Some, None}
 use Rattle.std.specs.Prelude.{slice_index_or, slice_set, sum}
 use Rattle.std.specs.List.{IsDistinct, count_by}
