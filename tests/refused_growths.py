@@ -42,6 +42,7 @@ import multiprocessing
 import os
 import re
 import resource
+import select
 import subprocess
 import sys
 import tempfile
@@ -255,19 +256,32 @@ class Run:
         self.replies += [ended] if ended != b"status 0" else []
 
 
-def ran(command, library, refused="0", given=b"", **files):
+def file_in_memory():
+    return open(os.memfd_create("file"), "w+b")
+
+
+def ended_within(process, seconds):
+    """Waits until a process ends, and returns whether it has. Popen.wait would look for the end at intervals, which grow longer than a run."""
+    descriptor = os.pidfd_open(process.pid)
+    try:
+        return bool(select.select([descriptor], [], [], seconds)[0])
+    finally:
+        os.close(descriptor)
+
+
+def ran(command, library, refused="0", given=b"", stderr=None):
     """Runs a command. Returns its output, how it ended, and the library's report. `refused` is the number of the allocation that fails; with
     a final '+', all allocations from there to the next output fail."""
-    with tempfile.TemporaryFile() as script, tempfile.TemporaryFile() as written, tempfile.TemporaryFile() as report:
+    with file_in_memory() as script, file_in_memory() as written, file_in_memory() as report:
         script.write(given)
         script.seek(0)
-        number = report.fileno()
-        names = {"LD_PRELOAD": library, "REFUSE_GROWTH": refused, "REFUSE_GROWTH_REPORT": str(number)}
-        files = {"stdin": script, "stdout": written, "pass_fds": [number], **files}
-        try:
-            ended = b"status %d" % subprocess.run(command, env=names, timeout=SECONDS, check=False, **files).returncode
-        except subprocess.TimeoutExpired:
-            ended = b"did not end within %d seconds" % SECONDS
+        names = {"LD_PRELOAD": library, "REFUSE_GROWTH": refused, "REFUSE_GROWTH_REPORT": str(report.fileno())}
+        files = {"stdin": script, "stdout": written, "stderr": stderr, "pass_fds": [report.fileno()]}
+        with subprocess.Popen(command, env=names, **files) as process:
+            in_time = ended_within(process, SECONDS)
+            if not in_time:
+                process.kill()
+        ended = b"status %d" % process.returncode if in_time else b"did not end within %d seconds" % SECONDS
         written.seek(0)
         report.seek(0)
         return written.read(), ended, report.read()
