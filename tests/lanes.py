@@ -45,6 +45,12 @@ class Lane:
         sys.stdout.flush()
 
 
+def result_of(code):
+    if code < 0:
+        return f"FAILED by signal {-code}"
+    return f"FAILED with status {code}" if code else "passed"
+
+
 def run_all(commands, running):
     """Runs the commands, and returns how many fail. `running` contains the lanes of those that have not ended, by process id."""
     waiting, failed = list(reversed(commands)), 0
@@ -53,9 +59,9 @@ def run_all(commands, running):
             lane = Lane(waiting.pop())
             running[lane.process.pid] = lane
         pid, status, used = os.wait4(-1, 0)
-        code = os.waitstatus_to_exitcode(status)
-        result = "passed" if code == 0 else f"FAILED with status {code}" if code > 0 else f"FAILED by {signal.Signals(-code).name}"
-        running.pop(pid).report(result, f", with {used.ru_utime + used.ru_stime:.0f} s of CPU time")
+        lane = running.pop(pid)
+        lane.process.returncode = code = os.waitstatus_to_exitcode(status)
+        lane.report(result_of(code), f", with {used.ru_utime + used.ru_stime:.0f} s of CPU time")
         failed += code != 0
     return failed
 
