@@ -53,9 +53,9 @@ def result_of(code):
 
 def run_all(commands, running):
     """Runs the commands, and returns how many fail. `running` contains the lanes of those that have not ended, by process id."""
-    waiting, failed = list(reversed(commands)), 0
+    waiting, failed, processors = list(reversed(commands)), 0, len(os.sched_getaffinity(0))
     while waiting or running:
-        while waiting and len(running) < os.cpu_count():
+        while waiting and len(running) < processors:
             lane = Lane(waiting.pop())
             running[lane.process.pid] = lane
         pid, status, used = os.wait4(-1, 0)
