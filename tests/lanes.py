@@ -77,6 +77,7 @@ def stop(lanes):
         except subprocess.TimeoutExpired:
             pass
         lane.signal(signal.SIGKILL)
+    for lane in lanes:
         lane.report("STOPPED")
 
 
