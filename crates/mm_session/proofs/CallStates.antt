@@ -19,11 +19,14 @@ use Rattle.mm_lang.specs.Templates.{holes_of}
 use Rattle.mm_statement.specs.Filling.{IsFilling}
 use Rattle.mm_txn.specs.Releasing.{Call, after_call, after_calls, after_release}
 use Rattle.mm_txn.specs.Releasing.Call.{Run as RunCommand, Release as ReleaseSavepoint}
+use Rattle.mm_session.specs.Appending.{Appends, AppendsAt, insert_of}
 use Rattle.mm_session.specs.Calls.{AreDoneBy, Asks, Does, IsDoneBy, LeadTo, SessionCall}
-use Rattle.mm_session.specs.Calls.SessionCall.{Execute, Prepare, Run, Explain, Finalize, Release}
+use Rattle.mm_session.specs.Calls.SessionCall.{Append, Execute, Prepare, Run, Explain, Finalize, Release}
 use Rattle.mm_session.specs.Session.{SessionState, AnswersLine, ExplainsAt, ExplainsStatement, Finalizes, IsPrepared, Releases, ReleasesAt, RunsAt}
 use Rattle.mm_session.specs.Session.{RunsStatement, outcome_in}
 use Rattle.mm_session.specs.Statements.{LeadsFilled}
+use Rattle.mm_session.specs.declared.column_array.ColumnArray.{ColumnArray}
+use Rattle.mm_session.specs.declared.column_array.NotColumns.{NotColumns}
 use Rattle.mm_session.specs.declared.misuse.Misuse.{Misuse}
 
 -- ---- one call
@@ -55,6 +58,17 @@ line_left line old new h = by (h.choice && takes_memory line) (state_of (outcome
         → Left (Execute line) old new.state
     by true is = nothing_done (Execute line) old new.state is
     by false is = read_done (Execute line) old new.state (reading line) (λ own reads. (own, reads, refl)) is
+
+append_left : (table : List ℕ) (columns : List ColumnArray) (old new : SessionState) → AppendsAt table columns old new
+    → Left (Append table columns) old new.state
+append_left table columns old new h =
+    ⊎_elim
+    (λ (step : outcome_in new ≡ outcome_of (insert_of table columns) old.state).
+    read_done (Append table columns) old new.state (insert_of table columns) (λ own is. (own, is, refl))
+    (state_of (outcome_in new) (outcome_of (insert_of table columns) old.state) step))
+    (λ (memory : outcome_in new ≡ refused_outcome Memory old.state).
+    nothing_done (Append table columns) old new.state (state_of (outcome_in new) (refused_outcome Memory old.state) memory))
+    h.appends
 
 run_left : (number : ℕ) (values : List Value) (old new : SessionState) → RunsAt number values old new → Left (Run number values) old new.state
 run_left number values old new h =
@@ -138,8 +152,14 @@ explained_left : (number : ℕ) (values : List Value) (old new : SessionState) (
 explained_left number values old new (Ok done) h = explain_left number values old new h
 explained_left number values old new (Err misuse) h = nothing_done (Explain number values) old new.state (same_state old new h.0)
 
+appended_left : (table : List ℕ) (columns : List ColumnArray) (old new : SessionState) (result : Result (Unit {0}) NotColumns)
+    → Appends table columns old new result → Left (Append table columns) old new.state
+appended_left table columns old new (Ok done) h = append_left table columns old new h.1
+appended_left table columns old new (Err fault) h = nothing_done (Append table columns) old new.state (same_state old new h.0)
+
 call_left : (call : SessionCall) (old new : SessionState) → Does call old new → Left call old new.state
 call_left (Execute line) old new h = line_left line old new h
+call_left (Append table columns) old new h = appended_left table columns old new h.0 h.1
 call_left (Prepare line) old new h = nothing_done (Prepare line) old new.state (prepared_state line old new h.0 h.1)
 call_left (Run number values) old new h = ran_left number values old new h.0 h.1
 call_left (Explain number values) old new h = explained_left number values old new h.0 h.1
@@ -208,7 +228,7 @@ refused_line_stays line old new refusal h is =
     by true replied left = left
     by false replied left = left ∙ refused_read (reading line) old.state refusal (sym replied ∙ is)
 
--- .. and a refused run.
+-- .. a refused run, ..
 pub refused_run_stays : (number : ℕ) (values : List Value) (old new : SessionState) (refusal : Refusal) → RunsAt number values old new
     → new.reply ≡ Some (Refused refusal) → new.state ≡ old.state
 refused_run_stays number values old new refusal h is =
@@ -221,3 +241,15 @@ refused_run_stays number values old new refusal h is =
     (λ (m : (outcome_in new ≡ refused_outcome Memory old.state) × IsTrue (command_takes_memory runs.command)).
     state_of (outcome_in new) (refused_outcome Memory old.state) m.0)
     runs.leads
+
+-- .. and a refused append.
+pub refused_append_stays : (table : List ℕ) (columns : List ColumnArray) (old new : SessionState) (refusal : Refusal)
+    → AppendsAt table columns old new → new.reply ≡ Some (Refused refusal) → new.state ≡ old.state
+refused_append_stays table columns old new refusal h is =
+    ⊎_elim
+    (λ (step : outcome_in new ≡ outcome_of (insert_of table columns) old.state).
+    state_of (outcome_in new) (outcome_of (insert_of table columns) old.state) step
+    ∙ refused_read (insert_of table columns) old.state refusal (sym (ap (λ (o : Outcome). o.reply) step) ∙ is))
+    (λ (memory : outcome_in new ≡ refused_outcome Memory old.state).
+    state_of (outcome_in new) (refused_outcome Memory old.state) memory)
+    h.appends

@@ -1,5 +1,7 @@
+pub mod AppendedRows
 mod CallRows
 mod CallStates
+pub mod ColumnArrays
 mod ColumnTypes
 pub mod FilledForms
 pub mod FormLemmas

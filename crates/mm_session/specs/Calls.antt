@@ -12,14 +12,18 @@ use Rattle.mm_lang.specs.Templates.{holes_of, template_of}
 use Rattle.mm_statement.specs.Filling.{IsFilling}
 use Rattle.mm_txn.specs.Releasing.{Call}
 use Rattle.mm_txn.specs.Releasing.Call.{Run as RunCommand, Release as ReleaseSavepoint}
+use Rattle.mm_session.specs.Appending.{Appends, insert_of}
 use Rattle.mm_session.specs.Kinds.{query_of}
 use Rattle.mm_session.specs.Session.{SessionState, AnswersLine, ExplainsStatement, Finalizes, IsPrepared, Releases, RunsStatement}
 use Rattle.mm_session.specs.Statements.{line_at}
+use Rattle.mm_session.specs.declared.column_array.ColumnArray.{ColumnArray}
+use Rattle.mm_session.specs.declared.column_array.NotColumns.{NotColumns}
 use Rattle.mm_session.specs.declared.misuse.Misuse.{Misuse}
 
 -- A call on a session, with its arguments. A load executes each line of its script. All other calls leave the session as it is.
 pub data SessionCall : Type 0 where
   Execute : (line : List ℕ) → SessionCall
+  Append : (table : List ℕ) (columns : List ColumnArray) → SessionCall
   Prepare : (line : List ℕ) → SessionCall
   Run : (number : ℕ) (values : List Value) → SessionCall
   Explain : (number : ℕ) (values : List Value) → SessionCall
@@ -29,6 +33,7 @@ pub data SessionCall : Type 0 where
 -- The effect of a call on a session, whatever the call returns.
 abbrev pub Does : SessionCall → SessionState → SessionState → Type 0
 Does (Execute line) old new = AnswersLine line old new
+Does (Append table columns) old new = (result : Result (Unit {0}) NotColumns) × Appends table columns old new result
 Does (Prepare line) old new = (result : Result ℕ Refusal) × IsPrepared line old new result
 Does (Run number values) old new = (result : Result (Unit {0}) Misuse) × RunsStatement number values old new result
 Does (Explain number values) old new = (result : Result (Unit {0}) Misuse) × ExplainsStatement number values old new result
@@ -68,10 +73,11 @@ pub record AsksExplained (number : ℕ) (values : List Value) (lines : List (Opt
   pub fills : IsFilling (holes_of line) values (command.Explain query) (Ok filled)
   pub same : asked ≡ RunCommand filled
 
--- The call that a session makes on the database, if the statements have these lines. A line runs the command that it reads as. Preparing or
--- deleting a statement makes no call.
+-- The call that a session makes on the database, if the statements have these lines. A line runs the command that it reads as, and
+-- appending runs the INSERT of the rows. Preparing or deleting a statement makes no call.
 abbrev pub Asks : SessionCall → List (Option (List ℕ)) → Call → Type 0
 Asks (Execute line) lines asked = (own : Command) × (reading line ≡ Ok own) × (asked ≡ RunCommand own)
+Asks (Append table columns) lines asked = (own : Command) × (insert_of table columns ≡ Ok own) × (asked ≡ RunCommand own)
 Asks (Prepare line) lines asked = ⊥
 Asks (Run number values) lines asked = AsksFilled number values lines asked
 Asks (Explain number values) lines asked = AsksExplained number values lines asked

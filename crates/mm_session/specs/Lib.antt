@@ -1,4 +1,6 @@
+pub mod Appending
 pub mod Calls
+pub mod ColumnArrays
 pub mod Columns
 pub mod Definitions
 pub mod Kinds

@@ -10,16 +10,18 @@ ghost use Rattle.mm_query.specs.Machine.{after_all};
 ghost use Rattle.mm_query.specs.State.{first_state};
 ghost use Rattle.mm_query.specs.declared.command.Command.{Command};
 ghost use Rattle.mm_query.specs.declared.reply.Reply.TheVariants.{Refused, Rows};
-ghost use Rattle.mm_lang.specs.Reading.{is_nothing};
+ghost use Rattle.mm_lang.specs.Reading.{is_nothing, reading};
 ghost use Rattle.mm_lang.specs.Tokens.{is_hole, tokens};
 ghost use Rattle.mm_statement.specs.Texts.{filled_line, keeps_signs};
 ghost use Rattle.mm_txn.specs.Releasing.{Call, after_calls};
+ghost use Rattle.mm_session.specs.Appending.{AppendsAt, insert_of};
 ghost use Rattle.mm_session.specs.Calls.{AreDoneBy, LeadTo, SessionCall, first_session};
 ghost use Rattle.mm_session.specs.Calls.SessionCall.{Execute};
 ghost use Rattle.mm_session.specs.Columns.{AreColumnsOf};
 ghost use Rattle.mm_session.specs.Loading.{Loads, lines_tried};
 ghost use Rattle.mm_session.specs.Session.{AnswersLine, RunsAt, SessionState};
 ghost use Rattle.mm_session.specs.Statements.{AreColumnsFound, line_at, parameters_at};
+ghost use Rattle.mm_session.specs.declared.column_array.ColumnArray.{ColumnArray};
 ghost use Rattle.mm_session.specs.declared.loading.LoadError.{LoadError as Stop};
 
 use mm_lang::templates_read_as_lines;
@@ -34,6 +36,8 @@ pub fn calls_lead_to_states_of_commands()
         → (commands : List Command) × (new.state ≡ after_all commands first_state) }
     ensures refused_line { (line : List ℕ) (old new : SessionState) (refusal : Ref) → AnswersLine line old new
         → new.reply ≡ Some (Refused refusal) → new.state ≡ old.state }
+    ensures refused_append { (table : List ℕ) (columns : List ColumnArray) (old new : SessionState) (refusal : Ref)
+        → AppendsAt table columns old new → new.reply ≡ Some (Refused refusal) → new.state ≡ old.state }
     ensures refused_run { (number : ℕ) (values : List Val) (old new : SessionState) (refusal : Ref) → RunsAt number values old new
         → new.reply ≡ Some (Refused refusal) → new.state ≡ old.state }
 {
@@ -44,6 +48,13 @@ pub fn calls_lead_to_states_of_commands()
 pub fn loads_execute_lines()
     ensures { (script : List ℕ) (old new : SessionState) (result : Result ℕ Stop) → Loads script old new result
         → LeadTo (map Execute (lines_tried script result)) old new }
+{}
+
+/// Appending rows has the effect of a line that reads as the INSERT of these rows, in the same state: the same reply, the same new state and
+/// the same count. If the rows are refused, it has the effect of a line that is refused in the same way.
+pub fn appends_answer_as_their_lines()
+    ensures { (table line : List ℕ) (columns : List ColumnArray) (old new : SessionState) → reading line ≡ insert_of table columns
+        → AppendsAt table columns old new → AnswersLine line old new }
 {}
 
 /// After any calls, each row of the reply to a line, or to a run of a statement, has one value of the type of each column of the

@@ -1,6 +1,8 @@
 //! Sessions.
 ghost use Rattle.std.specs.Prelude.{◌≡◌, ◌≤◌, ◌⊎◌, [], Err, IfErr, IfOk, None, Ok, OnOk, Some, is_some, length, map};
 
+use crate::appending::append_rows;
+use crate::column_array::{ColumnArray, NotColumns};
 use crate::columns::columns_of_line;
 use crate::definition::{DefinitionKind, add_definition};
 use crate::dumping::add_dump;
@@ -64,6 +66,7 @@ impl Session {
     ghost use Rattle.mm_query.specs.State.{first_state};
     ghost use Rattle.mm_reply.specs.Sinks.{Delivers, IsAnswerTo};
     ghost use Rattle.mm_schema.specs.Refused.{AnswersDue};
+    ghost use Rattle.mm_session.specs.Appending.{Appends};
     ghost use Rattle.mm_session.specs.Columns.{AreColumnsOf};
     ghost use Rattle.mm_session.specs.Definitions.{definition_refusal, entry_named};
     ghost use Rattle.mm_session.specs.Loading.{Loads};
@@ -135,6 +138,22 @@ impl Session {
             rest = behind;
         }
         Ok(lines)
+    }
+
+    /// Inserts the rows of columns into the table with a name, all or none, and stores the reply, which is that of the INSERT of these rows.
+    /// A text of more than 64 bytes is refused with `TextTooLong`, and one with a line feed with `Syntax`. The number of bytes is not
+    /// limited. Fails with `NotColumns` if the arrays are not columns of rows; nothing changes then.
+    pub fn append(
+        &mut self,
+        alloc: Global,
+        table: &[u8],
+        columns: &[ColumnArray<'_>],
+    ) -> Result<(), NotColumns>
+        ensures { Appends table.now columns.now self.old self.new result }
+    {
+        append_rows(alloc, &mut self.database, table, columns, &mut self.last)?;
+        self.last.count_changes(&mut self.changes);
+        Ok(())
     }
 
     /// Prepares a line, as [`mm_lang::prepare`] reads it, and returns the statement's number: the least free one. Fails as

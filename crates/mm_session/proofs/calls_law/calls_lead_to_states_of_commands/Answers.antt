@@ -1,6 +1,6 @@
 use Rattle.std.proofs.Common.{◌∙◌}
 use Rattle.mm_session.specs.Calls.{first_session}
-use Rattle.mm_session.proofs.CallStates.{calls_left, refused_line_stays, refused_run_stays}
+use Rattle.mm_session.proofs.CallStates.{calls_left, refused_append_stays, refused_line_stays, refused_run_stays}
 use Rattle.mm_session.proofs.calls_law.calls_lead_to_states_of_commands.Goals as goal
 
 pub returns-clause-states : goal.returns-clause-states
@@ -14,6 +14,9 @@ returns-clause-reached c calls new leads =
 
 pub returns-clause-refused_line : goal.returns-clause-refused_line
 returns-clause-refused_line c = refused_line_stays
+
+pub returns-clause-refused_append : goal.returns-clause-refused_append
+returns-clause-refused_append c = refused_append_stays
 
 pub returns-clause-refused_run : goal.returns-clause-refused_run
 returns-clause-refused_run c = refused_run_stays
