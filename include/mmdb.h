@@ -96,9 +96,9 @@ typedef struct mmdb_column {
 
 /*
  * The status that a call returns. The numbers from 10 to 90 are the refusals of the language, "error 40 duplicate key" and so on. After
- * such a status nothing has changed, except that mmdb_execute, mmdb_load, mmdb_run, mmdb_query, mmdb_run_many and mmdb_explain keep the
- * refusal as the reply. All other calls leave the reply unchanged, whether they fail or not. mmdb_load and mmdb_run_many say what stays
- * done.
+ * such a status nothing has changed, except that mmdb_execute, mmdb_load, mmdb_append, mmdb_run, mmdb_query, mmdb_run_many and
+ * mmdb_explain keep the refusal as the reply. All other calls leave the reply unchanged, whether they fail or not. mmdb_load and
+ * mmdb_run_many say what stays done.
  */
 enum {
     MMDB_NOTHING = 0,                   /* the line was empty or a comment: there is no reply */
@@ -167,6 +167,32 @@ uint8_t mmdb_execute(mmdb *db, const uint8_t *line, size_t length);
  * *lines, if the handle is closed.
  */
 uint8_t mmdb_load(mmdb *db, const uint8_t *script, size_t length, size_t *lines);
+
+/*
+ * The values of a column: numbers, or texts. A column of numbers has no offsets, and a column of texts has no numbers. A column of texts
+ * has one offset more than texts: the text at i is the part of bytes from offsets[i] up to offsets[i + 1]. The first offset may be greater
+ * than 0. No offset is less than the one before it, or greater than byte_count. Each count is a number of elements. A pointer may be NULL
+ * if its count is 0.
+ */
+typedef struct mmdb_array {
+    const int64_t *numbers;
+    size_t number_count;
+    const uint32_t *offsets;
+    size_t offset_count;
+    const uint8_t *bytes;
+    size_t byte_count;
+} mmdb_array;
+
+/*
+ * Inserts rows into the table with a name, all of them or none, in one command. columns has an array for each column of the table, count
+ * arrays in all, and row i has the values at i. The reply is that of the INSERT of these rows, for which the limit of the length of a line
+ * does not hold. Allocates memory for a copy of the rows while it runs.
+ * Returns the status of the reply: MMDB_COUNT, or a refusal as that INSERT has it. The reply is MMDB_SYNTAX if the bytes of name are not a
+ * name. A text of more than 64 bytes is refused with MMDB_TEXT_TOO_LONG, and one with a line feed with MMDB_SYNTAX, before the table is
+ * looked up. Without a row, the status is MMDB_COUNT or MMDB_NO_SUCH_TABLE. Returns MMDB_MISUSE, and leaves the reply unchanged, if the
+ * arrays have different numbers of values, one of them is not as described above, or the handle is closed.
+ */
+uint8_t mmdb_append(mmdb *db, const uint8_t *name, size_t length, const mmdb_array *columns, size_t count);
 
 /*
  * Prepares a statement: a line in which a ? may replace a literal. Each run passes a value for each ?, from left to right. A line without

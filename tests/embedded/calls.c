@@ -56,6 +56,10 @@ static uint8_t release(mmdb *db, const char *name) { return mmdb_release(db, (co
 
 static uint8_t load(mmdb *db, const char *script, size_t *lines) { return mmdb_load(db, (const uint8_t *)script, strlen(script), lines); }
 
+static uint8_t append(mmdb *db, const char *name, const mmdb_array *columns, size_t count) {
+  return mmdb_append(db, (const uint8_t *)name, strlen(name), columns, count);
+}
+
 static uint8_t definition(mmdb *db, uint8_t kind, const char *name, uint8_t *line, size_t room, size_t *needed) {
   return mmdb_definition(db, kind, (const uint8_t *)name, strlen(name), line, room, needed);
 }
@@ -173,6 +177,7 @@ static void a_closed_handle(void) {
   MUST(mmdb_total_changes(&db) == 0);
   MUST(release(&db, "s") == MMDB_MISUSE);
   MUST(load(&db, "BEGIN", &written) == MMDB_MISUSE && written == 0);
+  MUST(append(&db, "t", NULL, 0) == MMDB_MISUSE);
   written = 77;
   MUST(definition(&db, MMDB_KIND_TABLE, "t", text, 3, &written) == MMDB_MISUSE && written == 77 && !memcmp(text, "abc", 4));
   mmdb_close(&db);
@@ -907,6 +912,9 @@ static void arrays_that_are_null(void) {
   MUST(mmdb_definition(&db, MMDB_KIND_TABLE, NULL, 0, NULL, 0, &count) == MMDB_SYNTAX);
   MUST(definition(&db, MMDB_KIND_TABLE, "t", NULL, 0, &count) == MMDB_DONE && count == strlen("TABLE t (id INT KEY, k INT, s TEXT)"));
   MUST(mmdb_load(&db, NULL, 0, &done) == MMDB_DONE && done == 0);
+  mmdb_array nothing[] = {{.numbers = NULL}, {.bytes = NULL}, {.offsets = NULL}};
+  MUST(append(&db, "t", NULL, 0) == MMDB_COUNT && append(&db, "t", nothing, 3) == MMDB_COUNT && last_reply_is(&db, "ok 0\n"));
+  MUST(mmdb_append(&db, NULL, 0, NULL, 0) == MMDB_SYNTAX && last_reply_is(&db, "error 11 syntax\n"));
   size_t insert = prepared(&db, "INSERT t (?, 1, 'x')");
   MUST(mmdb_run(&db, insert, NULL, 0) == MMDB_MISUSE && mmdb_explain(&db, insert, NULL, 0) == MMDB_MISUSE);
   mmdb_close(&db);
@@ -1504,6 +1512,154 @@ static void loads_between_calls(void) {
   mmdb_close(&whole), mmdb_close(&copy);
 }
 
+/* Rows that are passed as arrays. */
+
+static mmdb_array numbers_of(const int64_t *numbers, size_t count) { return (mmdb_array){.numbers = numbers, .number_count = count}; }
+
+static mmdb_array texts_of(const uint32_t *offsets, size_t texts, const char *text) {
+  return (mmdb_array){.offsets = offsets, .offset_count = texts + 1, .bytes = (const uint8_t *)text, .byte_count = strlen(text)};
+}
+
+static void appends(void) {
+  static const int64_t keys[] = {7, INT64_MIN, 3, INT64_MAX}, others[] = {1, -1, 0, 5};
+  static const uint32_t offsets[] = {2, 2, 3, 7, 71};
+  static const char text[] = "no1it's6789012345678901234567890123456789012345678901234567890123456789no";
+  mmdb db = opened_with_rows(), lines = opened_with_rows();
+  mmdb_array columns[] = {numbers_of(keys, 4), numbers_of(others, 4), texts_of(offsets, 4, text)};
+  MUST(append(&db, "t", columns, 3) == MMDB_COUNT && last_reply_is(&db, "ok 4\n") && mmdb_count(&db) == 4 && mmdb_total_changes(&db) == 6);
+  MUST(answers(&lines, "INSERT t (7, 1, ''), (-9223372036854775808, -1, '1'), (3, 0, 'it''s'), (9223372036854775807, 5, "
+                       "'6789012345678901234567890123456789012345678901234567890123456789')", MMDB_COUNT, "ok 4\n"));
+  MUST(have_one_reply(&db, &lines, "SCAN t") && mmdb_count(&db) == 6);
+  /* Any byte except a line feed. */
+  uint8_t bytes[255];
+  uint32_t ends[] = {0, 64, 128, 192, 255};
+  for (size_t i = 0, byte = 0; i < sizeof bytes; i++, byte++) bytes[i] = (uint8_t)(byte += byte == 10);
+  mmdb_array each = {.offsets = ends, .offset_count = 5, .bytes = bytes, .byte_count = sizeof bytes};
+  MUST(is_done(&db, "TABLE s (s TEXT KEY)") && append(&db, "s", &each, 1) == MMDB_COUNT && execute(&db, "SCAN s") == MMDB_ROWS);
+  mmdb_cell cells[4];
+  MUST(mmdb_read(&db, 0, cells, 4) == 4);
+  for (size_t i = 0; i < 4; i++) MUST(is_words(&cells[i], bytes + ends[i], ends[i + 1] - ends[i]));
+  /* Without a row: no array, or empty ones of any number. */
+  ends[0] = 255;
+  each.offset_count = 1, columns[0].number_count = 0;
+  MUST(append(&db, "s", &each, 1) == MMDB_COUNT && last_reply_is(&db, "ok 0\n") && append(&db, "s", NULL, 0) == MMDB_COUNT);
+  MUST(append(&db, "t", &each, 1) == MMDB_COUNT && append(&db, "t", columns, 1) == MMDB_COUNT && last_reply_is(&db, "ok 0\n"));
+  MUST(append(&db, "u", NULL, 0) == MMDB_NO_SUCH_TABLE && last_reply_is(&db, "error 20 no such table\n"));
+  mmdb_close(&db), mmdb_close(&lines);
+}
+
+/* All rows or none: a refused append has the refusal of the INSERT of its rows, and changes only the reply. */
+static void refused_appends(void) {
+  static const int64_t keys[] = {5, 6, 7}, taken[] = {5, 6, 1}, twice[] = {5, 6, 5};
+  static const uint32_t offsets[] = {0, 1, 2, 3}, long_offsets[] = {0, 1, 66, 67}, short_offsets[] = {0, 1, 65, 66};
+  static const char text[] = "abc", broken[] = "a\nc", longer[] = "a234567890123456789012345678901234567890123456789012345678901234567890";
+  static const char key[] = "INSERT t (5, 5, 'a'), (6, 6, 'b'), (1, 7, 'c')", key_twice[] = "INSERT t (5, 5, 'a'), (6, 6, 'b'), (5, 7, 'c')";
+  static const char types[] = "INSERT t ('a', 'b', 'c')", few[] = "INSERT t (5, 5), (6, 6), (7, 7)", many[] = "INSERT t (5, 5, 'a', 5), (6, 6, 'b', 6)";
+  const mmdb_array a = numbers_of(keys, 3), b = numbers_of(taken, 3), c = numbers_of(twice, 3), s = texts_of(offsets, 3, text);
+  const mmdb_array lf = texts_of(offsets, 3, broken), above = texts_of(long_offsets, 3, longer), full = texts_of(short_offsets, 3, longer);
+  const struct { const char *name; size_t count; mmdb_array columns[4]; uint8_t status; const char *line; } refused[] = {
+      {"u", 3, {a, a, s}, MMDB_NO_SUCH_TABLE, "INSERT u (5)"},  {"t", 3, {b, a, s}, MMDB_DUPLICATE_KEY, key},
+      {"t", 3, {c, a, s}, MMDB_DUPLICATE_KEY, key_twice},       {"t", 3, {s, a, s}, MMDB_TYPE_MISMATCH, types},
+      {"t", 3, {a, a, a}, MMDB_TYPE_MISMATCH, "INSERT t (1, 1, 1)"}, {"t", 2, {a, a}, MMDB_WRONG_NUMBER_OF_VALUES, few},
+      {"t", 4, {a, a, s, a}, MMDB_WRONG_NUMBER_OF_VALUES, many}, {"t", 2, {s, a}, MMDB_TYPE_MISMATCH, "INSERT t ('a', 5)"},
+      {"t", 3, {a, a, lf}, MMDB_SYNTAX, "INSERT t (5, 5, 'a\n')"}, {"u", 1, {lf}, MMDB_SYNTAX, "INSERT u ('\n')"},
+      {"t", 3, {a, a, above}, MMDB_TEXT_TOO_LONG, NULL},        {"u", 1, {above}, MMDB_TEXT_TOO_LONG, NULL},
+      {"t", 3, {a, lf, above}, MMDB_SYNTAX, NULL},              {"t", 3, {a, above, lf}, MMDB_TEXT_TOO_LONG, NULL},
+      {"", 3, {a, a, s}, MMDB_SYNTAX, "INSERT  (5)"},           {"T", 3, {a, a, above}, MMDB_SYNTAX, "INSERT T (5)"},
+      {"t (1)", 3, {a, a, s}, MMDB_SYNTAX, "INSERT t (1) (5)"}, {"r", 2, {a, a}, MMDB_NO_TARGET_ROW, "INSERT r (5, 5)"},
+      {"a234567890123456789012345678_0123", 3, {a, a, s}, MMDB_SYNTAX, "INSERT a234567890123456789012345678_0123 (5)"}};
+  mmdb db = opened_with_rows();
+  MUST(is_done(&db, "TABLE r (id INT KEY, t INT REF t)") && is_done(&db, "INDEX by_k ON t (k) TREE"));
+  for (size_t in_transaction = 0; in_transaction < 2; in_transaction++) {
+    if (in_transaction) MUST(is_done(&db, "BEGIN") && answers(&db, "UPDATE t SET k = 9 WHERE id = 2", MMDB_COUNT, "ok 1\n"));
+    struct picture before = picture_of(&db);
+    for (size_t i = 0; i < sizeof refused / sizeof *refused; i++) {
+      char reply[ROOM];
+      size_t length = 0;
+      if (refused[i].line != NULL) {
+        check(execute(&db, refused[i].line) == refused[i].status, refused[i].line, __LINE__);
+        length = text_of_reply(&db, (uint8_t *)reply, ROOM);
+      }
+      reply[length] = 0;
+      check(append(&db, refused[i].name, refused[i].columns, refused[i].count) == refused[i].status, refused[i].name, __LINE__);
+      check(length == 0 || last_reply_is(&db, reply), refused[i].name, __LINE__);
+      check(mmdb_count(&db) == 0 && is_as_before(&db, &before), refused[i].name, __LINE__);
+    }
+  }
+  /* A text of 64 bytes is none of them. */
+  const mmdb_array right[] = {a, a, full};
+  MUST(append(&db, "t", right, 3) == MMDB_COUNT && last_reply_is(&db, "ok 3\n") && is_done(&db, "ROLLBACK"));
+  mmdb_close(&db);
+}
+
+/* Arrays that are no columns of rows: nothing changes, not even the reply. */
+static void misused_appends(void) {
+  static const int64_t keys[] = {5, 6, 7};
+  static const uint32_t offsets[] = {0, 1, 2, 3}, falling[] = {0, 2, 1, 3}, behind[] = {0, 1, 2, 4}, far[] = {0, 1, UINT32_MAX, 3};
+  const mmdb_array a = numbers_of(keys, 3), s = texts_of(offsets, 3, "abc"), fewer = numbers_of(keys, 2), less = texts_of(offsets, 2, "abc");
+  mmdb_array both = s, empty = s;
+  both.numbers = keys, both.number_count = 3, empty.byte_count = 0, empty.bytes = NULL;
+  const mmdb_array misused[][3] = {
+      {a, a, fewer}, {fewer, a, s}, {a, a, less}, {less, a, s}, {a, a, both}, {both, a, s}, {a, a, empty}, {a, a, {.numbers = NULL}},
+      {a, a, texts_of(falling, 3, "abc")}, {a, a, texts_of(behind, 3, "abc")}, {a, a, texts_of(far, 3, "abc")}, {texts_of(behind, 3, "abc"), a, s},
+      {a, texts_of(offsets + 1, 2, "abc"), s}};
+  mmdb db = opened_with_rows(), closed = MMDB_CLOSED;
+  struct picture before = picture_of(&db);
+  for (size_t i = 0; i < sizeof misused / sizeof *misused; i++) {
+    MUST(append(&db, "t", misused[i], 3) == MMDB_MISUSE && stays(&db, &before));
+    MUST(append(&db, "u", misused[i], 3) == MMDB_MISUSE && append(&db, "", misused[i], 3) == MMDB_MISUSE && stays(&db, &before));
+    MUST(append(&closed, "t", misused[i], 3) == MMDB_MISUSE && !closed.is_open);
+  }
+  const mmdb_array one[] = {a, a, s};
+  MUST(append(&closed, "t", one, 3) == MMDB_MISUSE && append(&db, "t", one, 3) == MMDB_COUNT);
+  mmdb_close(&db);
+}
+
+/* Appends between other calls: statements, standing queries, transactions, savepoints and dumps. */
+static void appends_between_calls(void) {
+  static const int64_t keys[] = {3, 4, 5, 6}, others[] = {5, 5, 6, -7};
+  static const uint32_t offsets[] = {0, 1, 2, 3, 4};
+  static uint8_t piece[MMDB_DUMP_ROOM];
+  mmdb db = opened_with_rows();
+  mmdb_array columns[] = {numbers_of(keys, 4), numbers_of(others, 4), texts_of(offsets, 4, "wxyz")};
+  MUST(is_done(&db, "INDEX by_k ON t (k) HASH") && is_done(&db, "WATCH w SELECT a.id, a.s FROM t a WHERE a.k = 5"));
+  size_t find = prepared(&db, "SELECT a.s FROM t a WHERE a.k = ?"), length = 0;
+  mmdb_cell value = number(5);
+  struct picture before = picture_of(&db);
+  mmdb_dump_place place = MMDB_DUMP_START;
+  MUST(mmdb_dump(&db, &place, piece, sizeof piece, &length) == MMDB_DONE);
+  MUST(is_done(&db, "BEGIN") && is_done(&db, "SAVEPOINT s") && append(&db, "t", columns, 3) == MMDB_COUNT && mmdb_in_transaction(&db));
+  MUST(runs(&db, find, &value, 1, MMDB_ROWS, "('a')\n('w')\n('x')\nrows 3\n"));
+  MUST(answers(&db, "SHOW w", MMDB_ROWS, "(1, 'a')\n(3, 'w')\n(4, 'x')\nrows 3\n"));
+  MUST(append(&db, "t", columns, 3) == MMDB_DUPLICATE_KEY && runs(&db, find, &value, 1, MMDB_ROWS, "('a')\n('w')\n('x')\nrows 3\n"));
+  MUST(is_done(&db, "ROLLBACK TO s") && runs(&db, find, &value, 1, MMDB_ROWS, "('a')\nrows 1\n") && is_done(&db, "ROLLBACK"));
+  MUST(is_as_before(&db, &before) && answers(&db, "SHOW w", MMDB_ROWS, "(1, 'a')\nrows 1\n"));
+  place = (mmdb_dump_place)MMDB_DUMP_START;
+  MUST(mmdb_dump(&db, &place, piece, sizeof piece, &length) == MMDB_DONE && append(&db, "u", columns, 3) == MMDB_NO_SUCH_TABLE);
+  MUST(mmdb_dump(&db, &place, piece, sizeof piece, &length) == MMDB_DONE && append(&db, "t", columns, 3) == MMDB_COUNT);
+  MUST(mmdb_dump(&db, &place, piece, sizeof piece, &length) == MMDB_MISUSE);
+  MUST(mmdb_run(&db, find, &value, 1) == MMDB_ROWS && mmdb_count(&db) == 3 && mmdb_total_changes(&db) == 10);
+  mmdb_close(&db);
+}
+
+/* As many rows in one call as a table may have, and one more. */
+static void an_append_of_a_full_table(void) {
+  static int64_t keys[MOST_ROWS + 1];
+  mmdb db = opened();
+  size_t most = calls < MOST_ROWS ? 1 << 12 : MOST_ROWS;
+  for (size_t i = 0; i <= most; i++) keys[i] = (int64_t)(most - i);
+  mmdb_array column = numbers_of(keys, most + 1);
+  MUST(is_done(&db, "TABLE t (id INT KEY)"));
+  if (most == MOST_ROWS) MUST(append(&db, "t", &column, 1) == MMDB_TABLE_FULL && answers(&db, "SCAN t", MMDB_ROWS, "rows 0\n"));
+  column.number_count = most;
+  MUST(append(&db, "t", &column, 1) == MMDB_COUNT && mmdb_count(&db) == most);
+  if (most == MOST_ROWS) MUST(answers(&db, "INSERT t (0)", MMDB_TABLE_FULL, "error 45 table full\n"));
+  mmdb_cell last[2];
+  MUST(execute(&db, "SCAN t") == MMDB_ROWS && mmdb_count(&db) == most && mmdb_read(&db, most - 2, last, 2) == 2);
+  MUST(is_number(&last[0], (int64_t)most - 1) && is_number(&last[1], (int64_t)most));
+  mmdb_close(&db);
+}
+
 /* mmdb_query: a run and a read in one call. */
 static void queries(void) {
   mmdb db = opened_with_rows();
@@ -1623,6 +1779,7 @@ static const struct { const char *name; void (*run)(void); } tests[] = {
   TEST(dumps), TEST(dumps_in_a_transaction), TEST(interrupted_dumps), TEST(misused_dumps),
   TEST(definitions), TEST(refused_definitions), TEST(definitions_between_calls),
   TEST(loads), TEST(refused_loads), TEST(loads_of_long_lines), TEST(loads_between_calls),
+  TEST(appends), TEST(refused_appends), TEST(misused_appends), TEST(appends_between_calls), TEST(an_append_of_a_full_table),
   TEST(queries), TEST(runs_of_many), TEST(runs_of_many_with_a_misuse),
   TEST(a_full_table), TEST(many_calls),
 };

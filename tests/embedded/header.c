@@ -28,6 +28,14 @@ ASSERT(offsetof(mmdb_column, len) == 1);
 ASSERT(offsetof(mmdb_column, name) == 2);
 ASSERT(MMDB_NAME_BYTES == 32);
 
+ASSERT(sizeof(mmdb_array) == 48);
+ASSERT(offsetof(mmdb_array, numbers) == 0);
+ASSERT(offsetof(mmdb_array, number_count) == 8);
+ASSERT(offsetof(mmdb_array, offsets) == 16);
+ASSERT(offsetof(mmdb_array, offset_count) == 24);
+ASSERT(offsetof(mmdb_array, bytes) == 32);
+ASSERT(offsetof(mmdb_array, byte_count) == 40);
+
 ASSERT(sizeof(mmdb_dump_place) == 24);
 ASSERT(offsetof(mmdb_dump_place, part) == 0);
 ASSERT(offsetof(mmdb_dump_place, row) == 8);

@@ -1,11 +1,13 @@
 -- Calls of C as calls on a session.
 use Rattle.std.proofs.Common.{ℕ, zero, suc, List, [], ◌∷◌, ◌++◌, Ok, Err, drop, inl, inr, map, refl, subst, take}
 use Rattle.mm_session.specs.Calls.{LeadTo, SessionCall}
-use Rattle.mm_session.specs.Calls.SessionCall.{Execute, Explain, Finalize, Prepare, Release, Run}
+use Rattle.mm_session.specs.Calls.SessionCall.{Append, Execute, Explain, Finalize, Prepare, Release, Run}
 use Rattle.mm_session.specs.Loading.{lines_tried}
 use Rattle.mm_session.specs.Session.{SessionState}
+use Rattle.mm_session.specs.declared.column_array.ColumnArray.{ColumnArray}
 use Rattle.mm_session.specs.declared.misuse.Misuse.TheVariants.{NoSuchStatement}
 use Rattle.mm_session.proofs.LoadedScripts.{load_leads}
+use Rattle.mmdb_c.specs.Appending.{AppendsColumns}
 use Rattle.mmdb_c.specs.Calls.{Executes, ExplainsCells, Prepares, ReleasesName, RunsCells, RunsMany, RunsRows, TakesStatement}
 use Rattle.mmdb_c.specs.Loading.{LoadsScript}
 use Rattle.mmdb_c.specs.declared.cell.Cell.{Cell}
@@ -21,6 +23,10 @@ joined (call ∷ calls) later old between new h leads = (h.0, h.1, joined calls 
 
 pub execute_leads : (line : List ℕ) (status : ℕ) (old new : SessionState) → Executes line status old new → LeadTo (Execute line ∷ []) old new
 execute_leads line status old new h = (new, h.answers, refl)
+
+pub append_leads : (table : List ℕ) (columns : List ColumnArray) (status : ℕ) (old new : SessionState) → AppendsColumns table columns status old new
+    → LeadTo (Append table columns ∷ []) old new
+append_leads table columns status old new h = (new, (h.result, h.appends), refl)
 
 pub load_script_leads : (script : List ℕ) (lines status : ℕ) (old new : SessionState) → LoadsScript script lines status old new → Reaches old new
 load_script_leads script lines status old new h = (map Execute (lines_tried script h.result), load_leads script old new h.result h.loads)

@@ -1,3 +1,4 @@
+pub mod Appending
 pub mod Calls
 pub mod Cells
 pub mod Columns

@@ -2,8 +2,10 @@
 ghost use Rattle.std.specs.Prelude.{◌≡◌, ◌≤◌, ◌<◌, ◌⊎◌, ℕ, List, [], ◌∷◌, drop, length, take};
 ghost use Rattle.mm_value.specs.declared.values.Value.{Value};
 ghost use Rattle.mm_session.specs.Calls.{LeadTo, SessionCall};
-ghost use Rattle.mm_session.specs.Calls.SessionCall.{Execute, Finalize, Prepare, Release};
+ghost use Rattle.mm_session.specs.Calls.SessionCall.{Append, Execute, Finalize, Prepare, Release};
 ghost use Rattle.mm_session.specs.Session.{SessionState};
+ghost use Rattle.mm_session.specs.declared.column_array.ColumnArray.{ColumnArray};
+ghost use Rattle.mmdb_c.specs.Appending.{AppendsColumns};
 ghost use Rattle.mmdb_c.specs.Calls.{Executes, ExplainsCells, Prepares, ReleasesName, RunsCells, RunsRows, TakesStatement};
 ghost use Rattle.mmdb_c.specs.Cells.{StandFor};
 ghost use Rattle.mmdb_c.specs.Loading.{LoadsScript};
@@ -46,6 +48,8 @@ pub fn calls_of_c_are_calls_on_a_session()
     ensures execute { (line : List ℕ) (status : ℕ) (old new : SessionState) → Executes line status old new → LeadTo (Execute line ∷ []) old new }
     ensures load { (script : List ℕ) (lines status : ℕ) (old new : SessionState) → LoadsScript script lines status old new
         → (calls : List SessionCall) × LeadTo calls old new }
+    ensures append { (table : List ℕ) (columns : List ColumnArray) (status : ℕ) (old new : SessionState)
+        → AppendsColumns table columns status old new → LeadTo (Append table columns ∷ []) old new }
     ensures prepare { (line : List ℕ) (number_old number_new status : ℕ) (old new : SessionState)
         → Prepares line number_old number_new status old new → LeadTo (Prepare line ∷ []) old new }
     ensures run { (number : ℕ) (cells : List Cell) (status : ℕ) (old new : SessionState) → RunsCells number cells status old new

@@ -1,5 +1,6 @@
 //! The target of an open handle: a session with reusable buffers.
 ghost use Rattle.std.specs.Prelude.{◌≡◌, IfErr, List, OnOk, Some, false, true, ℕ};
+ghost use Rattle.mmdb_c.specs.Appending.{AppendsColumns};
 ghost use Rattle.mmdb_c.specs.Calls.{Counts, Executes, ExplainsCells, FindsPlace, HasPlanAt, InTransaction, Prepares, Queries, Reads};
 ghost use Rattle.mmdb_c.specs.Calls.{RefusesCells, ReleasesName, RunsCells, RunsRows, TakesStatement, TellsChanges, TellsColumns};
 ghost use Rattle.mmdb_c.specs.Calls.{TellsKind, TellsParameters, TellsStatementColumns, TellsText};
@@ -18,7 +19,7 @@ use crate::dumping::{DUMP_ROOM, DumpCell};
 use crate::kind::{definition_kind, kind_number};
 use crate::replies::{count_of, read_rows, write_text};
 use crate::status::{COUNT, DONE, FIRST_REFUSAL, MISUSE, ROWS, refusal_of, status_of};
-use mm_session::{ColumnsError, Session};
+use mm_session::{ColumnArray, ColumnsError, Session};
 use mm_value::{Refusal, Value, Watched};
 use std::alloc::Global;
 use std::marker::Model;
@@ -81,6 +82,20 @@ impl Library {
                 count_load(error.lines, &mut self.version);
                 error.refusal.number()
             }
+        }
+    }
+
+    /// Inserts the rows of columns into the table with a name, and returns the status of the reply.
+    pub(crate) fn append(&mut self, alloc: Global, table: &[u8], columns: &[ColumnArray<'_>]) -> u8
+        ensures { AppendsColumns table.now columns.now result self.old self.new }
+    {
+        match self.session.append(alloc, table, columns) {
+            Ok(()) => {
+                let status = status_of(&self.session.reply());
+                count_version(status, &mut self.version);
+                status
+            }
+            Err(_) => MISUSE,
         }
     }
 

@@ -1,6 +1,7 @@
-//! The exported calls about lines, scripts and transactions.
+//! The exported calls about lines, scripts, columns to append and transactions.
 ghost use Rattle.std.specs.Prelude.{◌≡◌, false};
 ghost use Rattle.mmdb_c.specs.Lent.{held};
+ghost use Rattle.mmdb_c.specs.Appending.{AppendsColumns};
 ghost use Rattle.mmdb_c.specs.Calls.{Executes, FindsPlace, InTransaction, OnOpen, ReleasesName, TellsColumns};
 ghost use Rattle.mmdb_c.specs.Loading.{LoadsScript};
 ghost use Rattle.mmdb_c.specs.Statuses.{misuse};
@@ -8,6 +9,7 @@ ghost use Rattle.mmdb_c.specs.Statuses.{misuse};
 use crate::column::ColumnCell;
 use crate::handle::Handle;
 use crate::status::MISUSE;
+use mm_session::ColumnArray;
 use std::alloc::Global;
 
 /// Executes a line, stores the reply, and returns its status. Returns `MISUSE` if the handle is closed.
@@ -32,6 +34,23 @@ pub extern "C" fn mmdb_load(alloc: Global, db: &mut Handle, script: &[u8], lines
         return MISUSE;
     }
     db.as_mut().load(alloc, script, lines)
+}
+
+/// Inserts the rows of columns into the table with a name, all or none, and stores the reply, which is that of the INSERT of these rows.
+/// Returns the status of the reply. Returns `MISUSE` if the arrays are not columns of rows or the handle is closed; nothing changes then.
+#[unsafe(no_mangle)]
+pub extern "C" fn mmdb_append(
+    alloc: Global,
+    db: &mut Handle,
+    table: &[u8],
+    columns: &[ColumnArray<'_>],
+) -> u8
+    ensures { OnOpen (AppendsColumns table.now columns.now result) (result ≡ misuse) (held db.old) (held db.new) }
+{
+    if !db.is_open() {
+        return MISUSE;
+    }
+    db.as_mut().append(alloc, table, columns)
 }
 
 /// Writes as many columns of the rows that a line returns as fit, and the number of all of them: 0 if it returns no rows. The line may

@@ -1,4 +1,4 @@
-use Rattle.mmdb_c.proofs.CallSequences.{execute_leads, explain_leads, finalize_leads, load_script_leads, prepare_leads, release_leads}
+use Rattle.mmdb_c.proofs.CallSequences.{append_leads, execute_leads, explain_leads, finalize_leads, load_script_leads, prepare_leads, release_leads}
 use Rattle.mmdb_c.proofs.CallSequences.{run_leads, run_many_leads}
 use Rattle.mmdb_c.proofs.calls_laws.calls_of_c_are_calls_on_a_session.Goals as goal
 
@@ -7,6 +7,9 @@ returns-clause-execute c = execute_leads
 
 pub returns-clause-load : goal.returns-clause-load
 returns-clause-load c = load_script_leads
+
+pub returns-clause-append : goal.returns-clause-append
+returns-clause-append c = append_leads
 
 pub returns-clause-prepare : goal.returns-clause-prepare
 returns-clause-prepare c = prepare_leads
