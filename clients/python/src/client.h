@@ -331,6 +331,9 @@ PyObject *connection_rollback(PyObject *self, PyObject *unused);
 /* Executes the lines of a script in one call of the library. Returns None, or NULL with an exception. */
 PyObject *connection_load(PyObject *self, PyObject *script);
 
+/* Inserts the rows of columns in one call of the library. Returns the number of rows, or NULL with an exception. */
+PyObject *connection_append(PyObject *self, PyObject *const *arguments, Py_ssize_t count, PyObject *keywords);
+
 extern PyType_Spec connection_spec;
 
 /* The calls for the shell: lines as bytes, statuses, and replies as text. */
@@ -418,6 +421,32 @@ typedef bool (*RowRunner)(Cursor *cursor, Statement *statement, PyObject *rows, 
 
 /* Runs a line, which must be a change, for the rows of an object. */
 bool cursor_run_rows(Cursor *self, PyObject *line, PyObject *rows, RowRunner run);
+
+typedef enum SourceKind { NUMBERS, VALUES, TEXTS } SourceKind;
+
+/* Where the values of one column come from. */
+typedef struct Source {
+    SourceKind kind;
+    PyObject *list;             /* VALUES */
+    Py_buffer numbers;          /* NUMBERS, or the offsets of TEXTS */
+    Py_buffer bytes;            /* TEXTS */
+    size_t rows;
+} Source;
+
+typedef struct Sources {
+    size_t count;               /* of the sources that were opened */
+    size_t rows;                /* of each source; 0 if there is none */
+    Source sources[];
+} Sources;
+
+/* Opens the columns of a tuple, each with as many values. Returns NULL with an exception. */
+Sources *sources_open(PyObject *columns);
+
+/* Closes sources, unless they are NULL. */
+void sources_close(Sources *sources);
+
+/* Returns an offset of a column of texts. A buffer may begin at any byte. */
+int64_t source_offset(const Source *source, size_t place);
 
 /* Takes note of a statement that succeeded with MMDB_DONE: what it defined, or what it did to the savepoints. */
 void note_done(Connection *connection, const Statement *statement);

@@ -1,22 +1,6 @@
 /* Columns as the values of a change that runs once for each of their rows. */
 #include "client.h"
 
-typedef enum SourceKind { NUMBERS, VALUES, TEXTS } SourceKind;
-
-/* Where the values of one column come from. */
-typedef struct Source {
-    SourceKind kind;
-    PyObject *list;             /* VALUES */
-    Py_buffer numbers;          /* NUMBERS, or the offsets of TEXTS */
-    Py_buffer bytes;            /* TEXTS */
-    size_t rows;
-} Source;
-
-typedef struct Sources {
-    size_t count;               /* of the sources that were opened */
-    Source sources[];
-} Sources;
-
 static void source_close(Source *source) {
     if (source->numbers.obj != NULL) PyBuffer_Release(&source->numbers);
     if (source->bytes.obj != NULL) PyBuffer_Release(&source->bytes);
@@ -34,8 +18,7 @@ static bool buffer_open(PyObject *object, Py_buffer *view, Py_ssize_t item_size,
     return false;
 }
 
-/* Returns an offset of a column of texts. A buffer may begin at any byte. */
-static int64_t offset_at(const Source *source, size_t place) {
+int64_t source_offset(const Source *source, size_t place) {
     int32_t offset;
     memcpy(&offset, (const char *)source->numbers.buf + place * sizeof offset, sizeof offset);
     return offset;
@@ -43,8 +26,8 @@ static int64_t offset_at(const Source *source, size_t place) {
 
 /* Returns whether each text is inside the bytes. If not, raises ValueError. */
 static bool check_offsets(const Source *source) {
-    bool is_ordered = offset_at(source, 0) >= 0 && offset_at(source, source->rows) <= source->bytes.len;
-    for (size_t i = 0; is_ordered && i < source->rows; i++) is_ordered = offset_at(source, i) <= offset_at(source, i + 1);
+    bool is_ordered = source_offset(source, 0) >= 0 && source_offset(source, source->rows) <= source->bytes.len;
+    for (size_t i = 0; is_ordered && i < source->rows; i++) is_ordered = source_offset(source, i) <= source_offset(source, i + 1);
     if (!is_ordered) PyErr_SetString(PyExc_ValueError, "the offsets of a column are not those of texts in its bytes");
     return is_ordered;
 }
@@ -80,30 +63,31 @@ static bool source_open(Source *source, PyObject *column) {
     return true;
 }
 
-static void sources_close(Sources *sources) {
+void sources_close(Sources *sources) {
+    if (sources == NULL) return;
     for (size_t i = 0; i < sources->count; i++) source_close(&sources->sources[i]);
     free(sources);
 }
 
-static bool sources_open(const State *state, Sources *sources, PyObject *columns, size_t width) {
-    if ((size_t)PyTuple_Size(columns) != width || width == 0) {
-        raise_wrong_number(state, width, (size_t)PyTuple_Size(columns));
-        return false;
-    }
+Sources *sources_open(PyObject *columns) {
+    size_t width = (size_t)PyTuple_Size(columns);
+    Sources *sources = calloc(1, sizeof *sources + width * sizeof *sources->sources);
+    if (sources == NULL) return (Sources *)PyErr_NoMemory();
     for (size_t i = 0; i < width; i++) {
         Source *source = &sources->sources[sources->count++];
-        if (!source_open(source, PyTuple_GetItem(columns, (Py_ssize_t)i))) return false;
-        if (source->rows != sources->sources[0].rows) {
-            PyErr_SetString(PyExc_ValueError, "the columns have different numbers of values");
-            return false;
-        }
+        bool is_open = source_open(source, PyTuple_GetItem(columns, (Py_ssize_t)i));
+        sources->rows = sources->sources[0].rows;
+        if (is_open && source->rows == sources->rows) continue;
+        if (is_open) PyErr_SetString(PyExc_ValueError, "the columns have different numbers of values");
+        sources_close(sources);
+        return NULL;
     }
-    return true;
+    return sources;
 }
 
 /* Writes a text into a cell. The program may write into its buffers at any time, so the offsets are checked where they are used. */
 static Conversion cell_from_text(const State *state, const Source *source, size_t row, mmdb_cell *cell) {
-    int64_t begin = offset_at(source, row), end = offset_at(source, row + 1);
+    int64_t begin = source_offset(source, row), end = source_offset(source, row + 1);
     if (begin < 0 || begin > end || end > source->bytes.len) {
         PyErr_SetString(PyExc_ValueError, "the offsets of a column have changed");
         return RAISED;
@@ -144,7 +128,7 @@ static Conversion copy_rows(const State *state, const Sources *sources, size_t f
 
 static bool run_sources(Cursor *cursor, Statement *statement, const Sources *sources, mmdb_cell *cells, Reply *reply) {
     const State *state = cursor->connection->state;
-    size_t all = sources->sources[0].rows, runs = 0;
+    size_t all = sources->rows, runs = 0;
     for (size_t first = 0, rows; first < all; first += rows) {
         if (PyErr_CheckSignals() < 0) return false;
         rows = MANY_CELLS / sources->count;
@@ -165,17 +149,17 @@ static bool run_columns(Cursor *cursor, Statement *statement, PyObject *columns,
         return false;
     }
     PyObject *tuple = PySequence_Tuple(columns);
-    Sources *sources = tuple == NULL ? NULL : calloc(1, sizeof *sources + width * sizeof *sources->sources);
+    if (tuple == NULL) return false;
+    size_t given = (size_t)PyTuple_Size(tuple);
+    bool fits = given == width && width > 0;
+    if (!fits) raise_wrong_number(cursor->connection->state, width, given);
+    Sources *sources = fits ? sources_open(tuple) : NULL;
     mmdb_cell *cells = sources == NULL ? NULL : malloc(MANY_CELLS * sizeof *cells);
-    bool is_done = false;
-    if (cells != NULL) {
-        is_done = sources_open(cursor->connection->state, sources, tuple, width) && run_sources(cursor, statement, sources, cells, reply);
-    } else if (tuple != NULL) {
-        PyErr_NoMemory();
-    }
+    bool is_done = cells != NULL && run_sources(cursor, statement, sources, cells, reply);
+    if (sources != NULL && cells == NULL) PyErr_NoMemory();
     free(cells);
-    if (sources != NULL) sources_close(sources);
-    Py_XDECREF(tuple);
+    sources_close(sources);
+    Py_DECREF(tuple);
     return is_done;
 }
 

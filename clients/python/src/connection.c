@@ -413,7 +413,8 @@ static PyMethodDef connection_methods[] = {
     {"set_trace_callback", connection_set_trace_callback, METH_O,
      "set_trace_callback($self, callback, /)\n--\n\n"
      "Calls a function with each line before it runs: those of execute and of executescript, and once those of executemany and\n"
-     "executecolumns, and the script of load. If the function raises an exception, the line does not run. None removes the function."},
+     "executecolumns, the script of load, and INSERT with the table of append. If the function raises an exception, the line does not\n"
+     "run. None removes the function."},
     {"iterdump", connection_iterdump, METH_NOARGS,
      "iterdump($self, /)\n--\n\n"
      "Returns an iterator over the lines of a script that rebuilds the database: tables, rows, indexes and standing queries.\n\n"
@@ -423,6 +424,10 @@ static PyMethodDef connection_methods[] = {
      "Executes the lines of a script in one call of the library. Each line is a command of its own, as in\n"
      "the script that the lines of iterdump are.\n\n"
      "Stops at the first line that is refused: the attribute line of the exception is its number, and the lines before it stay done."},
+    {"append", FAST_CALL(connection_append), METH_FASTCALL | METH_KEYWORDS,
+     "append($self, /, table, columns)\n--\n\n"
+     "Inserts rows into a table, all of them or none, and returns their number. There is a column for each column of the table,\n"
+     "from left to right, as executecolumns takes them. All values of a list have one type. The columns are copied first."},
     {"definition", FAST_CALL(connection_definition), METH_FASTCALL | METH_KEYWORDS,
      "definition($self, /, name, kind='table')\n--\n\n"
      "Returns the line that defines a table, an index or a standing query, as the lines of iterdump have it. The kind is 'table',\n"

@@ -216,6 +216,31 @@ class GivenColumns(GivenRows):
         return list(zip(*found))
 
 
+class GivenArrays:
+    """The columns of an append, as they are given and as the model takes them."""
+
+    def __init__(self, runner: Runner, columns: tuple):
+        self.columns = [GivenValues(runner, Values("tuple", column)) for column in columns]
+        # How many rows were inserted.
+        self.changed = 0
+
+    def given(self) -> Any:
+        return tuple(GivenColumns.column(list(column.items)) for column in self.columns)
+
+    def rows(self) -> list[tuple[int | bytes, ...]]:
+        """The rows, or Expected. The columns are taken one after the other, and all values of a list have one type."""
+        return list(zip(*(self.cells(column) for column in self.columns)))
+
+    @staticmethod
+    def cells(column: GivenValues) -> list[int | bytes]:
+        cells: list[int | bytes] = []
+        for item in column.items:
+            cells.append(column.cell(item))
+            if isinstance(cells[0], bytes) != isinstance(cells[-1], bytes):
+                raise refused(30)
+        return cells
+
+
 class NoValues:
     """No values."""
 

@@ -188,6 +188,30 @@ class Connection:
                 self.database.do_rollback()
             raise error if isinstance(error, Expected) else refused(error.number) from None
 
+    def appends(self, thread: int, table: str, columns: Any) -> Call:
+        """append(). `columns` has rows(), what the columns are or Expected. The number of rows becomes its `changed`."""
+        self.check(thread)
+        yield
+        rows = columns.rows()
+        self.expect_trace(self.trace)
+        self.check(thread)
+        if any(isinstance(value, bytes) and b"\n" in value for row in rows for value in row):
+            raise Expected(mmdb.DataError)
+        if not rows and table.encode() not in self.database.tables:
+            raise refused(20)
+        begins = not self.autocommit and not self.in_transaction
+        if begins:
+            self.database.do_begin()
+        if not rows:
+            return
+        tuples = (b"(" + b", ".join(map(language.shown, row)) + b")" for row in rows)
+        try:
+            columns.changed = int(self.answered(b"INSERT", b"INSERT %s %s" % (table.encode(), b", ".join(tuples)))[3:])
+        except Expected:
+            if begins:
+                self.database.do_rollback()
+            raise
+
     def enters(self, thread: int) -> Call:
         """__enter__(), and each other call that only asks whether the connection may be used."""
         self.check(thread)

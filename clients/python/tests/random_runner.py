@@ -11,7 +11,7 @@ from typing import Any
 
 import mmdb
 from mmdb._library import LEAST_REFUSAL, Database, decoded
-from random_given import NO_VALUES, Called, Frame, Garbage, GivenColumns, GivenRows, GivenValues, Made, OwnText, OwnTexts, Trace
+from random_given import NO_VALUES, Called, Frame, Garbage, GivenArrays, GivenColumns, GivenRows, GivenValues, Made, OwnText, OwnTexts, Trace
 from random_given import shown_or_text
 from random_model import Call, Connection, Cursor, Expected, Savepoint, Script, refused
 from random_steps import CONNECTIONS, CURSORS, ERRORS, QUIET, THREADS, Draw, Factory, Rows, Steps, Target, Values
@@ -346,6 +346,17 @@ class Runner:
 
     def executes_many(self, line: str, rows: GivenRows) -> Callable[[Cursor], Call]:
         return lambda cursor: cursor.executes_many(self.thread, line, rows)
+
+    def do_append(self, slot: int, table: str, columns: tuple) -> None:
+        if (pair := self.connections[slot]) is None:
+            return
+        real, model = pair
+        arrays = GivenArrays(self, columns)
+        given = arrays.given()
+        what = f"append({table!r}, {columns!r:.300})"
+        done, result = self.attempt(what, lambda: real.append(table, given), model.appends(self.thread, table, arrays))
+        if done and result != arrays.changed:
+            self.fail(f"{what} returned {result!r}, not {arrays.changed}")
 
     def do_script(self, target: Target, commands: tuple, end: str) -> None:
         text = end.join(commands)

@@ -262,6 +262,14 @@ class Draw:
         rows = tuple(Values("tuple", tuple(self.value(kind, depth) for kind in kinds)) for _ in range(self.rng.randrange(1, 6)))
         return ("executecolumns", self.target(), text, Rows("list", rows))
 
+    def append(self, depth: int) -> tuple:
+        """Rows of a table as columns."""
+        forms = (("t", "kns"), ("t", "kns"), ("u", "kks"), ("v", "sk"), ("bulk", "ks"), ("t", "kn"), ("nothing", "k"), ("z", "ks"))
+        table, kinds = self.rng.choice(forms)
+        rows = self.rng.choice((0, 1, 1, 2, 3, 5))
+        columns = tuple(tuple(self.value(kind, depth) for _ in range(rows)) for kind in kinds)
+        return ("append", self.slot(), table, columns)
+
     def fetch(self, depth: int) -> tuple:
         how = self.rng.choice(("one", "one", "many", "all", "next", "list", "columns"))
         return ("fetch", self.cursor_slot(), how, self.rng.choice((0, 1, 2, 3, 5, -1)))
@@ -367,6 +375,7 @@ STEPS = {
     "execute": 35, "executemany": 8, "fetch": 10, "asked": 10, "cursor": 5, "end": 7, "script": 2, "load": 2, "close_cursor": 1, "drop_cursor": 1.5,
     "autocommit": 0.7, "block": 2, "savepoint": 4, "savepoints": 0.1, "lines": 1, "reconnect": 0.4, "in_thread": 2, "end_thread": 0.3,
     "garbage": 3, "collect": 1, "tables": 3, "many": 0.05, "trace": 0.7, "redefined": 0.5, "executecolumns": 2,
+    "append": 2,
 }  # fmt: skip
 
 

@@ -8,6 +8,7 @@ interpreter keeps some memory of its own, and a leak of the package would be the
 import array
 import ctypes
 import gc
+import itertools
 import sys
 from collections.abc import Callable
 from typing import Any
@@ -25,6 +26,8 @@ MANY_VALUES = tuple(range(2000, 2040))
 INSERT_MANY_VALUES = "INSERT u " + ", ".join("(?)" for _ in MANY_VALUES)
 KEYS = array.array("q", [key for key, _ in NEW_ROWS])
 TEXTS = [text for _, text in NEW_ROWS]
+OFFSETS = array.array("i", itertools.accumulate(map(len, TEXTS), initial=0))
+BYTES = "".join(TEXTS).encode()
 UNIQUE = "\udcffx"
 SCRIPT = "INSERT t\n  (7000, 'x')"
 State = tuple[bool, list[Any], list[Any], list[Any]]
@@ -104,6 +107,10 @@ CASES = {
     "a delete": Case(lambda c: c.execute("DELETE t WHERE id > ?", (30,))),
     "executemany": Case(lambda c: c.executemany(INSERT, NEW_ROWS)),
     "executecolumns": Case(lambda c: c.executecolumns(INSERT, (KEYS, TEXTS))),
+    "append": Case(lambda c: c.append("t", (KEYS, TEXTS))),
+    "append of a buffer of texts": Case(lambda c: c.append("t", (KEYS, (OFFSETS, BYTES)))),
+    "append in a transaction": Case(lambda c: c.append("u", [KEYS]), lambda c: (c.execute(INSERT, (2000, "y")), c)[1]),
+    "a refused append": Case(lambda c: is_refused(c.append, "t", ([5], ["x"]))),
     "executescript": Case(lambda c: c.executescript(SCRIPT)),
     "load": Case(loaded),
     "a refused load": Case(lambda c: is_refused(c.load, "SCAN t\nINSERT t (5, 'x')")),

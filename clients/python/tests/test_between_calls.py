@@ -107,6 +107,7 @@ def test_what_a_value_raises(connection: mmdb.Connection, kind: type[BaseExcepti
         lambda: connection.execute("INSERT t (?, ?)", (Bad(), "x")),
         lambda: connection.executemany("INSERT t (?, ?)", [(1, "x"), (Bad(), "x")]),
         lambda: connection.executecolumns("INSERT t (?, ?)", ([1, Bad()], ["x", "y"])),
+        lambda: connection.append("t", ([1, Bad()], ["x", "y"])),
         lambda: connection.execute("SELECT a.id FROM t a WHERE a.id = ?", [Bad()]),
         lambda: connection.execute("INSERT t (?, ?)", (value for value in (Bad(), "x"))),
     ):
@@ -128,6 +129,9 @@ def test_a_list_that_a_value_makes_shorter(numbers: mmdb.Connection) -> None:
     values = [1, Clearing(), 3]
     with pytest.raises(IndexError):
         numbers.executecolumns(UPDATE, (values, [1, 2, 3]))
+    values = [7, Clearing(), 8]
+    with pytest.raises(IndexError):
+        numbers.append("t", (values, [1, 2, 3]))
     assert rows(numbers) == [(1, 10), (2, 20), (3, 30)]
 
 

@@ -18,6 +18,7 @@ def test_keywords(papers: mmdb.Connection) -> None:
         assert made.executemany("DELETE author WHERE id = ?", seq_of_parameters=[(77,)]).rowcount == 0
         made.executescript(script="SCAN author")
         assert made.executecolumns("DELETE author WHERE id = ?", columns=([77, 78],)).rowcount == 0
+    assert papers.append(table="author", columns=([7], ["Codd"])) == 1
     papers.commit()
     papers.watch(name="w", query="SELECT a.id FROM author a")
     assert mmdb.connect(autocommit=True, check_same_thread=False).autocommit
@@ -32,6 +33,10 @@ def test_wrong_arguments(papers: mmdb.Connection) -> None:
         lambda: cursor.execute("SCAN author", values=()),
         lambda: cursor.executemany("SCAN author"),
         lambda: cursor.executescript(5),
+        lambda: papers.append("author"),
+        lambda: papers.append(5, [[1], ["x"]]),
+        lambda: papers.append("author", 5),
+        lambda: papers.append("author", [5, ["x"]]),
         lambda: cursor.fetchmany("a"),
         lambda: cursor.fetchmany(1, 2),
         lambda: papers.savepoint(5),

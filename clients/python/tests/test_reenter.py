@@ -117,7 +117,10 @@ class World:
         keys: list[Any] = [mine + number for number in range(count)]
         for place in range(0, count, 50):
             keys[place] = Number(self, keys[place])
-        assert self.connection.executecolumns("INSERT u (?, ?)", (keys, [7] * count)).rowcount == count
+        if self.chance.random() < 0.5:
+            assert self.connection.append("u", (keys, [7] * count)) == count
+        else:
+            assert self.connection.executecolumns("INSERT u (?, ?)", (keys, [7] * count)).rowcount == count
         assert self.connection.execute("DELETE u WHERE id >= ? AND id < ?", (mine, mine + count)).rowcount == count
 
     def by_literal(self) -> None:

@@ -41,6 +41,7 @@ def calls_of(connection: mmdb.Connection) -> list[Callable[[], object]]:
         lambda: connection.execute("SCAN author"),
         lambda: connection.executemany("INSERT author (?, ?)", []),
         lambda: connection.executecolumns("INSERT author (?, ?)", [[], []]),
+        lambda: connection.append("author", [[], []]),
         lambda: connection.executescript("SCAN author"),
         lambda: connection.load("SCAN author"),
         lambda: connection.savepoint("s"),
