@@ -200,6 +200,9 @@ pub enum Error {
         /// Where the text is not UTF-8.
         error: Utf8Error,
     },
+    /// The columns of [`Connection::append`](crate::Connection::append) have different numbers of values, or the offsets of a column
+    /// decrease or are past the end of its bytes.
+    NotColumns,
     /// The writer of [`Connection::dump`](crate::Connection::dump) executed a command that may have changed the database, so the dump cannot
     /// go on. What was written is not the whole script.
     ChangedDuringDump,
@@ -298,6 +301,7 @@ impl fmt::Display for Error {
                 write!(f, "column {index} ({name}) has length {found}, and the requested type has length {wanted}")
             }
             Error::NotUtf8 { index, column, .. } => write!(f, "column {index} ({}) is not UTF-8", column.name()),
+            Error::NotColumns => f.write_str("the columns have different numbers of values, or wrong offsets"),
             Error::ChangedDuringDump => f.write_str("a command may have changed the database since the dump started"),
             Error::LibraryVersion(version) => {
                 let (major, minor, patch) = (version / 1_000_000, version / 1000 % 1000, version % 1000);

@@ -15,6 +15,7 @@
 #![deny(unsafe_code, unsafe_op_in_unsafe_fn, clippy::undocumented_unsafe_blocks)]
 #![warn(missing_docs, unreachable_pub)]
 
+mod append;
 mod cache;
 mod connection;
 mod error;
@@ -30,6 +31,7 @@ mod statement;
 mod transaction;
 mod value;
 
+pub use append::ColumnData;
 pub use connection::{Connection, DefinitionKind};
 pub use error::{Cause, Error, FromValueError, OptionalExtension, Refusal, Result};
 pub use params::{params_from_iter, Params, ParamsFromIter};

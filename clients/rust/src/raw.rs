@@ -11,6 +11,7 @@ use std::alloc::Layout;
 use std::cell::UnsafeCell;
 use std::ffi::c_void;
 use std::fmt;
+use std::marker::PhantomData;
 use std::mem::{transmute, MaybeUninit};
 
 /// The status of a call, as mmdb.h numbers it.
@@ -119,6 +120,33 @@ impl DumpPlace {
     pub(crate) const START: DumpPlace = DumpPlace { part: 0, row: 0, version: 0 };
 }
 
+/// `mmdb_array`: the values of a column. The slices of numbers or texts that it points to are borrowed for `'a`.
+#[repr(C)]
+#[derive(Clone, Copy)]
+pub(crate) struct Array<'a> {
+    numbers: *const i64,
+    number_count: usize,
+    offsets: *const u32,
+    offset_count: usize,
+    bytes: *const u8,
+    byte_count: usize,
+    borrowed: PhantomData<&'a [u8]>,
+}
+
+impl<'a> Array<'a> {
+    pub(crate) fn new(numbers: &'a [i64], offsets: &'a [u32], bytes: &'a [u8]) -> Array<'a> {
+        Array {
+            numbers: numbers.as_ptr(),
+            number_count: numbers.len(),
+            offsets: offsets.as_ptr(),
+            offset_count: offsets.len(),
+            bytes: bytes.as_ptr(),
+            byte_count: bytes.len(),
+            borrowed: PhantomData,
+        }
+    }
+}
+
 /// Sizes and offsets, as the C compiler has them. Each byte that is read is one of a field, so a wrong offset reads padding or another
 /// field, and both stop the compiler.
 const _: () = {
@@ -139,6 +167,16 @@ const _: () = {
         assert!(place[0].assume_init() == 255 && place[7].assume_init() == 255);
         assert!(place[8].assume_init() == 0 && place[15].assume_init() == 0);
         assert!(place[16].assume_init() == 255 && place[23].assume_init() == 255);
+        let array: [usize; 6] = transmute(Array {
+            numbers: 8 as *const i64,
+            number_count: 1,
+            offsets: 16 as *const u32,
+            offset_count: 2,
+            bytes: 24 as *const u8,
+            byte_count: 3,
+            borrowed: PhantomData,
+        });
+        assert!(array[0] == 8 && array[1] == 1 && array[2] == 16 && array[3] == 2 && array[4] == 24 && array[5] == 3);
     }
 };
 
@@ -149,6 +187,7 @@ extern "C" {
     fn mmdb_close(db: *mut Mmdb);
     fn mmdb_execute(db: *mut Mmdb, line: *const u8, length: usize) -> Status;
     fn mmdb_load(db: *mut Mmdb, script: *const u8, length: usize, lines: *mut usize) -> Status;
+    fn mmdb_append(db: *mut Mmdb, name: *const u8, length: usize, columns: *const Array<'_>, count: usize) -> Status;
     fn mmdb_prepare(db: *mut Mmdb, line: *const u8, length: usize, statement: *mut usize) -> Status;
     fn mmdb_parameters(db: *mut Mmdb, statement: usize, count: *mut usize) -> Status;
     fn mmdb_statement_kind(db: *mut Mmdb, statement: usize, kind: *mut u8) -> Status;
@@ -266,6 +305,12 @@ impl Handle {
         // SAFETY: The handle is open, and only this call uses it; the script is a slice, and the number is written to a local variable.
         let status = unsafe { mmdb_load(self.mmdb.get(), script.as_ptr(), script.len(), &mut lines) };
         (status, lines)
+    }
+
+    /// Inserts the rows of columns into a table.
+    pub(crate) fn append(&self, table: &[u8], columns: &[Array<'_>]) -> Status {
+        // SAFETY: The handle is open, and only this call uses it; the name and the columns are slices, and so is what each column points to.
+        unsafe { mmdb_append(self.mmdb.get(), table.as_ptr(), table.len(), columns.as_ptr(), columns.len()) }
     }
 
     /// Prepares a line and returns the number of the statement.

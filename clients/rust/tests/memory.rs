@@ -4,7 +4,7 @@
 //! The test compiles tests/refuse.c, preloads it into a second process of this program, and is that test there. A growth of the allocator
 //! that nobody can refuse (Rust's `to_owned`, `format!` or `collect`) ends that process.
 
-use mmdb::{Connection, DefinitionKind, Error, Refusal, Result, Row, Value};
+use mmdb::{ColumnData, Connection, DefinitionKind, Error, Refusal, Result, Row, Value};
 use std::ffi::{c_void, CStr};
 use std::io::{self, Write};
 use std::os::raw::{c_char, c_long, c_ulong};
@@ -100,6 +100,8 @@ const STEPS: &[Step] = &[
     Step { name: "dump", calls: dump },
     Step { name: "definition", calls: |db| Ok(db.definition(DefinitionKind::StandingQuery, "all")?.len()) },
     Step { name: "load", calls: load },
+    Step { name: "append", calls: append },
+    Step { name: "a refused append", calls: |db| number(append(db).and_then(|_| append(db))) },
     Step {
         name: "columns",
         calls: |db| Ok(db.columns("SCAN\nsmall")?.len() + db.prepare("SCAN large")?.column_names()?.len()),
@@ -219,6 +221,19 @@ fn load(db: &mut Connection) -> Result<usize> {
         Err(Error::InLine { line: 3, error }) if error.number() == Some(40) => transaction.commit().and(Ok(2)),
         result => result.and(Ok(0)),
     }
+}
+
+/// Rows with a short text and a long one each, in a transaction that is rolled back.
+fn append(db: &mut Connection) -> Result<usize> {
+    const ROWS: usize = 100;
+    let (mut keys, mut offsets) = ([0; ROWS], [0; ROWS + 1]);
+    let mut bytes = [b'x'; ROWS / 2 * (TEXT.len() + 1)];
+    for row in 0..ROWS {
+        keys[row] = row as i64;
+        offsets[row + 1] = offsets[row] + if row % 2 == 0 { 1 } else { TEXT.len() as u32 };
+        bytes[offsets[row + 1] as usize - 1] = b'y';
+    }
+    db.append("t", &[ColumnData::Int(&keys), ColumnData::Text { offsets: &offsets, bytes: &bytes }])
 }
 
 fn transaction(db: &mut Connection) -> Result<usize> {

@@ -10,8 +10,8 @@
 mod model;
 
 use mmdb::{
-    params_from_iter, Connection, DefinitionKind, Error, Refusal, Result, Rows, Savepoint, Statement, Transaction,
-    Type, Value,
+    params_from_iter, ColumnData, Connection, DefinitionKind, Error, Refusal, Result, Rows, Savepoint, Statement,
+    Transaction, Type, Value,
 };
 use model::call::{Answer, Call, Random, NAMES};
 use model::{Model, Reply, Row, Table, Test};
@@ -115,6 +115,78 @@ impl World {
 struct Held<'c> {
     call: Call,
     statement: Statement<'c>,
+}
+
+/// The values of a column that is appended.
+#[derive(Debug)]
+enum Values {
+    Int(Vec<i64>),
+    Text { offsets: Vec<u32>, bytes: Vec<u8> },
+}
+
+impl Values {
+    /// Values for a column of this name, rarely of the other type.
+    fn of(name: &str, rows: usize, random: &mut Random) -> Values {
+        let mut column = match random.value_of(name) {
+            Value::Int(_) => Values::Int(Vec::new()),
+            Value::Text(_) => Values::Text { offsets: vec![random.below(3) as u32], bytes: b"before".to_vec() },
+        };
+        if let Values::Text { offsets, bytes } = &mut column {
+            bytes.truncate(offsets[0] as usize);
+        }
+        for row in 0..rows {
+            match &mut column {
+                // Many rows have keys of their own.
+                Values::Int(numbers) if rows > 9 => numbers.push(1000 + row as i64),
+                Values::Int(numbers) => numbers.push(random.number()),
+                Values::Text { .. } if rows > 9 => column.push(format!("{row}").as_bytes()),
+                Values::Text { .. } => column.push(&random.text()),
+            }
+        }
+        column
+    }
+
+    /// Adds a text.
+    fn push(&mut self, text: &[u8]) {
+        if let Values::Text { offsets, bytes } = self {
+            bytes.extend_from_slice(text);
+            offsets.push(bytes.len() as u32);
+        }
+    }
+
+    fn data(&self) -> ColumnData<'_> {
+        match self {
+            Values::Int(numbers) => ColumnData::Int(numbers),
+            Values::Text { offsets, bytes } => ColumnData::Text { offsets, bytes },
+        }
+    }
+
+    fn value(&self, row: usize) -> Value {
+        match self {
+            Values::Int(numbers) => Value::Int(numbers[row]),
+            Values::Text { offsets, bytes } => {
+                Value::Text(bytes[offsets[row] as usize..offsets[row + 1] as usize].to_vec())
+            }
+        }
+    }
+}
+
+/// Makes the last value of a column no value, or drops it. Returns the failure, or `None` if nothing was changed.
+fn spoil(columns: &mut [Values], random: &mut Random) -> Option<&'static str> {
+    let (place, count) = (random.below(columns.len()), columns.len());
+    match (&mut columns[place], random.below(3)) {
+        (Values::Int(numbers), 0) if count > 1 => drop(numbers.pop()),
+        (Values::Text { offsets, .. }, 0) if count > 1 => drop(offsets.pop()),
+        (Values::Text { bytes, .. }, 0) if !bytes.is_empty() => drop(bytes.pop()),
+        (Values::Text { offsets, bytes }, wrong @ 1..=2) => {
+            bytes.truncate(offsets[offsets.len() - 2] as usize);
+            bytes.extend_from_slice(if wrong == 1 { &[b'x'; 65] } else { b"a\nb" });
+            *offsets.last_mut()? = bytes.len() as u32;
+            return Some(if wrong == 1 { "13" } else { "11" });
+        }
+        _ => return None,
+    }
+    Some("NotColumns")
 }
 
 /// How a savepoint ends.
@@ -451,6 +523,7 @@ impl Session<'_> {
             2 => self.script(db, model, random),
             3 => self.questions(db, model, random),
             4 => self.refused(db, random),
+            5 => self.append(db, model, random),
             _ => {
                 let call = if random.once_in(3) { Call::any(random) } else { Call::of_rows(random) };
                 let way = random.one_of(&[Way::Literals, Way::SeveralLines, Way::Prepared, Way::Cached]);
@@ -459,6 +532,38 @@ impl Session<'_> {
                 make(db, model, &call, &values, way);
             }
         }
+    }
+
+    /// Appends rows as columns, each with values of one type. Rarely a column lacks a value, or a text is no value.
+    fn append(&mut self, db: &Connection, model: &mut Model, random: &mut Random) {
+        let inserts = std::iter::repeat_with(|| Call::of_rows(random));
+        let Some((table, names)) = inserts
+            .filter_map(|call| match call {
+                Call::Insert { table, columns, .. } => Some((table, columns)),
+                _ => None,
+            })
+            .next()
+        else {
+            return;
+        };
+        let call = Call::Insert { table, columns: names, rows: 0 };
+        let rows = random.one_of(&[0, 1, 1, 2, 3, 5, 200]);
+        let mut columns: Vec<Values> = names.iter().map(|name| Values::of(name, rows, random)).collect();
+        let failure = if rows > 0 && random.once_in(5) { spoil(&mut columns, random) } else { None };
+        self.log(|| format!("append {table} {columns:?}"));
+        let found = plain(db.append(table, &columns.iter().map(Values::data).collect::<Vec<_>>()));
+        let wanted = match failure {
+            Some(failure) => Err(failure.to_owned()),
+            None => {
+                let values: Vec<Value> =
+                    (0..rows).flat_map(|row| columns.iter().map(move |column| column.value(row))).collect();
+                expected(call.run(model, &values)).map(|answer| match answer {
+                    Answer::Count(count) => count,
+                    Answer::Rows(_) => unreachable!(),
+                })
+            }
+        };
+        assert_eq!(found, wanted, "append {table} {columns:?}");
     }
 
     /// Runs a statement for many rows of values. The iterator of the values makes a call of its own.
