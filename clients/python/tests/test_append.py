@@ -84,7 +84,7 @@ def test_numpy(table: mmdb.Connection) -> None:
     for wrong in (pairs, numpy.arange(100.0), numpy.arange(100, dtype=numpy.int32), numpy.arange(100, dtype=">i8")):
         with pytest.raises(TypeError, match="a column is"):
             table.append("t", (wrong, texts, pairs[:, 1]))
-    large = numpy.arange(100, 500_100)
+    large = numpy.arange(200, 500_200)
     text = numpy.arange(0, 500_001, dtype=numpy.int32), b"y" * 500_000
     assert table.append("t", (large, text, large)) == 500_000
     assert table.execute("SELECT a.k FROM t a WHERE a.id = 500099").fetchall() == [(500099,)]
