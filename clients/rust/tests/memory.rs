@@ -100,8 +100,8 @@ const STEPS: &[Step] = &[
     Step { name: "dump", calls: dump },
     Step { name: "definition", calls: |db| Ok(db.definition(DefinitionKind::StandingQuery, "all")?.len()) },
     Step { name: "load", calls: load },
-    Step { name: "append", calls: append },
-    Step { name: "a refused append", calls: |db| number(append(db).and_then(|_| append(db))) },
+    Step { name: "append", calls: |db| append(db, 99) },
+    Step { name: "a refused append", calls: |db| number(append(db, 0)) },
     Step {
         name: "columns",
         calls: |db| Ok(db.columns("SCAN\nsmall")?.len() + db.prepare("SCAN large")?.column_names()?.len()),
@@ -223,8 +223,8 @@ fn load(db: &mut Connection) -> Result<usize> {
     }
 }
 
-/// Rows with a short text and a long one each, in a transaction that is rolled back.
-fn append(db: &mut Connection) -> Result<usize> {
+/// Appends 100 rows, every other one with a long text. The key of the last row is given: less than 99, it is a duplicate.
+fn append(db: &mut Connection, last: i64) -> Result<usize> {
     const ROWS: usize = 100;
     let (mut keys, mut offsets) = ([0; ROWS], [0; ROWS + 1]);
     let mut bytes = [b'x'; ROWS / 2 * (TEXT.len() + 1)];
@@ -233,6 +233,7 @@ fn append(db: &mut Connection) -> Result<usize> {
         offsets[row + 1] = offsets[row] + if row % 2 == 0 { 1 } else { TEXT.len() as u32 };
         bytes[offsets[row + 1] as usize - 1] = b'y';
     }
+    keys[ROWS - 1] = last;
     db.append("t", &[ColumnData::Int(&keys), ColumnData::Text { offsets: &offsets, bytes: &bytes }])
 }
 
