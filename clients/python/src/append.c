@@ -41,11 +41,12 @@ static bool array_from_numbers(const Source *source, mmdb_array *array) {
 static bool array_from_texts(const Source *source, mmdb_array *array) {
     uint32_t *offsets = items_new(source->rows + 1, sizeof *offsets);
     if (offsets == NULL) return false;
-    int64_t first = source_offset(source, 0), last = first;
+    int64_t first = 0, last = 0;
     array->offsets = offsets;
     array->offset_count = source->rows + 1;
     for (size_t i = 0; i <= source->rows; i++) {
         int64_t next = source_offset(source, i);
+        if (i == 0) first = next;
         if (next < last || next > source->bytes.len) {
             PyErr_SetString(PyExc_ValueError, "the offsets of a column have changed");
             return false;
