@@ -183,6 +183,20 @@ def test_columns_that_change_meanwhile(table: mmdb.Connection) -> None:
     assert rows(table) == [(1, "x", 3), (2, "y", 4)] and numbers[0] == 7
 
 
+@pytest.mark.parametrize(("place", "offset"), [(0, -1_000_000), (0, 2), (1, -1), (1, 3), (2, 3), (2, 0)])
+def test_offsets_that_change_meanwhile(table: mmdb.Connection, place: int, offset: int) -> None:
+    offsets = array.array("i", [0, 1, 2])
+
+    class Changing:
+        def __index__(self) -> int:
+            offsets[place] = offset
+            return 1
+
+    with pytest.raises(ValueError, match="have changed"):
+        table.append("t", ([Changing(), 2], (offsets, b"xy"), [3, 4]))
+    assert rows(table) == [] and not table.in_transaction
+
+
 def test_a_value_that_closes_the_connection(table: mmdb.Connection) -> None:
     class Closing:
         def __index__(self) -> int:
